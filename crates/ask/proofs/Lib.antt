@@ -1,0 +1,5 @@
+pub mod Gaps
+pub mod Held
+pub mod ExactlyWhen
+pub mod Alike
+pub mod Unique

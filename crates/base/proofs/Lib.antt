@@ -1,0 +1,6 @@
+pub mod Tests
+pub mod Cases
+pub mod Below
+pub mod Same
+pub mod Tables
+pub mod Bytes

@@ -1,0 +1,5 @@
+pub mod Choice
+pub mod Below
+pub mod Bytes
+pub mod Tables
+pub mod Octets

@@ -1,0 +1,4 @@
+pub mod Laid
+pub mod Steps
+pub mod Berths
+pub mod Unique

@@ -1,0 +1,2 @@
+pub mod Berth
+pub mod Calls

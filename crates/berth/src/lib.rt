@@ -1,0 +1,184 @@
+// The berths of the store that the host lends (document 01, "The shelf"): section s of the table in place p begins at
+// 1,024 × (16p + s), and the rest of its berth is zeros. A call that names no berth of a whole store changes nothing.
+ghost use mathlib.Core.Path.{_≡_};
+ghost use mathlib.Core.Bool.{true, not};
+ghost use Prim.Native.Nat.{_+_, _<_, _≤_};
+ghost use lib.Dec.{eqb};
+ghost use lib.ListN.{length, getD};
+ghost use Rattle.base.specs.Bytes.{same, zeros};
+ghost use Rattle.berth.specs.Berth.{berthSize, places, sections, storeSize, beginsAt, laid, padded, wipedWhere, standing};
+ghost use Rattle.berth.specs.Calls.{isPlace, isBerth, putIn, wipedIn, wipedWhereIn, standsIn, copiedIn};
+
+// A berth's bytes, the sections of a table, the places of a shelf, and the bytes of the whole store.
+pub const BERTH: usize = 1024;
+
+pub const SECTIONS: usize = 16;
+
+pub const PLACES: usize = 4;
+
+pub const STORE: usize = 65536;
+
+// Zeroes what it is lent.
+fn fill(lent: &mut [u8])
+    ensures { λ _. ⌜ now (lent .exit) ≡ zeros (length (now (lent .entry))) ⌝ }
+{
+    let mut i = 0;
+    while i < lent.len() {
+        lent[i] = 0;
+        i += 1;
+    }
+}
+
+// Whether two runs of bytes are the same throughout. It reads all of them: without a way out at each byte the compiler
+// compares many at a time.
+fn equal(a: &[u8], b: &[u8]) -> bool
+    ensures { λ r. ⌜ r ≡ same (now (a .entry)) (now (b .entry)) ⌝ }
+{
+    if a.len() != b.len() {
+        return false;
+    }
+    let mut difference = 0u8;
+    let mut i = 0;
+    while i < a.len() {
+        difference = difference | (a[i] ^ b[i]);
+        i += 1;
+    }
+    difference == 0
+}
+
+// Zeroes size bytes from a place on.
+fn wipe_from(store: &mut [u8], from: usize, size: usize)
+    requires { ⌜ from + size ≤ length (now store) ⌝ }
+    ensures { λ _. ⌜ now (store .exit) ≡ laid (now (store .entry)) from (zeros size) ⌝ }
+{
+    let end = from + size;
+    fill(&mut store[from..end]);
+}
+
+// Stores bytes from a place on, and zeros after them, up to size bytes in all.
+fn put_from(store: &mut [u8], from: usize, size: usize, section: &[u8])
+    requires { ⌜ (from + size ≤ length (now store)) × (length (now section) ≤ size) ⌝ }
+    ensures { λ _. ⌜ now (store .exit) ≡ laid (now (store .entry)) from (padded size (now (section .entry))) ⌝ }
+{
+    let rest = from + section.len();
+    let end = from + size;
+    bytes::copy(section, &mut store[from..rest]);
+    fill(&mut store[rest..end]);
+}
+
+// Where section n of the table in place p begins.
+fn begins_at(p: usize, n: usize) -> usize
+    requires { ⌜ (p < places) × (n < sections) ⌝ }
+    ensures { λ r. ⌜ r ≡ beginsAt berthSize p n ⌝ }
+{
+    BERTH * (SECTIONS * p + n)
+}
+
+// Whether a store of that size is whole, and has place p.
+fn is_place(size: usize, p: usize) -> bool
+    ensures { λ r. ⌜ r ≡ isPlace size p ⌝ }
+{
+    (size == STORE) & (p < PLACES)
+}
+
+// .. and in it berth n.
+fn is_berth(size: usize, p: usize, n: usize) -> bool
+    ensures { λ r. ⌜ r ≡ isBerth size p n ⌝ }
+{
+    is_place(size, p) & (n < SECTIONS)
+}
+
+// Stores a section in berth n of place p: its bytes, and the rest of the berth is zeros.
+pub fn put(store: &mut [u8], p: usize, n: usize, section: &[u8])
+    ensures { λ _. ⌜ now (store .exit) ≡ putIn (now (store .entry)) p n (now (section .entry)) ⌝ }
+{
+    if BERTH < section.len() {
+        return;
+    }
+    if is_berth(store.len(), p, n) {
+        let from = begins_at(p, n);
+        put_from(store, from, BERTH, section);
+    }
+}
+
+// Zeroes berth n of place p.
+pub fn wipe(store: &mut [u8], p: usize, n: usize)
+    ensures { λ _. ⌜ now (store .exit) ≡ wipedIn (now (store .entry)) p n ⌝ }
+{
+    if is_berth(store.len(), p, n) {
+        let from = begins_at(p, n);
+        wipe_from(store, from, BERTH);
+    }
+}
+
+// Zeroes of the berths of a place those whose section has a length.
+fn wipe_each(store: &mut [u8], p: usize, lengths: [u16; 16])
+    requires { ⌜ (length (now store) ≡ storeSize) × (p < places) ⌝ }
+    ensures { λ _. ⌜ now (store .exit) ≡ wipedWhere (λ n. not (eqb (getD lengths n 0) 0)) sections (now (store .entry)) p ⌝ }
+{
+    let mut n = 0;
+    while n < SECTIONS {
+        if lengths[n] != 0 {
+            wipe(store, p, n);
+        }
+        n += 1;
+    }
+}
+
+// Zeroes of the berths of place p those whose section has a length, and so is held.
+pub fn wipe_where(store: &mut [u8], p: usize, lengths: [u16; 16])
+    ensures { λ _. ⌜ now (store .exit) ≡ wipedWhereIn (λ n. not (eqb (getD lengths n 0) 0)) (now (store .entry)) p ⌝ }
+{
+    if is_place(store.len(), p) {
+        wipe_each(store, p, lengths);
+    }
+}
+
+// Zeroes all berths of place p.
+pub fn wipe_all(store: &mut [u8], p: usize)
+    ensures { λ _. ⌜ now (store .exit) ≡ wipedWhereIn (λ _. true) (now (store .entry)) p ⌝ }
+{
+    if is_place(store.len(), p) {
+        let from = begins_at(p, 0);
+        wipe_from(store, from, SECTIONS * BERTH);
+    }
+}
+
+// The first count bytes of berth n of place p.
+fn view(store: &[u8], p: usize, n: usize, count: usize) -> &[u8]
+    requires { ⌜ (length (now store) ≡ storeSize) × (p < places) × (n < sections) × (count ≤ berthSize) ⌝ }
+    ensures { λ r. ⌜ now r ≡ standing (now (store .entry)) p n count ⌝ }
+{
+    let from = begins_at(p, n);
+    let end = from + count;
+    &store[from..end]
+}
+
+// Whether the first count bytes of berth n of place p are this section.
+pub fn stands(store: &[u8], p: usize, n: usize, count: usize, section: &[u8]) -> bool
+    ensures { λ r. ⌜ r ≡ standsIn (now (store .entry)) p n count (now (section .entry)) ⌝ }
+{
+    if BERTH < count {
+        return false;
+    }
+    if is_berth(store.len(), p, n) {
+        equal(view(store, p, n, count), section)
+    } else {
+        false
+    }
+}
+
+// Copies the first count bytes of berth n of place p to the front of an output that has room for them.
+pub fn copy_out(store: &[u8], p: usize, n: usize, count: usize, out: &mut [u8])
+    ensures { λ _. ⌜ now (out .exit) ≡ copiedIn (now (store .entry)) p n count (now (out .entry)) ⌝ }
+{
+    if BERTH < count {
+        return;
+    }
+    if out.len() < count {
+        return;
+    }
+    if is_berth(store.len(), p, n) {
+        bytes::copy(view(store, p, n, count), out);
+    }
+}

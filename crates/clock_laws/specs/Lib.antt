@@ -1,0 +1,4 @@
+pub mod Distinct
+pub mod Ways
+pub mod Alike
+pub mod Members

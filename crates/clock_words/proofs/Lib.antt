@@ -1,0 +1,3 @@
+-- What is proved of a record's words beside the functions' promises.
+pub mod Laws
+pub mod Back

@@ -1,0 +1,82 @@
+-- "Given exactly when": document 01's number 19, the other answers of a step, and the view, in plain words of the loop `s`.
+--   refused-19     beyond the loop's end, or before it where the descriptor runs past
+--   refused-range  no other number is given
+--   over           at the loop's end
+--   reads          the descriptor at the place, where it ends within the loop
+--   view-whole     the view of a descriptor is its content, as long as the descriptor says
+--   view-none      where no descriptor is read the view is empty
+--   one-step, one-view   two answers that keep the promise of `descriptors::step_at`, or of `view`, are equal
+use mathlib.Core.Path.{_≡_, refl, sym, ap, subst, _∙_}
+use mathlib.Core.List.{List, []}
+use mathlib.Core.Logic.{_↔_, _⊎_, ⊎-elim, inl, inr}
+use Prim.Native.Nat.{ℕ, _+_, _<_, _≤_}
+use native.Mathlib.Omega.{arith}
+use lib.Dec.{ltb, eqb}
+use lib.ListN.{length}
+use borrow.Author.Tests.{ltb-true, ltb-false}
+use Rattle.base.specs.Bytes.{byte, part}
+use Rattle.base.proofs.Cases.{by}
+use Rattle.base.proofs.Bytes.{length-part}
+use Rattle.descriptors.specs.declared.Descriptor.{Descriptor}
+use Rattle.descriptors.specs.declared.Step.{Step}
+use Rattle.descriptors.specs.Loop.{stepOf, viewOf, contentOf, numberOf, descriptorAt}
+use Rattle.descriptors.proofs.Steps.{Stands, Tells, step-tells, step-over, step-past, step-reads, reads-there}
+
+module _ (s : List ℕ) (at : ℕ) where
+  -- the place asked is beyond the loop's end
+  abbrev pub Beyond : Type 0
+  Beyond = length s < at
+
+  -- the descriptor runs past the loop, by its head or by its content
+  abbrev pub RunsPast : Type 0
+  RunsPast = (length s < at + 2) ⊎ (length s < at + 2 + byte s (at + 1))
+
+  pub refused-19 : (numberOf (stepOf s at) ≡ 19) ↔ (Beyond ⊎ ((at < length s) × RunsPast))
+  refused-19 = (to (stepOf s at) (step-tells s at), from)
+    where
+      to : (x : Step) → Tells s at x → numberOf x ≡ 19 → Beyond ⊎ ((at < length s) × RunsPast)
+      to (Step.Descriptor d) t e = absurd (omega arith)
+      to Step.Over t e = absurd (omega arith)
+      to (Step.Refused n) t e =
+          by (ltb (length s) at)
+          (λ b. inl (ltb-true _ _ b))
+          (λ b. let h : at ≤ length s = ltb-false _ _ b in let z : at ≡ length s → ⊥ = t .1 in inr (omega arith, inr (t .2)))
+
+      from : Beyond ⊎ ((at < length s) × RunsPast) → numberOf (stepOf s at) ≡ 19
+      from w =
+          ap numberOf
+          (sym
+          (⊎-elim
+          (λ h. step-past s at (λ e. omega arith) (omega arith))
+          (λ h. step-past s at (λ e. omega arith) (⊎-elim (λ r. omega arith) (λ r. r) (h .1)))
+          w))
+
+  pub refused-range : (n : ℕ) → stepOf s at ≡ Step.Refused n → n ≡ 19
+  refused-range n e = subst (Tells s at) e (step-tells s at) .0
+
+  pub over : (stepOf s at ≡ Step.Over) ↔ (at ≡ length s)
+  over = (λ e. subst (Tells s at) e (step-tells s at), λ e. sym (step-over s at e))
+
+  pub reads : (d : Descriptor) → (stepOf s at ≡ Step.Descriptor d) ↔ Stands s at d
+  reads d = (reads-there s at d, λ h. sym (rw (h .here) (step-reads s at (h .ends))))
+
+  pub view-whole : (d : Descriptor) → stepOf s at ≡ Step.Descriptor d → (viewOf s at ≡ part s (d .start) (d .length)) × (length (viewOf s at) ≡ d .length)
+  unfolding viewOf
+  view-whole d e =
+      let h = reads-there s at d e in
+      (rw e, rw (e, h .here) (length-part s (at + 2) (byte s (at + 1)) (h .ends)))
+
+  pub view-none : ((d : Descriptor) → stepOf s at ≡ Step.Descriptor d → ⊥) → viewOf s at ≡ []
+  unfolding viewOf
+  view-none n = go (stepOf s at) n
+    where
+      go : (x : Step) → ((d : Descriptor) → x ≡ Step.Descriptor d → ⊥) → contentOf s x ≡ []
+      go (Step.Descriptor d) n = absurd (n d refl)
+      go Step.Over n = refl
+      go (Step.Refused k) n = refl
+
+  pub one-step : (x y : Step) → x ≡ stepOf s at → y ≡ stepOf s at → x ≡ y
+  one-step x y p q = p ∙ sym q
+
+  pub one-view : (x y : List ℕ) → x ≡ viewOf s at → y ≡ viewOf s at → x ≡ y
+  one-view x y p q = p ∙ sym q

@@ -1,0 +1,5 @@
+pub mod Steps
+pub mod Gathers
+pub mod Walks
+pub mod ExactlyWhen
+pub mod Marks

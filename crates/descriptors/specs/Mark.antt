@@ -1,0 +1,35 @@
+-- Document 01, "Descriptors": a trigger Tap is marked by tag 0x72, length 24 and the bytes `application/atsc-trigger`,
+-- compared exactly (001, clause 9.1.2).
+use Prim.Native.Nat.{ℕ, _+_}
+use mathlib.Core.List.{List, [], _∷_}
+use mathlib.Core.Bool.{Bool, false, _&&_}
+use lib.Dec.{eqb}
+use Rattle.base.specs.Bytes.{byte}
+use Rattle.base.specs.Below.{every}
+use Rattle.descriptors.specs.declared.Step.{Step}
+use Rattle.descriptors.specs.declared.Step.the-variants
+use Rattle.descriptors.specs.Loop.{stepOf}
+
+-- `application/`, then `atsc-trigger`
+unfoldable pub mark : List ℕ
+mark =
+    97 ∷ 112 ∷ 112 ∷ 108 ∷ 105 ∷ 99 ∷ 97 ∷ 116 ∷ 105 ∷ 111 ∷ 110 ∷ 47
+    ∷ 97 ∷ 116 ∷ 115 ∷ 99 ∷ 45 ∷ 116 ∷ 114 ∷ 105 ∷ 103 ∷ 103 ∷ 101 ∷ 114 ∷ []
+
+-- a byte found stands for a letter of the mark
+abbrev pub sameLetter : ℕ → ℕ → Bool
+sameLetter found marked = eqb found marked
+
+-- the 24 bytes from a place are the mark
+unfoldable pub markAt : List ℕ → ℕ → Bool
+markAt s start = every 24 (λ k. sameLetter (byte s (start + k)) (byte mark k))
+
+-- an answer's descriptor is the mark of a trigger Tap
+abbrev pub marks : List ℕ → Step → Bool
+marks s (Step.Descriptor d) = eqb (d .tag) 0x72 && (eqb (d .length) 24 && markAt s (d .start))
+marks s Step.Over = false
+marks s (Step.Refused n) = false
+
+-- the descriptor at a place marks a trigger Tap
+unfoldable pub isTriggerTap : List ℕ → ℕ → Bool
+isTriggerTap s at = marks s (stepOf s at)

@@ -1,0 +1,6 @@
+pub mod Parts
+pub mod Found
+pub mod Sections
+pub mod Front
+pub mod Held
+pub mod Unique

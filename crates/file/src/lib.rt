@@ -1,0 +1,273 @@
+// Reads a shelf file (document 01, "The shelf file") from left to right: which table it is, and where in the file each of its
+// sections lies. Nothing is copied, and the first fault from the left is the answer.
+use number::Number;
+use section::Header;
+use section::Reading;
+ghost use mathlib.Core.Path.{_≡_};
+ghost use Prim.Native.Nat.{_+_, _^_, _<_, _≤_};
+ghost use lib.ListN.{length};
+ghost use Rattle.number.specs.Number.{numberAt};
+ghost use Rattle.file.specs.Layout.{sameTable};
+ghost use Rattle.file.specs.Scan.{
+  refused as refusedOf,
+  accepted as acceptedOf,
+  nothing as nothingAt,
+  firstOf,
+  added,
+  sectionAt,
+  sectionsOf,
+  countOf,
+  scanOf,
+};
+
+pub enum Scan {
+    // The header of the file's first section, with which all share key, version and last number.
+    Table(Header),
+    Refused(u8),
+}
+
+// By section number, where each section begins in the file and how many bytes it has; length 0: the file lacks it. All are 0
+// where the file is refused.
+pub struct Scanned {
+    pub answer: Scan,
+    pub starts: [usize; 16],
+    pub lengths: [u16; 16],
+}
+
+// One section of the file: its header, the place of its first byte, and its length in bytes.
+pub enum Part {
+    Section(Header, usize, u16),
+    Refused(u8),
+}
+
+// What the sections read so far say: the first one's header, the lowest number that the next may have, the place where it
+// begins, and by number the place and the length of each.
+pub struct Seen {
+    pub begun: bool,
+    pub first: Header,
+    pub lowest: u8,
+    pub next: usize,
+    pub starts: [usize; 16],
+    pub lengths: [u16; 16],
+}
+
+// Where the scan ended.
+enum End {
+    At(usize),
+    Refused(u8),
+}
+
+pub const BAD_FILE: u8 = 12;
+
+pub const FORM: u16 = 1;
+
+pub const SECTIONS: u16 = 16;
+
+pub const SHORTEST: u16 = 8;
+
+pub const LONGEST: u16 = 1024;
+
+fn wide(x: u16) -> usize
+    ensures { λ r. ⌜ r ≡ x ⌝ }
+{
+    x as usize
+}
+
+// The section at a place of the file, or its first fault.
+fn section_at(file: &[u8], at: usize) -> Part
+    ensures { λ r. ⌜ r ≡ sectionAt (now (file .entry)) at ⌝ }
+{
+    let found = number::read_number(file, at);
+    match found {
+        Number::Refused(n) => Part::Refused(n),
+        Number::Value(length, start) => {
+            if length < SHORTEST {
+                return Part::Refused(BAD_FILE);
+            }
+            if LONGEST < length {
+                return Part::Refused(BAD_FILE);
+            }
+            let size = wide(length);
+            if file.len() - start < size {
+                return Part::Refused(BAD_FILE);
+            }
+            let end = start + size;
+            let reading = section::read(&file[start..end]);
+            match reading {
+                Reading::Sound(header) => Part::Section(header, start, length),
+                Reading::Refused(n) => Part::Refused(n),
+            }
+        }
+    }
+}
+
+// A refused file gives the number alone.
+fn refused(n: u8) -> Scanned
+    ensures { λ r. ⌜ r ≡ refusedOf n ⌝ }
+{
+    Scanned {
+        answer: Scan::Refused(n),
+        starts: [0; 16],
+        lengths: [0; 16],
+    }
+}
+
+// The table that the sections are.
+fn accepted(seen: Seen) -> Scanned
+    ensures { λ r. ⌜ r ≡ acceptedOf seen ⌝ }
+{
+    let first = seen.first;
+    let starts = seen.starts;
+    let lengths = seen.lengths;
+    Scanned {
+        answer: Scan::Table(first),
+        starts,
+        lengths,
+    }
+}
+
+// Before the first section, which begins at a place of the file.
+fn nothing(at: usize) -> Seen
+    ensures { λ r. ⌜ r ≡ nothingAt at ⌝ }
+{
+    Seen {
+        begun: false,
+        first: Header {
+            table: 0,
+            extension: 0,
+            version: 0,
+            number: 0,
+            last: 0,
+            start: 0,
+            length: 0,
+        },
+        lowest: 0,
+        next: at,
+        starts: [0; 16],
+        lengths: [0; 16],
+    }
+}
+
+// The header of the first section, which is this one where none was read before.
+fn first_of(seen: Seen, header: Header) -> Header
+    ensures { λ r. ⌜ r ≡ firstOf seen header ⌝ }
+{
+    if seen.begun {
+        let first = seen.first;
+        return first;
+    }
+    header
+}
+
+// Two sections share key, version and last number.
+fn same_table(a: Header, b: Header) -> bool
+    ensures { λ r. ⌜ r ≡ sameTable a b ⌝ }
+{
+    if a.table != b.table {
+        return false;
+    }
+    if a.extension != b.extension {
+        return false;
+    }
+    if a.version != b.version {
+        return false;
+    }
+    a.last == b.last
+}
+
+// With one section more.
+fn with_section(seen: Seen, header: Header, start: usize, length: u16) -> Seen
+    requires { ⌜ header .number < 16 ⌝ }
+    requires { ⌜ start + length < 2 ^ 64 ⌝ }
+    ensures { λ r. ⌜ r ≡ added seen header start length ⌝ }
+{
+    let first = first_of(seen, header);
+    let number = header.number as usize;
+    let lowest = header.number + 1;
+    let next = start + wide(length);
+    let mut starts = seen.starts;
+    let mut lengths = seen.lengths;
+    starts[number] = start;
+    lengths[number] = length;
+    Seen {
+        begun: true,
+        first,
+        lowest,
+        next,
+        starts,
+        lengths,
+    }
+}
+
+// The first fault of the sections from a place on, or the table that they are, where nothing stands after them.
+fn scan_sections(file: &[u8], count: usize, from: usize) -> Scanned
+    ensures { λ r. ⌜ r ≡ sectionsOf count (now (file .entry)) (nothingAt from) ⌝ }
+{
+    let mut seen = nothing(from);
+    let mut left = count;
+    let end = loop {
+        let at = seen.next;
+        if left == 0 {
+            break End::At(at);
+        }
+        let part = section_at(file, at);
+        match part {
+            Part::Refused(n) => break End::Refused(n),
+            Part::Section(header, start, length) => {
+                let first = first_of(seen, header);
+                if !same_table(first, header) {
+                    break End::Refused(BAD_FILE);
+                }
+                if header.number < seen.lowest {
+                    break End::Refused(BAD_FILE);
+                }
+                seen = with_section(seen, header, start, length);
+                left -= 1;
+            }
+        }
+    };
+    match end {
+        End::Refused(n) => refused(n),
+        End::At(at) => {
+            if at < file.len() {
+                return refused(BAD_FILE);
+            }
+            accepted(seen)
+        }
+    }
+}
+
+// The rest of a file from its count on.
+fn read_count(file: &[u8], at: usize) -> Scanned
+    ensures { λ r. ⌜ r ≡ countOf (now (file .entry)) (numberAt (now (file .entry)) at) ⌝ }
+{
+    let found = number::read_number(file, at);
+    match found {
+        Number::Refused(n) => refused(n),
+        Number::Value(count, next) => {
+            if count < 1 {
+                return refused(BAD_FILE);
+            }
+            if SECTIONS < count {
+                return refused(BAD_FILE);
+            }
+            scan_sections(file, wide(count), next)
+        }
+    }
+}
+
+// The table that the file holds, or the first fault from the left: 11, 12, or a section's own number, 2 to 8.
+pub fn read_file(file: &[u8]) -> Scanned
+    ensures { λ r. ⌜ r ≡ scanOf (now (file .entry)) ⌝ }
+{
+    let found = number::read_number(file, 0);
+    match found {
+        Number::Refused(n) => refused(n),
+        Number::Value(form, next) => {
+            if form != FORM {
+                return refused(BAD_FILE);
+            }
+            read_count(file, next)
+        }
+    }
+}

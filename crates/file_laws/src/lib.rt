@@ -1,0 +1,1 @@
+// Theorems on the shelf file: what is accepted, and that it is accepted in one way.

@@ -1,0 +1,21 @@
+-- The numbers of the held, by which the code finds two alike.
+use Prim.Native.Nat.{ℕ}
+use mathlib.Core.Path.{_≡_}
+use mathlib.Core.Bool.{Bool, false, _||_}
+use mathlib.Core.List.{List, [], _∷_, map}
+use lib.Dec.{eqb}
+use Rattle.activation.specs.declared.Held.{Held}
+use Rattle.activation.specs.Code.{codeOf, Narrow}
+use Rattle.held.specs.Lists.{anyOf, All}
+
+-- two of the numbers are equal
+unfoldable pub twoSame : List ℕ → Bool
+twoSame [] = false
+twoSame (x ∷ l) = anyOf (eqb x) l || twoSame l
+
+abbrev pub numberOf : Held → ℕ
+numberOf h = codeOf (h .activation)
+
+pub record Numbered (hs : List Held) (l : List ℕ) : Type 0 where
+  pub are : l ≡ map numberOf hs
+  pub narrow : All (λ h. Narrow (h .activation)) hs

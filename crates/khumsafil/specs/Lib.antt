@@ -1,0 +1,5 @@
+pub mod Section
+pub mod Loop
+pub mod Trigger
+pub mod Clock
+pub mod Shelf

@@ -1,0 +1,6 @@
+-- A table's key, from the two numbers that the host gives.
+use Prim.Native.Nat.{ℕ}
+use Rattle.shelf.specs.declared.Key.{Key}
+
+abbrev pub keyOf : ℕ → ℕ → Key
+keyOf table extension = record { table = table; extension = extension }

@@ -1,0 +1,84 @@
+-- `lister::main` is safe: what was read lies within the buffer, and what was listed within the text.
+use mathlib.Core.Path.{sym}
+use lib.Seq.{length-take-le}
+use borrow.Author.Needs.{needs}
+use Rattle.lister.proofs.Reading.{read-within, shown-within}
+use Rattle.lister.proofs.main.Statement.{statement}
+use Rattle.lister.proofs.main.Tie as tie
+
+slice-aggregate-read-input : tie.Need-slice-aggregate-read-input
+slice-aggregate-read-input c = search needs
+
+read-input-requires : tie.Need-read-input-requires
+read-input-requires c κs = search needs
+
+enum-told : tie.Need-enum-told
+enum-told c = search needs
+
+slice-aggregate-write-all : tie.Need-slice-aggregate-write-all
+slice-aggregate-write-all c = search needs
+
+write-all-requires : tie.Need-write-all-requires
+write-all-requires c κs = search needs
+
+enum-known-input : tie.Need-enum-known-input
+enum-known-input c = search needs
+
+array-share-prefix-buffer : tie.Need-array-share-prefix-buffer
+array-share-prefix-buffer c = read-within _ _ _ (c .before .before .before .before .read-input .ensures) (c .before .input .given .1)
+
+slice-aggregate-list-file : tie.Need-slice-aggregate-list-file
+slice-aggregate-list-file c = sym (length-take-le _ _ (read-within _ _ _ (c .before .before .before .before .before .read-input .ensures) (c .before .before .input .given .1)))
+
+slice-aggregate-list-file-2 : tie.Need-slice-aggregate-list-file-2
+slice-aggregate-list-file-2 c = search needs
+
+list-file-requires : tie.Need-list-file-requires
+list-file-requires c κs = search needs
+
+enum-known-listed : tie.Need-enum-known-listed
+enum-known-listed c = search needs
+
+array-share-prefix-text : tie.Need-array-share-prefix-text
+array-share-prefix-text c = shown-within _ _ _ _ _ (c .before .before .before .before .list-file .ensures) (c .before .listed .given .1)
+
+slice-aggregate-write-all-2 : tie.Need-slice-aggregate-write-all-2
+slice-aggregate-write-all-2 c = sym (length-take-le _ _ (shown-within _ _ _ _ _ (c .before .before .before .before .before .list-file .ensures) (c .before .before .listed .given .1)))
+
+write-all-requires-2 : tie.Need-write-all-requires-2
+write-all-requires-2 c κs = search needs
+
+enum-told-2 : tie.Need-enum-told-2
+enum-told-2 c = search needs
+
+returns : tie.Need-returns
+returns c = search needs
+
+returns-2 : tie.Need-returns-2
+returns-2 c = search needs
+
+returns-3 : tie.Need-returns-3
+returns-3 c = search needs
+
+pub main-spec : {M : Type 1} → statement M
+main-spec =
+    tie.close
+    (tie.spec
+    slice-aggregate-read-input
+    read-input-requires
+    enum-told
+    slice-aggregate-write-all
+    write-all-requires
+    enum-known-input
+    array-share-prefix-buffer
+    slice-aggregate-list-file
+    slice-aggregate-list-file-2
+    list-file-requires
+    enum-known-listed
+    array-share-prefix-text
+    slice-aggregate-write-all-2
+    write-all-requires-2
+    enum-told-2
+    returns
+    returns-2
+    returns-3)

@@ -1,0 +1,56 @@
+// Lists a shelf file that stands on the standard input (document 01, "The lister"). The text is `listing::list_file`'s; here
+// it is only read and written.
+use libc::STDERR_FILENO;
+use libc::STDIN_FILENO;
+use libc::STDOUT_FILENO;
+use listing::Listed;
+ghost use lib.ListN.{length};
+ghost use Rattle.lister.specs.Input.{Within};
+
+enum Input {
+    // The input ended after so many bytes, or the buffer is full.
+    Bytes(usize),
+    Failed,
+}
+
+// Reads until the input ends or the buffer is full. A read that fails is not the end of the input.
+fn read_input(buffer: &mut [u8]) -> Input
+    ensures { λ r. ⌜ Within (length (now (buffer .exit))) r ⌝ }
+{
+    let mut n = 0;
+    while n < buffer.len() {
+        let got = libc::read(STDIN_FILENO, &mut buffer[n..]);
+        if got < 0 {
+            return Input::Failed;
+        }
+        let more = io::count(got, &buffer[n..]);
+        if more == 0 {
+            return Input::Bytes(n);
+        }
+        n += more;
+    }
+    Input::Bytes(n)
+}
+
+// The buffer has one byte more than the largest file: an input that fills it is no file, and is refused as one that has bytes
+// left over.
+fn main() {
+    let mut buffer = [0u8; 16419];
+    let input = read_input(&mut buffer);
+    match input {
+        Input::Failed => {
+            io::write_all(STDERR_FILENO, b"lister: read failed\n");
+        }
+        Input::Bytes(n) => {
+            let mut text = [0u8; 1024];
+            let listed = listing::list_file(&buffer[..n], &mut text);
+            match listed {
+                Listed::Bytes(size) => {
+                    io::write_all(STDOUT_FILENO, &text[..size]);
+                }
+                // No listing is longer than the text's room.
+                Listed::Refused(_) => {}
+            }
+        }
+    }
+}

@@ -1,0 +1,5 @@
+pub mod Laws
+pub mod Answers
+pub mod Faults
+pub mod ExactlyWhen
+pub mod Unique

@@ -1,0 +1,78 @@
+-- Document 01, "The shelf file": loading. Order of refusal: 17, 18, the file's faults, 13, 9.
+use Prim.Native.Nat.{ℕ, zero, suc}
+use mathlib.Core.List.{List, [], _∷_}
+use mathlib.Core.Bool.{true, not}
+use lib.Dec.{eqb}
+use lib.ListN.{length, getD}
+use Rattle.base.specs.Choice.{if_then_else_, _if_, first}
+use Rattle.base.specs.Bytes.{part}
+use Rattle.section.specs.declared.Header.{Header}
+use Rattle.berth.specs.Berth.{sections, places, storeSize, put}
+use Rattle.shelf.specs.Record.{withPlace, spoiledOf, placeOf, freeOf}
+use Rattle.shelf.specs.declared.Place.{Place}
+use Rattle.shelf.specs.declared.Shelf.{Shelf}
+use Rattle.offer.specs.Offer.{keyOf}
+use Rattle.file.specs.Scan.{scanOf}
+use Rattle.file.specs.declared.Scan.{Scan}
+use Rattle.file.specs.declared.Scanned.{Scanned}
+use Rattle.load.specs.declared.Loaded.{Loaded}
+use Rattle.load.specs.declared.Loading.{Loading}
+
+-- the paper's number for each case of an answer; 0 for none
+abbrev pub numberOf : Loaded → ℕ
+numberOf Loaded.Done = 0
+numberOf (Loaded.Refused n) = n
+
+-- what a call leaves: the answer, the record, the store
+pub record After : Type 0 where
+  pub said : Loaded
+  pub shelf : Shelf
+  pub store : List ℕ
+
+-- what the function gives, with the store at its exit
+abbrev pub after : Loading → List ℕ → After
+after r store = record { said = r .answer; shelf = r .shelf; store = store }
+
+-- a refused call gives the number alone
+abbrev pub refused : Shelf → ℕ → Loading
+refused shelf n = record { answer = Loaded.Refused n; shelf = shelf }
+
+-- a place with the table of a file
+abbrev pub loadedPlace : Header → List ℕ → Place
+loadedPlace h lengths =
+    record { taken = true; key = keyOf h; version = h .version; last = h .last; lengths = lengths }
+
+-- the store after those of the file's sections that are among the first k numbers are stored in place p, each from where it
+-- starts in the file
+unfoldable pub storedBelow : ℕ → List ℕ → List ℕ → List ℕ → List ℕ → ℕ → List ℕ
+storedBelow zero file starts lengths store p = store
+storedBelow (suc k) file starts lengths store p =
+    if eqb (getD lengths k 0) 0 then storedBelow k file starts lengths store p
+    else put (storedBelow k file starts lengths store p) p k (part file (getD starts k 0) (getD lengths k 0))
+
+module _ (shelf : Shelf) (store file : List ℕ) where
+  -- .. and leaves the store as it was
+  abbrev pub no : ℕ → After
+  no n = after (refused shelf n) store
+
+  -- 13, 9; else the lowest free place gets the table, and each berth the section and zeros
+  unfoldable pub tableOf : Scanned → Header → After
+  tableOf scanned h =
+      first no
+      (13 if not (eqb (placeOf shelf (keyOf h)) places) ∷ 9 if eqb (freeOf shelf) places ∷ [])
+      (record {
+        said = Loaded.Done;
+        shelf = withPlace shelf (freeOf shelf) (loadedPlace h (scanned .lengths));
+        store = storedBelow sections file (scanned .starts) (scanned .lengths) store (freeOf shelf);
+      })
+
+  -- the first fault of the file from the left
+  abbrev pub answered : Scanned → Scan → After
+  answered scanned (Scan.Table h) = tableOf scanned h
+  answered scanned (Scan.Refused n) = no n
+
+  unfoldable pub loadOf : After
+  loadOf =
+      first no
+      (17 if not (eqb (length store) storeSize) ∷ 18 if spoiledOf shelf ∷ [])
+      (answered (scanOf file) (scanOf file .answer))

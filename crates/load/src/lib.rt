@@ -1,0 +1,141 @@
+// Loads a file's table onto the shelf (document 01, "The shelf file"). Nothing is written before the last fault is ruled out.
+use berth::PLACES;
+use berth::SECTIONS;
+use berth::STORE;
+use file::Scan;
+use file::Scanned;
+use section::Header;
+use shelf::Key;
+use shelf::Place;
+use shelf::Shelf;
+ghost use mathlib.Core.Path.{_≡_};
+ghost use Prim.Native.Nat.{_+_, _<_};
+ghost use lib.ListN.{length};
+ghost use Rattle.berth.specs.Berth.{sections, places, storeSize};
+ghost use Rattle.offer.specs.Offer.{keyOf};
+ghost use Rattle.load.specs.Steps.{Within};
+ghost use Rattle.load.specs.Load.{refused as refusedOf, after, loadedPlace, storedBelow, tableOf, loadOf};
+
+// The answer to loading a file.
+pub enum Loaded {
+    Done,
+    Refused(u8),
+}
+
+// The answer, and the record as the call leaves it.
+pub struct Loading {
+    pub answer: Loaded,
+    pub shelf: Shelf,
+}
+
+pub const KEY_HELD: u8 = 13;
+
+fn wide(x: u16) -> usize
+    ensures { λ r. ⌜ r ≡ x ⌝ }
+{
+    x as usize
+}
+
+// Puts each of the file's sections into its berth of place p.
+fn store_each(store: &mut [u8], p: usize, file: &[u8], starts: [usize; 16], lengths: [u16; 16])
+    requires { ⌜ (p < places) × (length (now store) ≡ storeSize) ⌝ }
+    requires { ⌜ Within (now file) starts lengths ⌝ }
+    ensures { λ _. ⌜ now (store .exit) ≡ storedBelow sections (now (file .entry)) starts lengths (now (store .entry)) p ⌝ }
+{
+    let mut n: usize = 0;
+    while n < SECTIONS {
+        let size = wide(lengths[n]);
+        if size != 0 {
+            let start = starts[n];
+            let end = start + size;
+            berth::put(store, p, n, &file[start..end]);
+        }
+        n += 1;
+    }
+}
+
+// The key of a section.
+fn key_of(header: Header) -> Key
+    ensures { λ r. ⌜ r ≡ keyOf header ⌝ }
+{
+    Key {
+        table: header.table,
+        extension: header.extension,
+    }
+}
+
+// A place with the table of a file.
+fn loaded_place(header: Header, lengths: [u16; 16]) -> Place
+    ensures { λ r. ⌜ r ≡ loadedPlace header lengths ⌝ }
+{
+    let key = key_of(header);
+    Place {
+        taken: true,
+        key,
+        version: header.version,
+        last: header.last,
+        lengths,
+    }
+}
+
+// A refused call gives the number alone.
+fn refused(shelf: Shelf, n: u8) -> Loading
+    ensures { λ r. ⌜ r ≡ refusedOf shelf n ⌝ }
+{
+    Loading {
+        answer: Loaded::Refused(n),
+        shelf,
+    }
+}
+
+// Puts the table that a file was found to hold into the lowest free place, where its key is not held.
+fn load_table(
+    shelf: Shelf,
+    store: &mut [u8],
+    file: &[u8],
+    scanned: Scanned,
+    header: Header,
+) -> Loading
+    requires { ⌜ length (now store) ≡ storeSize ⌝ }
+    requires { ⌜ Within (now file) (scanned .starts) (scanned .lengths) ⌝ }
+    ensures { λ r. ⌜ after r (now (store .exit)) ≡ tableOf shelf (now (store .entry)) (now (file .entry)) scanned header ⌝ }
+{
+    let key = key_of(header);
+    if shelf::place_of(shelf, key) != PLACES {
+        return refused(shelf, KEY_HELD);
+    }
+    let p = shelf::free_of(shelf);
+    if p == PLACES {
+        return refused(shelf, offer::NO_FREE_PLACE);
+    }
+    let starts = scanned.starts;
+    let lengths = scanned.lengths;
+    store_each(store, p, file, starts, lengths);
+    let place = loaded_place(header, lengths);
+    let mut next = shelf;
+    next.places[p] = place;
+    Loading {
+        answer: Loaded::Done,
+        shelf: next,
+    }
+}
+
+// Loads a file's table into the lowest free place: each of its sections stands in its berth with zeros after it, and no other
+// berth changes. A refused call changes nothing.
+pub fn load_file(shelf: Shelf, store: &mut [u8], file: &[u8]) -> Loading
+    ensures { λ r. ⌜ after r (now (store .exit)) ≡ loadOf shelf (now (store .entry)) (now (file .entry)) ⌝ }
+{
+    if store.len() != STORE {
+        return refused(shelf, shelf::STORE_SIZE);
+    }
+    if shelf::spoiled(shelf) {
+        return refused(shelf, shelf::SHELF_SPOILED);
+    }
+    // The whole file is read before anything is written.
+    let scanned = file::read_file(file);
+    let answer = scanned.answer;
+    match answer {
+        Scan::Refused(n) => refused(shelf, n),
+        Scan::Table(header) => load_table(shelf, store, file, scanned, header),
+    }
+}

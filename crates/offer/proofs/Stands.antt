@@ -1,0 +1,47 @@
+-- The calls on berths, at a berth of a whole store and with bytes that go into it.
+--   put-at, wiped-at, stands-at, stood      what each call does there
+--   length-read                             a length that was read at a section's number
+use mathlib.Core.Path.{_≡_, refl, sym, ap, _∙_}
+use mathlib.Core.List.{List}
+use mathlib.Core.Bool.{Bool, true}
+use Prim.Native.Nat.{ℕ, _<_, _≤_}
+use lib.ListN.{length, getD}
+use borrow.Author.Tests.{eq-eqb, lt-ltb, le-leb}
+use Rattle.base.specs.Bytes.{same}
+use Rattle.berth.specs.Berth.{berthSize, storeSize, places, sections, put, wipedWhere, standing}
+use Rattle.berth.specs.Calls.{isPlace, isBerth, goesIn, putIn, wipedWhereIn, standsIn}
+
+module _ (store : List ℕ) (p : ℕ) (w : length store ≡ storeSize) (l : p < places) where
+  pub wiped-at : (picks : ℕ → Bool) → wipedWhereIn picks store p ≡ wipedWhere picks sections store p
+  unfolding wipedWhereIn isPlace
+  wiped-at picks = rw (eq-eqb (length store) storeSize w, lt-ltb p places l)
+
+  module _ (n : ℕ) (m : n < sections) where
+    pub put-at : (bytes : List ℕ) → length bytes ≤ berthSize → putIn store p n bytes ≡ put store p n bytes
+    unfolding putIn goesIn isBerth isPlace
+    put-at bytes h =
+        rw (eq-eqb (length store) storeSize w, lt-ltb p places l, lt-ltb n sections m, le-leb (length bytes) berthSize h)
+
+    pub stands-at : (count : ℕ) (bytes : List ℕ) → count ≤ berthSize → standsIn store p n count bytes ≡ same (standing store p n count) bytes
+    unfolding standsIn goesIn isBerth isPlace
+    stands-at count bytes h =
+        rw (eq-eqb (length store) storeSize w, lt-ltb p places l, lt-ltb n sections m, le-leb count berthSize h)
+
+    -- a call with a number and a length that were read, and what its test showed
+    pub stood :
+        {k count : ℕ}
+        {r t : Bool}
+        (held : ℕ)
+        (bytes : List ℕ)
+        → held ≤ berthSize
+        → k ≡ n
+        → count ≡ held
+        → r ≡ standsIn store p k count bytes
+        → r ≡ t
+        → same (standing store p n held) bytes ≡ t
+    stood {r = r} held bytes h e q a b =
+        let s : r ≡ standsIn store p n held bytes = rw (e, q) at a in
+        sym (stands-at held bytes h) ∙ sym s ∙ b
+
+pub length-read : (lengths : List ℕ) {n m count : ℕ} → n ≡ m → count ≡ getD lengths n 0 → count ≡ getD lengths m 0
+length-read lengths e h = rw e at h

@@ -1,0 +1,6 @@
+pub mod Adding
+pub mod Writing
+pub mod Listing
+pub mod Saving
+pub mod ExactlyWhen
+pub mod Unique

@@ -1,0 +1,3 @@
+pub mod ExactlyWhen
+pub mod Reserved
+pub mod Laws

@@ -1,0 +1,86 @@
+-- Document 01, "A section": the layout of the eight header bytes, high bit first, and the numbers 1 to 8.
+use Prim.Native.Nat.{ℕ, _+_, _-_, _/_, _%_, _*_}
+use mathlib.Core.List.{List, [], _∷_}
+use mathlib.Core.Bool.{_||_}
+use lib.ListN.{length}
+use lib.Dec.{ltb, eqb}
+use Rattle.base.specs.Bytes.{byte, word}
+use Rattle.base.specs.Choice.{Row, _if_, first}
+use Rattle.section.specs.declared.Header.{Header}
+use Rattle.section.specs.declared.Reading.{Reading}
+use Rattle.section.specs.declared.Reading.the-variants.{Sound, Refused}
+
+-- table id 8
+abbrev pub tableId : List ℕ → ℕ
+tableId s = byte s 0
+
+-- syntax indicator 1
+abbrev pub syntaxIndicator : List ℕ → ℕ
+syntaxIndicator s = byte s 1 / 128
+
+-- private indicator 1; then reserved 2
+abbrev pub privateIndicator : List ℕ → ℕ
+privateIndicator s = byte s 1 / 64 % 2
+
+-- section length 12: the bytes after itself
+abbrev pub sectionLength : List ℕ → ℕ
+sectionLength s = byte s 1 % 16 * 256 + byte s 2
+
+-- so the whole section is 3 more
+abbrev pub sectionSize : List ℕ → ℕ
+sectionSize s = 3 + sectionLength s
+
+-- table id extension 16
+abbrev pub tableIdExtension : List ℕ → ℕ
+tableIdExtension s = word s 3
+
+-- reserved 2; then version 5
+abbrev pub version : List ℕ → ℕ
+version s = byte s 5 / 2 % 32
+
+-- current/next 1
+abbrev pub currentNext : List ℕ → ℕ
+currentNext s = byte s 5 % 2
+
+-- section number 8
+abbrev pub sectionNumber : List ℕ → ℕ
+sectionNumber s = byte s 6
+
+-- last section number 8
+abbrev pub lastSectionNumber : List ℕ → ℕ
+lastSectionNumber s = byte s 7
+
+-- "Numbers of refusal", 1 to 8
+abbrev pub faults : List ℕ → List Row
+faults s =
+    1 if ltb (length s) 8
+    ∷ 2 if (eqb (syntaxIndicator s) 1 || eqb (privateIndicator s) 0)
+    ∷ 3 if (ltb (sectionLength s) 5 || ltb 1021 (sectionLength s))
+    ∷ 4 if ltb (length s) (sectionSize s)
+    ∷ 5 if ltb (sectionSize s) (length s)
+    ∷ 6 if ltb (lastSectionNumber s) (sectionNumber s)
+    ∷ 7 if ltb 15 (lastSectionNumber s)
+    ∷ 8 if eqb (currentNext s) 0
+    ∷ []
+
+-- what a sound section says; the body follows the header
+abbrev pub headerOf : List ℕ → Header
+headerOf s =
+    record {
+      table = tableId s;
+      extension = tableIdExtension s;
+      version = version s;
+      number = sectionNumber s;
+      last = lastSectionNumber s;
+      start = 8;
+      length = sectionSize s - 8;
+    }
+
+-- the reading of a payload
+unfoldable pub readOf : List ℕ → Reading
+readOf s = first Refused (faults s) (Sound (headerOf s))
+
+-- the paper's number for each case of a reading; 0 for none
+abbrev pub numberOf : Reading → ℕ
+numberOf (Sound h) = 0
+numberOf (Refused n) = n

@@ -1,0 +1,76 @@
+-- What a log says of the table with a key, by the calls and their answers alone. A log has its latest entry first.
+use Prim.Native.Nat.{ℕ}
+use mathlib.Core.List.{List, [], _∷_}
+use mathlib.Core.Bool.{Bool, false, _&&_, _||_}
+use lib.Dec.{eqb}
+use Rattle.base.specs.Choice.{if_then_else_}
+use Rattle.section.specs.Section.{sectionNumber, lastSectionNumber}
+use Rattle.shelf.specs.Record.{sameKey}
+use Rattle.shelf.specs.declared.Key.{Key}
+use Rattle.offer.specs.Offer.{keyOf}
+use Rattle.file.specs.Scan.{scanOf}
+use Rattle.file.specs.declared.Scan.{Scan}
+use Rattle.shelf_laws.specs.File.{carries, sectionIn}
+use Rattle.shelf_laws.specs.Named.{keyIn}
+use Rattle.shelf_laws.specs.Answers.{begins, accepted, isDone}
+use Rattle.shelf_laws.specs.History.{Entry, offered, loaded, released, asked}
+
+-- the table of a scan: whether it has that key, its version, its last number
+abbrev pub tableHas : Key → Scan → Bool
+tableHas key (Scan.Table h) = sameKey (keyOf h) key
+tableHas key (Scan.Refused n) = false
+
+abbrev pub tableVersion : Scan → ℕ
+tableVersion (Scan.Table h) = h .version
+tableVersion (Scan.Refused n) = 0
+
+abbrev pub tableLast : Scan → ℕ
+tableLast (Scan.Table h) = h .last
+tableLast (Scan.Refused n) = 0
+
+-- the file's table is the one with that key
+abbrev pub loads : Key → List ℕ → Bool
+loads key file = tableHas key (scanOf file .answer)
+
+-- the last number in an entry, and the bytes of section n
+abbrev pub lastOf : Entry → ℕ
+lastOf (offered payload said) = lastSectionNumber payload
+lastOf (loaded file said) = tableLast (scanOf file .answer)
+lastOf (released k said) = 0
+lastOf (asked question said) = 0
+
+abbrev pub bytesOf : Entry → ℕ → List ℕ
+bytesOf (offered payload said) n = payload
+bytesOf (loaded file said) n = sectionIn file n
+bytesOf (released k said) n = []
+bytesOf (asked question said) n = []
+
+module _ (key : Key) where
+  -- the entry begins the table: by a hearing while unheld, change of version or load
+  abbrev pub beginning : Entry → Bool
+  beginning (offered payload said) = sameKey (keyIn payload) key && begins said
+  beginning (loaded file said) = loads key file && isDone said
+  beginning (released k said) = false
+  beginning (asked question said) = false
+
+  -- the entry accepts or loads section n of the table
+  abbrev pub accepting : ℕ → Entry → Bool
+  accepting n (offered payload said) = sameKey (keyIn payload) key && (accepted said && eqb n (sectionNumber payload))
+  accepting n (loaded file said) = loads key file && (isDone said && carries file n)
+  accepting n (released k said) = false
+  accepting n (asked question said) = false
+
+  -- section n was accepted or loaded since the table last began
+  abbrev pub since : List Entry → ℕ → Bool
+  since [] n = false
+  since (e ∷ log) n = accepting n e || (if beginning e then false else since log n)
+
+  -- the last number with which the table last began
+  abbrev pub lastSince : List Entry → ℕ
+  lastSince [] = 0
+  lastSince (e ∷ log) = if beginning e then lastOf e else lastSince log
+
+  -- the bytes with which section n was last accepted or loaded
+  abbrev pub bytesSince : List Entry → ℕ → List ℕ
+  bytesSince [] n = []
+  bytesSince (e ∷ log) n = if accepting n e then bytesOf e n else bytesSince log n

@@ -1,0 +1,6 @@
+pub mod Gathers
+pub mod Tables
+pub mod Truth
+pub mod Exits
+pub mod Lengths
+pub mod Ids

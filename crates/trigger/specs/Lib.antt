@@ -1,0 +1,4 @@
+pub mod Fields
+pub mod Trigger
+pub mod Belongs
+pub mod Layout

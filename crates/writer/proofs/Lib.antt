@@ -1,0 +1,5 @@
+pub mod Laws
+pub mod Agree
+pub mod Fewest
+pub mod Unique
+pub mod Untouched

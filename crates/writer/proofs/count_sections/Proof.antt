@@ -1,0 +1,39 @@
+-- `writer::count_sections` meets its promise: the last number is at most 15, so the count fits a byte.
+use borrow.Author.Needs.{needs}
+use native.Mathlib.Omega.{arith}
+use Rattle.base.proofs.Tests.{tests}
+use mathlib.Core.Path.{_≡_, ap}
+use borrow.Author.Tests.{le-ltb}
+use Rattle.writer.specs.declared.Counted.the-variants.{Sections}
+use Prim.Native.Nat.{_≤_}
+use Rattle.writer.specs.Writer.{most, lastOf, countOf}
+use Rattle.writer.proofs.Laws.{last-le}
+use Rattle.writer.proofs.count_sections.Statement.{statement}
+use Rattle.writer.proofs.count_sections.Tie as tie
+use Rattle.writer.proofs.count_sections.Reads as reads
+use Rattle.writer.proofs.count_sections.Lts as lts
+use Rattle.writer.proofs.last_of.Reads as last-of-reads
+
+returns : tie.Need-returns
+unfolding countOf
+returns c = search tests
+
+last-of-requires : tie.Need-last-of-requires
+last-of-requires c κs = search needs
+
+add-count : tie.Need-add-count
+add-count c = omega (arith, last-le (c .before .before .args .length) (search needs))
+
+cast-t6 : tie.Need-cast-t6
+cast-t6 c = search needs
+
+returns-2 : tie.Need-returns-2
+unfolding countOf
+returns-2 c =
+    let n = c .before .before .args .length in
+    let l : lastOf n ≤ 15 = last-le n (search needs) in
+    let e : c .last-of .result ≡ lastOf n = c .last-of .ensures in
+    rw (le-ltb most n (search needs), e) (ap Sections (omega arith))
+
+pub count-sections-spec : {M : Type 1} → statement M
+count-sections-spec = tie.close (tie.spec returns last-of-requires add-count cast-t6 returns-2)

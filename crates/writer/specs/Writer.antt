@@ -1,0 +1,83 @@
+-- Document 02, request 1: the sections of a body, and the refusals 40, 41, 42 and 15.
+use Prim.Native.Nat.{ℕ, _+_, _-_, _*_, _/_, _%_}
+use mathlib.Core.List.{List, [], _∷_, _++_}
+use lib.Dec.{ltb}
+use lib.ListN.{length, drop}
+use Rattle.base.specs.Choice.{Row, _if_, first, if_then_else_}
+use Rattle.base.specs.Bytes.{part}
+use Rattle.writer.specs.declared.Counted.{Counted}
+use Rattle.writer.specs.declared.Label.{Label}
+use Rattle.writer.specs.declared.Written.{Written}
+
+-- the bytes of a full body
+abbrev pub full : ℕ
+full = 1016
+
+-- a body of up to 16,256 bytes: 16 bodies of 1,016
+abbrev pub most : ℕ
+most = 16 * full
+
+-- the last section number: each body full but the last; an empty body gives one section
+unfoldable pub lastOf : ℕ → ℕ
+lastOf n = (n - 1) / full
+
+-- where a body ends that starts at a place of n bytes
+abbrev pub endOf : ℕ → ℕ → ℕ
+endOf n start = if ltb (n - start) full then n else start + full
+
+-- the body of section k
+unfoldable pub bodyAt : List ℕ → ℕ → List ℕ
+bodyAt body k = part body (full * k) full
+
+-- the header of a section with a body of n bytes: syntax indicator 0, private indicator 1, reserved bits 1, current/next 1
+abbrev pub headerOf : Label → ℕ → ℕ → ℕ → List ℕ
+headerOf label k last n =
+    label .table
+    ∷ (64 + 48 + (5 + n) / 256)
+    ∷ ((5 + n) % 256)
+    ∷ (label .extension / 256)
+    ∷ (label .extension % 256)
+    ∷ (192 + 2 * label .version + 1)
+    ∷ k
+    ∷ last
+    ∷ []
+
+-- a section that carries these bytes
+unfoldable pub sectionOf : Label → ℕ → ℕ → List ℕ → List ℕ
+sectionOf label k last bytes = headerOf label k last (length bytes) ++ bytes
+
+-- section k of the table that carries a body
+unfoldable pub written : Label → List ℕ → ℕ → List ℕ
+written label body k = sectionOf label k (lastOf (length body)) (bodyAt body k)
+
+-- the paper's number for each case of an answer; 0 for none
+abbrev pub countedNo : Counted → ℕ
+countedNo (Counted.Sections n) = 0
+countedNo (Counted.Refused n) = n
+
+abbrev pub writtenNo : Written → ℕ
+writtenNo (Written.Bytes n) = 0
+writtenNo (Written.Refused n) = n
+
+-- how many sections a body of n bytes makes
+unfoldable pub countOf : ℕ → Counted
+countOf n = first Counted.Refused (40 if ltb most n ∷ []) (Counted.Sections (lastOf n + 1))
+
+-- what a call leaves: the answer and the output
+pub record Write : Type 0 where
+  pub said : Written
+  pub out : List ℕ
+
+abbrev pub write : Written → List ℕ → Write
+write said out = record { said = said; out = out }
+
+-- order: 40, 41, 42, then 15; output past the section stays as it was
+unfoldable pub writeOf : Label → List ℕ → ℕ → List ℕ → Write
+writeOf label body k out =
+    first (λ n. write (Written.Refused n) out)
+    (40 if ltb most (length body)
+    ∷ 41 if ltb 31 (label .version)
+    ∷ 42 if ltb (lastOf (length body)) k
+    ∷ 15 if ltb (length out) (length (written label body k))
+    ∷ [])
+    (write (Written.Bytes (length (written label body k))) (written label body k ++ drop (length (written label body k)) out))

@@ -1,0 +1,130 @@
+// The bench's section writer (document 02, request 1): as few sections as will do for a body, each asked for by its
+// number and written into a lent buffer.
+ghost use mathlib.Core.Path.{_≡_};
+ghost use Prim.Native.Nat.{_+_, _≤_};
+ghost use lib.ListN.{length};
+ghost use Rattle.writer.specs.Writer.{lastOf, endOf, countOf, headerOf, sectionOf, writeOf, write};
+
+// How many sections a body makes.
+pub enum Counted {
+    Sections(u8),
+    Refused(u8),
+}
+
+// The answer to asking for one section.
+pub enum Written {
+    // So many bytes now stand at the front of the output.
+    Bytes(usize),
+    Refused(u8),
+}
+
+// What a bench gives to every section of its table.
+pub struct Label {
+    pub table: u8,
+    pub extension: u16,
+    pub version: u8,
+}
+
+pub const BODY_TOO_LONG: u8 = 40;
+
+pub const VERSION_ABOVE_31: u8 = 41;
+
+pub const NUMBER_ABOVE_LAST: u8 = 42;
+
+pub const OUTPUT_TOO_SMALL: u8 = 15;
+
+// The longest body of one section, and of a table.
+const FULL: usize = 1016;
+
+const MOST: usize = 16256;
+
+const HIGHEST_VERSION: u8 = 31;
+
+const HEADER: usize = 8;
+// The bytes that the section length counts before the body.
+const COUNTED: usize = 5;
+// Private indicator 1 with both reserved bits 1, and the two reserved bits before the version.
+const INDICATORS: usize = 112;
+
+const RESERVED: u8 = 192;
+
+// The last section number of a body of so many bytes.
+fn last_of(length: usize) -> usize
+    ensures { λ r. ⌜ r ≡ lastOf length ⌝ }
+{
+    if length == 0 { 0 } else { (length - 1) / FULL }
+}
+
+// Where a body that starts at `start` in a body of `length` bytes ends.
+fn end_of(length: usize, start: usize) -> usize
+    requires { ⌜ start ≤ length ⌝ }
+    ensures { λ r. ⌜ r ≡ endOf length start ⌝ }
+{
+    if length - start < FULL {
+        length
+    } else {
+        start + FULL
+    }
+}
+
+// How many sections a body of so many bytes makes, or 40.
+pub fn count_sections(length: usize) -> Counted
+    ensures { λ r. ⌜ r ≡ countOf length ⌝ }
+{
+    if MOST < length {
+        return Counted::Refused(BODY_TOO_LONG);
+    }
+    let last = last_of(length);
+    let count = last + 1;
+    Counted::Sections((count % 256) as u8)
+}
+
+// The eight header bytes of section `k` with a body of `length` bytes, high bit first.
+fn header(label: Label, k: u8, last: u8, length: usize) -> [u8; 8]
+    requires { ⌜ (length ≤ 1016) × (label .version ≤ 31) ⌝ }
+    ensures { λ r. ⌜ r ≡ headerOf label k last length ⌝ }
+{
+    let counted = COUNTED + length;
+    let high = (INDICATORS + counted / 256) as u8;
+    let low = (counted % 256) as u8;
+    let upper = (label.extension / 256) as u8;
+    let lower = (label.extension % 256) as u8;
+    let current = RESERVED + 2 * label.version + 1;
+    [label.table, high, low, upper, lower, current, k, last]
+}
+
+// Section k with these bytes as its body, into a buffer of just its size.
+fn fill(label: Label, k: u8, last: u8, body: &[u8], out: &mut [u8])
+    requires { ⌜ (length (now body) ≤ 1016) × (label .version ≤ 31) × (length (now out) ≡ 8 + length (now body)) ⌝ }
+    ensures { λ _. ⌜ now (out .exit) ≡ sectionOf label k last (now (body .entry)) ⌝ }
+{
+    let head = header(label, k, last, body.len());
+    bytes::copy(&head, &mut out[..HEADER]);
+    bytes::copy(body, &mut out[HEADER..]);
+}
+
+// Section k of the table that carries the body, written at the front of the output; bytes past it stay as they were.
+pub fn write_section(label: Label, body: &[u8], k: u8, out: &mut [u8]) -> Written
+    ensures { λ r. ⌜ write r (now (out .exit)) ≡ writeOf label (now (body .entry)) k (now (out .entry)) ⌝ }
+{
+    if MOST < body.len() {
+        return Written::Refused(BODY_TOO_LONG);
+    }
+    if HIGHEST_VERSION < label.version {
+        return Written::Refused(VERSION_ABOVE_31);
+    }
+    let last = last_of(body.len());
+    let number = k as usize;
+    if last < number {
+        return Written::Refused(NUMBER_ABOVE_LAST);
+    }
+    let start = FULL * number;
+    let end = end_of(body.len(), start);
+    let size = HEADER + (end - start);
+    if out.len() < size {
+        return Written::Refused(OUTPUT_TOO_SMALL);
+    }
+    let last_number = (last % 256) as u8;
+    fill(label, k, last_number, &body[start..end], &mut out[..size]);
+    Written::Bytes(size)
+}

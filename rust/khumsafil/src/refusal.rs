@@ -1,0 +1,81 @@
+//! The numbers of refusal, by name.
+
+use std::fmt;
+
+/// Why a call was refused: a number of document 01's table, or 255, the boundary's own. Each has a name here, as
+/// in the C header.
+#[derive(Clone, Copy, Debug, PartialEq, Eq, Hash, PartialOrd, Ord)]
+pub struct Refusal(u8);
+
+macro_rules! refusals {
+    ($($name:ident = $number:literal: $when:literal;)*) => {
+        impl Refusal {
+            $(#[doc = $when] pub const $name: Refusal = Refusal($number);)*
+
+            /// Every refusal by its name, rising.
+            pub const ALL: &'static [(&'static str, Refusal)] = &[$((stringify!($name), Refusal::$name)),*];
+
+            fn when(self) -> &'static str {
+                match self.0 {
+                    $($number => $when,)*
+                    _ => "no number of this library",
+                }
+            }
+        }
+    };
+}
+
+refusals! {
+    PAYLOAD_SHORT = 1: "payload under 8 bytes";
+    WRONG_INDICATOR = 2: "syntax indicator 1 or private indicator 0";
+    LENGTH_OUT_OF_RANGE = 3: "section length under 5 or over 1,021";
+    LONGER_THAN_PAYLOAD = 4: "section longer than its payload";
+    SHORTER_THAN_PAYLOAD = 5: "section shorter than its payload";
+    NUMBER_ABOVE_LAST = 6: "section number above last";
+    LAST_ABOVE_15 = 7: "last number above 15";
+    NOT_CURRENT = 8: "current/next is 0";
+    NO_FREE_PLACE = 9: "new key, no free place";
+    DIFFERS = 10: "same key and version, other last number or other bytes";
+    BAD_NUMBER = 11: "number of a file cut off, not shortest or above 65,535";
+    BAD_FILE = 12: "other fault of a file";
+    KEY_HELD = 13: "key of the file already held";
+    TABLE_NOT_HELD = 14: "table not held";
+    OUTPUT_TOO_SMALL = 15: "output too small";
+    SECTION_NOT_HELD = 16: "section not held";
+    STORE_SIZE = 17: "store not 65,536 bytes";
+    SHELF_SPOILED = 18: "shelf record spoiled, or not 76 numbers";
+    DESCRIPTOR_RUNS_PAST = 19: "descriptor runs past the loop, or the place asked is beyond its end";
+    TRIGGER_CUT_OFF = 20: "trigger ends inside a field";
+    TRIGGER_OTHER_EVENT = 21: "event type not 0";
+    TRIGGER_FORBIDDEN_ID_LENGTH = 22: "application id length 1";
+    TRIGGER_WRONG_TARGET_LENGTH = 23: "type 0 with length; type 1 with length not 0 or 6; type 2 with length not 0 or 2";
+    TRIGGER_HIGH_URI_BYTE = 24: "URI byte above 127";
+    TRIGGER_BYTES_LEFT = 25: "bytes after the user data";
+    TRIGGER_TOO_LONG = 26: "trigger over 4,096 bytes";
+    CLOCK_ABOVE = 30: "application above 7";
+    CLOCK_MOVED_BACK = 31: "clock moved back";
+    CLOCK_PAST = 32: "time more than 60,000 before the clock";
+    CLOCK_ALREADY_HELD = 33: "that activation is held";
+    CLOCK_FULL = 34: "32 held";
+    CLOCK_SPOILED = 35: "clock record spoiled, or not 67 words";
+    NO_SUCH_ACTION = 255: "a number above 3, which is no action";
+}
+
+impl Refusal {
+    pub(crate) fn of(number: u8) -> Refusal {
+        Refusal(number)
+    }
+
+    /// The number.
+    pub fn number(self) -> u8 {
+        self.0
+    }
+}
+
+impl fmt::Display for Refusal {
+    fn fmt(&self, f: &mut fmt::Formatter<'_>) -> fmt::Result {
+        write!(f, "refused {}: {}", self.0, self.when())
+    }
+}
+
+impl std::error::Error for Refusal {}

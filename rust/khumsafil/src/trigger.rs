@@ -1,0 +1,141 @@
+//! A/93 triggers.
+
+use crate::{boundary, Refusal};
+
+/// What a trigger is aimed at. Bytes are parts of the payload.
+#[derive(Clone, Copy, Debug, PartialEq, Eq)]
+pub enum Target<'a> {
+    /// No explicit target.
+    None,
+    /// A module, by three numbers.
+    Module {
+        /// The download's.
+        download: u16,
+        /// The group's.
+        group: u16,
+        /// The module's own.
+        module: u16,
+    },
+    /// A tap, by its number.
+    Tap(u16),
+    /// An absolute URI.
+    AbsoluteUri(&'a [u8]),
+    /// A lid URI.
+    LidUri(&'a [u8]),
+    /// An http URI.
+    HttpUri(&'a [u8]),
+    /// A type that A/93 keeps for later.
+    Reserved {
+        /// The type, 6 or more.
+        kind: u8,
+        /// The target's bytes.
+        bytes: &'a [u8],
+    },
+}
+
+/// What a trigger says.
+#[derive(Clone, Copy, Debug, PartialEq, Eq)]
+pub struct Trigger<'a> {
+    /// The application id's length as read: 0 where the trigger is for every application.
+    pub id_length: u16,
+    /// The description, 0 where the id's length is 0.
+    pub description: u16,
+    /// The application id.
+    pub id: &'a [u8],
+    /// The target.
+    pub target: Target<'a>,
+    /// The user data.
+    pub user: &'a [u8],
+}
+
+/// How many numbers a trigger is answered in.
+pub const FIELDS: usize = 11;
+
+/// Reads the payload as a trigger, or says by which of the numbers 20 to 26 it is refused.
+///
+/// ```
+/// use khumsafil::{trigger, Refusal};
+/// use trigger::Target;
+///
+/// let payload = [0, 0, 2, 0, 1, 2, 0, 2, 0, 0x17, 0, 1, 0x41];
+/// let read = trigger::read(&payload).expect("a trigger");
+/// assert_eq!((read.description, read.target, read.user), (1, Target::Tap(23), &[0x41][..]));
+/// assert_eq!(trigger::read(&payload[..12]), Err(Refusal::TRIGGER_CUT_OFF));
+/// ```
+#[inline]
+pub fn read(payload: &[u8]) -> Result<Trigger<'_>, Refusal> {
+    let mut fields = [0; FIELDS];
+    // SAFETY: pointers and lengths are those of a slice and of an array that is not part of it.
+    let number = unsafe {
+        boundary::khumsafil_trigger_read(
+            payload.as_ptr(),
+            payload.len(),
+            fields.as_mut_ptr(),
+            FIELDS,
+        )
+    };
+    if number != 0 {
+        return Err(Refusal::of(number));
+    }
+    let [id_length, description, id, id_bytes, kind, of, first, second, third, user, user_bytes] =
+        fields;
+    let part = |place: u16, length: u16| {
+        let place = usize::from(place);
+        payload
+            .get(place..place + usize::from(length))
+            .unwrap_or_default()
+    };
+    Ok(Trigger {
+        id_length,
+        description,
+        id: part(id, id_bytes),
+        target: match kind {
+            0 => Target::None,
+            1 => Target::Module {
+                download: first,
+                group: second,
+                module: third,
+            },
+            2 => Target::Tap(first),
+            3 => Target::AbsoluteUri(part(first, second)),
+            4 => Target::LidUri(part(first, second)),
+            5 => Target::HttpUri(part(first, second)),
+            _ => Target::Reserved {
+                kind: of as u8,
+                bytes: part(first, second),
+            },
+        },
+        user: part(user, user_bytes),
+    })
+}
+
+/// Whether a trigger whose application id has that length as read, and lies at that place of the payload with
+/// that many bytes, belongs to the application. Bytes that do not lie in the payload belong to none.
+#[inline]
+pub fn belongs(payload: &[u8], id_length: u16, place: u16, size: u16, application: &[u8]) -> bool {
+    // SAFETY: pointers and lengths are those of slices, and the library only reads.
+    unsafe {
+        boundary::khumsafil_trigger_belongs(
+            payload.as_ptr(),
+            payload.len(),
+            id_length,
+            place,
+            size,
+            application.as_ptr(),
+            application.len(),
+        )
+    }
+}
+
+impl Trigger<'_> {
+    /// Whether the trigger belongs to the application with that id.
+    pub fn belongs_to(&self, application: &[u8]) -> bool {
+        belongs(
+            self.id,
+            self.id_length,
+            0,
+            self.id.len() as u16,
+            application,
+        )
+    }
+}

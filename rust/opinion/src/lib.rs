@@ -1,0 +1,20 @@
+//! Khumsafil's second opinion: document 01 (and request 1 of document 02) read
+//! once more, on its own, in plain Rust. Every refusal is its number in
+//! document 01, "Numbers of refusal".
+
+#![forbid(unsafe_code)]
+
+pub mod clock;
+pub mod descriptors;
+pub mod file;
+pub mod keeper;
+pub mod lister;
+pub mod section;
+pub mod shelf;
+pub mod trigger;
+pub mod writer;
+
+mod berth;
+
+#[cfg(test)]
+mod testing;

@@ -1,0 +1,289 @@
+//! Shelf records in numbers, and random calls on them.
+
+use crate::files::{self, Parts};
+use crate::random::Random;
+use crate::sections::{self, Fields};
+use khumsafil::shelf::{Key, RECORD};
+use opinion::shelf::{Place, Record, PLACES, SECTIONS};
+
+/// The numbers of a place.
+pub const OF_PLACE: usize = 19;
+
+/// The record that numbers are.
+pub fn decode(numbers: &[u16; RECORD]) -> Record {
+    let place = |p: usize| {
+        let of = &numbers[OF_PLACE * p..OF_PLACE * (p + 1)];
+        Place {
+            taken: of[2] >> 8 != 0,
+            table_id: of[0] as u8,
+            extension: of[1],
+            version: (of[0] >> 8) as u8,
+            last: of[2] as u8,
+            lengths: std::array::from_fn(|n| of[3 + n]),
+        }
+    };
+    Record {
+        places: std::array::from_fn(place),
+    }
+}
+
+/// Whether two records hold the same: a place that is not taken says nothing.
+pub fn same(a: &Record, b: &Record) -> bool {
+    let mut pairs = a.places.iter().zip(&b.places);
+    pairs.all(|(a, b)| a == b || !a.taken && !b.taken)
+}
+
+/// A call on a shelf. `room` is the size of the output that is lent.
+#[derive(Clone, Debug)]
+pub enum Call {
+    Begin,
+    Offer(Vec<u8>),
+    Complete(Key),
+    Missing(Key),
+    Copy { key: Key, number: u8, room: usize },
+    Release(Key),
+    Save { key: Key, room: usize },
+    Load(Vec<u8>),
+}
+
+impl Call {
+    pub fn name(&self) -> &'static str {
+        match self {
+            Call::Begin => "begin",
+            Call::Offer(_) => "offer",
+            Call::Complete(_) => "complete",
+            Call::Missing(_) => "lowest missing",
+            Call::Copy { .. } => "copy",
+            Call::Release(_) => "release",
+            Call::Save { .. } => "save",
+            Call::Load(_) => "load",
+        }
+    }
+}
+
+/// How a history is drawn: few keys, versions, numbers and bodies, so that repeats and conflicts are common.
+pub struct Way {
+    keys: usize,
+    versions: usize,
+    last: u8,
+    bodies: usize,
+    sizes: [usize; 2],
+    releases: usize,
+    /// Whether the host writes on the store between calls.
+    pub scribbles: bool,
+}
+
+impl Way {
+    pub fn random(random: &mut Random) -> Way {
+        let size = 8 + random.below(1_017);
+        Way {
+            keys: random.pick(&[1, 2, 4, 5, 6]),
+            versions: random.pick(&[1, 1, 2, 3]),
+            last: random.pick(&[0, 1, 2, 3, 15]),
+            bodies: random.pick(&[1, 1, 2, 4]),
+            sizes: random.pick(&[[8, 8], [8, 20], [9, 20], [8, 1_024], [8, size]]),
+            releases: random.pick(&[8, 20, 60]),
+            scribbles: random.once_in(4),
+        }
+    }
+
+    /// Keys that share a table id or an extension.
+    fn key(&self, random: &mut Random) -> Key {
+        let i = random.below(self.keys);
+        Key {
+            table_id: [201, 201, 7, 7, 0, 255][i],
+            extension: [4_660, 52, 4_660, 52, 0, 65_535][i],
+        }
+    }
+
+    fn fields(&self, random: &mut Random) -> Fields {
+        let key = self.key(random);
+        let last = match random.below(30) {
+            0 => random.below(16) as u8,
+            _ => self.last,
+        };
+        let version = match random.below(40) {
+            0 => 31,
+            _ => random.below(self.versions) as u8,
+        };
+        Fields {
+            table_id: key.table_id,
+            extension: key.extension,
+            version,
+            number: random.below(usize::from(last) + 1) as u8,
+            last,
+        }
+    }
+
+    /// A section whose bytes are told by few choices.
+    fn section(&self, random: &mut Random) -> Vec<u8> {
+        let fields = self.fields(random);
+        let body = random.below(self.bodies);
+        let mut bytes = vec![body as u8; self.sizes[body % 2]];
+        // Reserved bits have no meaning, and yet are bytes that a repeat has to have.
+        let reserved = match random.below(30) {
+            0 => random.byte(),
+            _ => 0xFF,
+        };
+        sections::put_header(&mut bytes, fields, reserved);
+        bytes
+    }
+
+    fn payload(&self, random: &mut Random) -> Vec<u8> {
+        let mut bytes = self.section(random);
+        match random.below(24) {
+            0 => sections::break_field(random, &mut bytes),
+            1 => sections::flip(random, &mut bytes, usize::MAX),
+            2 => bytes.truncate(random.below(bytes.len())),
+            3 => bytes.push(random.byte()),
+            _ => {}
+        }
+        bytes.shrink_to_fit();
+        bytes
+    }
+
+    fn file(&self, random: &mut Random, saved: &[Vec<u8>]) -> Vec<u8> {
+        if !saved.is_empty() && random.once_in(2) {
+            let mut bytes = saved[random.below(saved.len())].clone();
+            match random.below(6) {
+                0 => sections::flip(random, &mut bytes, usize::MAX),
+                1 => bytes.truncate(random.below(bytes.len())),
+                2 => bytes.push(random.byte()),
+                _ => {}
+            }
+            bytes.shrink_to_fit();
+            return bytes;
+        }
+        let fields = self.fields(random);
+        let parts = Parts::random(random, fields);
+        let kind = match random.below(2) {
+            0 => "sound",
+            _ => random.pick(&files::KINDS),
+        };
+        files::damaged(random, kind, parts)
+    }
+
+    /// The next call on a record, with the files that were saved before.
+    pub fn call(&self, random: &mut Random, record: &Record, saved: &[Vec<u8>]) -> Call {
+        if random.once_in(self.releases) {
+            return Call::Release(self.key(random));
+        }
+        let key = match random.below(30) {
+            0 => Key {
+                table_id: random.byte(),
+                extension: random.word() as u16,
+            },
+            _ => self.key(random),
+        };
+        let held = record
+            .places
+            .iter()
+            .find(|p| p.taken && p.table_id == key.table_id && p.extension == key.extension);
+        let around = |random: &mut Random, size: usize| match random.below(6) {
+            0 => size + 1 + random.below(9),
+            1 => size.saturating_sub(1),
+            2 => random.below(size + 1),
+            _ => size,
+        };
+        match random.below(32) {
+            0..=1 => Call::Complete(key),
+            2..=3 => Call::Missing(key),
+            4..=6 => {
+                let number = match random.below(12) {
+                    0 => random.pick(&[15, 16, 17, 128, 255]),
+                    _ => random.below(usize::from(self.last) + 1) as u8,
+                };
+                let size = held.and_then(|p| p.lengths.get(usize::from(number)));
+                let room = around(random, usize::from(*size.unwrap_or(&0)));
+                Call::Copy { key, number, room }
+            }
+            7 => {
+                let lengths = held.map_or([0; SECTIONS], |p| p.lengths);
+                let size = |length: &u16| usize::from(*length) + 1 + usize::from(*length > 127);
+                let size = 2 + lengths.iter().filter(|l| **l > 0).map(size).sum::<usize>();
+                let room = around(random, size);
+                Call::Save { key, room }
+            }
+            8..=9 => Call::Load(self.file(random, saved)),
+            10 if random.once_in(8) => Call::Begin,
+            _ => Call::Offer(self.payload(random)),
+        }
+    }
+}
+
+/// The ways in which a record is spoiled, and three in which it is not.
+pub const SPOILS: [&str; 11] = [
+    "another mark of taken",
+    "a free place filled",
+    "a length changed",
+    "a version above 31",
+    "a last above 15",
+    "held above the last",
+    "a length under 8",
+    "a length over 1,024",
+    "nothing held",
+    "two of one key",
+    "any numbers",
+];
+
+/// The ways that 18 names, each of which spoils every record that has a taken place.
+pub const NAMED: std::ops::Range<usize> = 3..10;
+
+/// Spoils a record in a way. Of what the way needs, a taken place is put there first if there is none.
+pub fn spoil(random: &mut Random, way: &str, record: &[u16; RECORD]) -> [u16; RECORD] {
+    let mut numbers = *record;
+    let taken = |numbers: &[u16; RECORD], p: usize| numbers[OF_PLACE * p + 2] >> 8 != 0;
+    if !(0..PLACES).any(|p| taken(&numbers, p)) {
+        let at = OF_PLACE * random.below(PLACES);
+        numbers[at..at + OF_PLACE].fill(0);
+        numbers[at + 2] = 0x0100;
+        numbers[at + 3] = 8;
+    }
+    let places: Vec<_> = (0..PLACES).filter(|p| taken(&numbers, *p)).collect();
+    let free: Vec<_> = (0..PLACES).filter(|p| !taken(&numbers, *p)).collect();
+    let at = OF_PLACE * random.pick(&places);
+    let last = usize::from(numbers[at + 2] as u8);
+    let number = random.below(last + 1);
+    match way {
+        "another mark of taken" => {
+            numbers[at + 2] = numbers[at + 2] & 0xFF | random.pick(&[1, 2, 128, 255]) << 8;
+        }
+        "a free place filled" => {
+            if !free.is_empty() {
+                let at = OF_PLACE * random.pick(&free);
+                for number in &mut numbers[at..at + OF_PLACE] {
+                    *number = random.word() as u16;
+                }
+                numbers[at + 2] &= 0xFF;
+            }
+        }
+        "a length changed" => {
+            numbers[at + 3 + number] = random.pick(&[8, 9, 20, 1_023, 1_024]);
+        }
+        "a version above 31" => {
+            numbers[at] = numbers[at] & 0xFF | random.pick(&[32, 33, 64, 255]) << 8;
+        }
+        "a last above 15" => {
+            numbers[at + 2] = numbers[at + 2] & 0xFF00 | random.pick(&[16, 17, 128, 255]);
+        }
+        "held above the last" => {
+            let last = random.below(15);
+            numbers[at + 2] = numbers[at + 2] & 0xFF00 | last as u16;
+            numbers[at + 3 + last + 1 + random.below(15 - last)] = 8;
+        }
+        "a length under 8" => numbers[at + 3 + number] = random.pick(&[1, 2, 7]),
+        "a length over 1,024" => {
+            numbers[at + 3 + number] = random.pick(&[1_025, 1_026, 32_768, 65_535]);
+        }
+        "nothing held" => numbers[at + 3..at + OF_PLACE].fill(0),
+        "two of one key" => {
+            let other = OF_PLACE * (at / OF_PLACE + 1 + random.below(PLACES - 1)) % RECORD;
+            let one: Vec<_> = numbers[at..at + OF_PLACE].to_vec();
+            numbers[other..other + OF_PLACE].copy_from_slice(&one);
+            // The version is no part of the key.
+            numbers[other] = numbers[other] & 0xFF | random.pick(&[0, 31]) << 8;
+        }
+        _ => numbers.iter_mut().for_each(|n| *n = random.word() as u16),
+    }
+    numbers
+}
