@@ -237,15 +237,17 @@ uint32_t khumsafil_file_list(const uint8_t *file, size_t file_length, uint8_t *o
  * bytes: the loop; read, and left as it is.
  *
  * The answer's low 8 bits are the number of refusal, or 0. Of a refused step all other bits are 0. Of any other
- * the macros below take out what was found and, of a descriptor, its tag and length. Its content starts
- * KHUMSAFIL_DESCRIPTOR_HEAD behind the place, and the next step is asked at the content's end.
+ * the macros below take out what was found and, of a descriptor, its tag and the place of the next step. Its content
+ * starts KHUMSAFIL_DESCRIPTOR_HEAD behind the place asked and ends at that next place. The answer has 40 bits for it: in
+ * a loop of 2^40 bytes or more the next place is the content's start and the length, which is right in every loop.
  */
 uint64_t khumsafil_descriptor_step(const uint8_t *bytes, size_t bytes_length, size_t at);
 
 #define KHUMSAFIL_STEP_REFUSAL(answer) ((uint8_t)(answer))
 #define KHUMSAFIL_STEP_FOUND(answer) ((uint8_t)((answer) >> 8))
 #define KHUMSAFIL_STEP_TAG(answer) ((uint8_t)((answer) >> 16))
-#define KHUMSAFIL_STEP_LENGTH(answer) ((uint8_t)((answer) >> 24))
+#define KHUMSAFIL_STEP_NEXT(answer) ((size_t)((answer) >> 24))
+#define KHUMSAFIL_STEP_LENGTH(answer, at) ((uint8_t)(((answer) >> 24) - (at) - KHUMSAFIL_DESCRIPTOR_HEAD))
 
 /*
  * Whether the descriptor at a place marks a trigger Tap. Where no descriptor can be read, it does not.

@@ -1,6 +1,5 @@
 // Descriptor loops.
 ghost use mathlib.Core.Path.{_≡_};
-ghost use Prim.Native.Nat.{_<_};
 ghost use Rattle.descriptors.specs.Loop.{stepOf};
 ghost use Rattle.descriptors.specs.Mark.{isTriggerTap};
 ghost use Rattle.khumsafil.specs.Loop.{descriptorWord, stepWord};
@@ -17,13 +16,15 @@ const BIT_16: u64 = 65536;
 
 const BIT_24: u64 = 16777216;
 
+// The places that 40 bits tell apart.
+const NEAR: u64 = 1099511627776;
+
 fn descriptor_word(d: Descriptor) -> u64
-    requires { ⌜ d .length < 256 ⌝ }
     ensures { λ r. ⌜ r ≡ descriptorWord d ⌝ }
 {
     let tag = d.tag as u64 * BIT_16;
-    let length = d.length as u64 * BIT_24;
-    FOUND + tag + length
+    let next = d.next as u64 % NEAR * BIT_24;
+    FOUND + tag + next
 }
 
 // What stands at a place of the loop, in one number: the refusal alone, or 0 in the low 8 bits and what was found above.

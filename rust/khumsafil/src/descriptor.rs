@@ -28,6 +28,23 @@ pub const HEAD: usize = 2;
 /// What the answer has for the end of a walk.
 const OVER: u8 = 2;
 
+/// Where the next step is asked. The answer has the low 40 bits of that place, which is all of it but in a loop of a
+/// terabyte or more; there the low 8 bits tell how long the content is.
+#[inline]
+fn next_of(word: u64, size: usize, start: usize) -> usize {
+    if (size as u64) < 1 << 40 {
+        (word >> 24) as usize
+    } else {
+        by_length(word, start)
+    }
+}
+
+#[cold]
+#[inline(never)]
+fn by_length(word: u64, start: usize) -> usize {
+    start + usize::from(((word >> 24) as u8).wrapping_sub(start as u8))
+}
+
 /// What stands at a place of the loop, or 19. Any place may be asked.
 #[inline]
 pub fn step(bytes: &[u8], at: usize) -> Result<Step<'_>, Refusal> {
@@ -37,7 +54,7 @@ pub fn step(bytes: &[u8], at: usize) -> Result<Step<'_>, Refusal> {
         0 if (word >> 8) as u8 == OVER => Ok(Step::Over),
         0 => {
             let start = at + HEAD;
-            let next = start + usize::from((word >> 24) as u8);
+            let next = next_of(word, bytes.len(), start);
             Ok(Step::Descriptor(Descriptor {
                 tag: (word >> 16) as u8,
                 content: bytes.get(start..next).unwrap_or_default(),
@@ -87,6 +104,26 @@ impl<'a> Iterator for Walk<'a> {
             }
             Ok(Step::Over) => None,
             Err(refusal) => Some(Err(refusal)),
+        }
+    }
+}
+
+#[cfg(test)]
+mod tests {
+    use super::next_of;
+
+    #[test]
+    fn a_place_past_40_bits_is_told_by_the_length() {
+        let word = |next: u64| (next % (1 << 40)) << 24;
+        for start in [2, 255, 256, 4_000, (1 << 40) - 1, 1 << 40, (3 << 40) + 200] {
+            for length in [0, 1, 127, 255] {
+                let next = start + length;
+                assert_eq!(next_of(word(next), usize::MAX, start as usize), next as usize);
+                assert_eq!(next_of(word(next), 1 << 40, start as usize), next as usize);
+                if next < 1 << 40 {
+                    assert_eq!(next_of(word(next), (1 << 40) - 1, start as usize), next as usize);
+                }
+            }
         }
     }
 }

@@ -1,10 +1,7 @@
 -- `khumsafil_descriptor_step` meets its promise: in each arm the step is the one that `descriptors::step_at` promises.
 use borrow.Author.Needs.{needs}
 use mathlib.Core.Path.{_∙_, sym, ap}
-use Prim.Native.Nat.{_+_}
-use native.Mathlib.Omega.{arith}
 use Rattle.khumsafil.specs.Loop.{stepWord}
-use Rattle.khumsafil.proofs.Steps.{found-short}
 use Rattle.khumsafil.proofs.loops.khumsafil_descriptor_step.Statement.{statement}
 use Rattle.khumsafil.proofs.loops.khumsafil_descriptor_step.Tie as tie
 
@@ -15,10 +12,7 @@ enum-known-step : tie.Need-enum-known-step
 enum-known-step c = search needs
 
 descriptor-word-requires : tie.Need-descriptor-word-requires
-descriptor-word-requires c κs =
-    found-short (c .before .before .before .before .before .args .bytes .now) (c .before .before .before .before .before .args .at) _
-    (omega (arith, c .before .before .before .before .shared-slice-known .given (c .before .before .before .before .before .args .at + 1)))
-    (sym (c .before .before .before .step-at .ensures) ∙ c .before .step .given .1)
+descriptor-word-requires c κs = search needs
 
 enum-told : tie.Need-enum-told
 enum-told c = search needs
