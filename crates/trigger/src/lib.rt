@@ -189,10 +189,12 @@ fn target_fault(payload: &[u8], at: usize) -> u8
     }
     let kind = payload[at];
     let length = wide(word_at(payload, at + 1));
-    if is_wrong_length(kind, length) {
+    let wrong = is_wrong_length(kind, length);
+    let end = at + TARGET_HEAD + length;
+    if wrong {
         return WRONG_TARGET_LENGTH;
     }
-    if size < at + TARGET_HEAD + length {
+    if size < end {
         return CUT_OFF;
     }
     if is_uri(kind) {

@@ -42,15 +42,15 @@ is-wrong-length-requires c κs = search needs
 given : (c : tie.After-wide) → c .wide .result ≡ word (now (c .before .before .before .before .before .args .payload)) (c .before .before .before .before .before .args .at + 1)
 given c = c .wide .ensures ∙ c .before .word-at .ensures
 
+add-end : tie.Need-add-end
+add-end c = search needs
+
+add-end-2 : tie.Need-add-end-2
+add-end-2 c = search needs
+
 returns-2 : tie.Need-returns-2
 unfolding targetFault
 returns-2 c = rw (← given (c .before .before), ← c .before .is-wrong-length .ensures, c .if2 .taken) (search tests)
-
-add-if3 : tie.Need-add-if3
-add-if3 c = search needs
-
-add-if3-2 : tie.Need-add-if3-2
-add-if3-2 c = search needs
 
 returns-3 : tie.Need-returns-3
 unfolding targetFault
@@ -88,9 +88,9 @@ target-fault-spec =
     word-at-requires
     wide-requires
     is-wrong-length-requires
+    add-end
+    add-end-2
     returns-2
-    add-if3
-    add-if3-2
     returns-3
     is-uri-requires
     add-is-high
