@@ -8,7 +8,7 @@ use Rattle.activation.specs.declared.Activation.{Activation}
 use Rattle.activation.specs.declared.Held.{Held}
 use Rattle.activation.specs.Limits.{memory}
 
--- two with equal application, event and time are one activation
+-- two with equal application, event and time are one activation, and the first heard stands (A/105, clause 15)
 unfoldable pub alike : Activation → Activation → Bool
 alike a b = (eqb (a .application) (b .application) && eqb (a .event) (b .event)) && eqb (a .time) (b .time)
 

@@ -1,7 +1,8 @@
 -- The clock's promise over histories.
 --   kept             after any history from fresh, `Kept` holds
 --   never-35         no call of a history is answered 35
---   again-33         an applied activation offered again within its memory is refused 33 and changes nothing
+--   accepted-33      an accepted activation, applied or waiting, offered again within its memory is refused 33 and changes nothing
+--   again-33         so it is, then, with an applied one
 --   counted          a move answers how many it added to the account's applied ones
 --   lived, lived-fresh   so it is with the records of a program whose calls keep their promises
 --   same-steps       equal records stay equal, and their accounts with them
@@ -235,11 +236,13 @@ again-each : (t : Moment) → Kept t → (l : List Activation) → All (λ a. ab
 again-each t k [] low w = tt
 again-each t k (x ∷ l) low w = (again t k x (low .0) (w .0), again-each t k l (low .1) (w .1))
 
+pub accepted-33 : (h : List Call) → All (Again (after h .book)) (after h .account .accepted)
+accepted-33 h = again-each (after h) (kept h) (after h .account .accepted) (kept h .known) (kept h .held)
+
 pub again-33 : (h : List Call) → All (Again (after h .book)) (after h .account .applied)
 again-33 h =
     all-left (Again (after h .book)) (after h .account .applied) (after h .account .waiting)
-    (all-rearranged (Again (after h .book)) (kept h .once)
-    (again-each (after h) (kept h) (after h .account .accepted) (kept h .known) (kept h .held)))
+    (all-rearranged (Again (after h .book)) (kept h .once) (accepted-33 h))
 
 -- the number that a move answers is how many it adds to the account's applied ones
 pub counted : (h : List Call) (to n : ℕ) → moveIn (after h .book) to .answer ≡ Moved.Applied n

@@ -1,3 +1,4 @@
 pub mod Held
 pub mod Cases
 pub mod Kept
+pub mod Few

@@ -1,6 +1,7 @@
 -- Each refusal is given exactly when document 01's table says so, in its order.
 --   offering, moving                                        every answer has its reason
 --   offer-35-when .. offer-34-when, move-35-when, move-31-when, time-35-when, state-35-when, state-30-when
+--   offer-none-when, move-none-when                         no number is given exactly when no row holds
 use mathlib.Core.Path.{_≡_, refl, sym, ap, subst, _∙_}
 use mathlib.Core.Bool.{false}
 use mathlib.Core.Logic.{_↔_}
@@ -79,6 +80,10 @@ module _ (b : Book) (a : Activation) where
   given : (n : ℕ) → offerIn b a ≡ refused b n → offerNumber ≡ n
   given n e = ap (λ (x : Answered Heard). numberOf (x .answer)) e
 
+  -- what no row of the table says
+  abbrev pub NoneOffered : Type 0
+  NoneOffered = ¬ Spoiled b × (a .application ≤ 7) × (b .now ≤ a .time + memory) × (¬ Holds b a) × (length (b .held) < most)
+
   -- what each number says
   abbrev Says : ℕ → Type 0
   Says n =
@@ -87,6 +92,7 @@ module _ (b : Book) (a : Activation) where
       else if eqb n 32 then ¬ Spoiled b × (a .application ≤ 7) × (a .time + memory < b .now)
       else if eqb n 33 then ¬ Spoiled b × (a .application ≤ 7) × (b .now ≤ a .time + memory) × Holds b a
       else if eqb n 34 then ¬ Spoiled b × (a .application ≤ 7) × (b .now ≤ a .time + memory) × (¬ Holds b a) × (most ≤ length (b .held))
+      else if eqb n 0 then NoneOffered
       else Unit {0}
 
   says : (x : Answered Heard) → Offering b a x → Says (numberOf (x .answer))
@@ -95,8 +101,8 @@ module _ (b : Book) (a : Activation) where
   says x (Offering.past s k p) = (s, k, p)
   says x (Offering.held s k p h) = (s, k, p, h)
   says x (Offering.full s k p h f) = (s, k, p, h, f)
-  says x (Offering.now s k p h f t) = tt
-  says x (Offering.later s k h f t) = tt
+  says x (Offering.now s k p h f t) = (s, k, p, h, f)
+  says x (Offering.later s k h f t) = (s, k, omega arith, h, f)
 
   why : (n : ℕ) → offerNumber ≡ n → Says n
   why n e = subst Says e (says (offerIn b a) offering)
@@ -130,6 +136,22 @@ module _ (b : Book) (a : Activation) where
         (offer-34 b a (sound-true b (w .0)) (low-true _ (w .1)) (young-true (b .now) (a .time) (w .2)) (free-true b a (w .3)) (w .4)),
   )
 
+  taken : (x : Answered Heard) → offerIn b a ≡ x → numberOf (x .answer) ≡ 0 → offerNumber ≡ 0
+  taken x e z = ap (λ (y : Answered Heard). numberOf (y .answer)) e ∙ z
+
+  pub offer-none-when : (offerNumber ≡ 0) ↔ NoneOffered
+  offer-none-when = (
+    λ e. why 0 e,
+    λ w.
+        let s = sound-true b (w .0) in
+        let k = low-true _ (w .1) in
+        let p = young-true (b .now) (a .time) (w .2) in
+        let h = free-true b a (w .3) in
+        by (leb (a .time) (b .now))
+        (λ t. taken _ (offer-applies b a s k p h (w .4) (leb-true _ _ t)) refl)
+        (λ t. taken _ (offer-waits b a s k p h (w .4) (leb-false _ _ t)) refl),
+  )
+
 module _ (b : Book) (to : ℕ) where
   pub moving : Moving b to (moveIn b to)
   moving =
@@ -145,12 +167,12 @@ module _ (b : Book) (to : ℕ) where
   moved n e = ap (λ (x : Answered Moved). Move.numberOf (x .answer)) e
 
   abbrev Told : ℕ → Type 0
-  Told n = if eqb n 35 then Spoiled b else if eqb n 31 then ¬ Spoiled b × (to < b .now) else Unit {0}
+  Told n = if eqb n 35 then Spoiled b else if eqb n 31 then ¬ Spoiled b × (to < b .now) else if eqb n 0 then ¬ Spoiled b × (b .now ≤ to) else Unit {0}
 
   told : (x : Answered Moved) → Moving b to x → Told (Move.numberOf (x .answer))
   told x (Moving.spoiled s) = s
   told x (Moving.back s t) = (s, t)
-  told x (Moving.on s t) = tt
+  told x (Moving.on s t) = (s, t)
 
   reason : (n : ℕ) → moveNumber ≡ n → Told n
   reason n e = subst Told e (told (moveIn b to) moving)
@@ -160,6 +182,12 @@ module _ (b : Book) (to : ℕ) where
 
   pub move-31-when : (moveNumber ≡ 31) ↔ (¬ Spoiled b × (to < b .now))
   move-31-when = (λ e. reason 31 e, λ w. moved 31 (move-31 b to (sound-true b (w .0)) (w .1)))
+
+  pub move-none-when : (moveNumber ≡ 0) ↔ (¬ Spoiled b × (b .now ≤ to))
+  move-none-when = (
+    λ e. reason 0 e,
+    λ w. ap (λ (x : Answered Moved). Move.numberOf (x .answer)) (move-advances b to (sound-true b (w .0)) (w .1)),
+  )
 
 module _ (b : Book) where
   pub time-35-when : (timeNumber (timeIn b) ≡ 35) ↔ Spoiled b

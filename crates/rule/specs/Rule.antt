@@ -1,4 +1,4 @@
--- What an action does to an application's state: four rows of four states.
+-- What an action does to an application's state: four rows of four states (A/105, clauses 5.1.5 and 6.3).
 use Prim.Native.Nat.{ℕ}
 use mathlib.Core.Bool.{Bool}
 use mathlib.Core.List.{List}
