@@ -5,7 +5,12 @@ use activation::Activation;
 use activation::HELD;
 use activation::Held;
 use activation::is_past;
+use clock::ABOVE;
+use clock::ALREADY_HELD;
+use clock::FULL;
 use clock::Heard;
+use clock::PAST;
+use clock::SPOILED;
 use clock_words::WORDS;
 use clock_words::apps_in;
 use clock_words::mark;
@@ -28,17 +33,6 @@ ghost use Rattle.clock.specs.Book.{bookOf, spoiled};
 ghost use Rattle.clock_words.specs.Words.{size, appsIn, heldIn, heldsIn, clockIn, statesWord, pairs};
 ghost use Rattle.clock_host.specs.Lent.{lent, offerLent};
 ghost use Rattle.clock_host.specs.Held.{held};
-
-// What a refused offer answers.
-const ABOVE: u8 = 30;
-
-const PAST: u8 = 32;
-
-const ALREADY_HELD: u8 = 33;
-
-const FULL: u8 = 34;
-
-const SPOILED: u8 = 35;
 
 // What a field of a place's second word is multiplied by to begin at that bit. The fields end below bit 27.
 const BIT_16: u32 = 65536;
