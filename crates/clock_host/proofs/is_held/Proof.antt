@@ -54,7 +54,8 @@ loop-less : tie.Need-loop-less Inv-loop μ-loop
 loop-less c = omega arith
 
 loop-again : tie.Need-loop-again Inv-loop μ-loop
-loop-again c = let o = c .before .before .before .before .loop in let g = c .before .before .before .before .before .before .args in
+loop-again c = let o = c .before .before .before .before .loop in
+    let g = c .before .before .before .before .before .before .args in
     rw (c .is-one .ensures) (look-step (g .words .now) (g .n) (c .before .before .before .before .before .before .pre .0) (isOne (g .a)) (o .found) (o .i) (search needs)) ∙ o .inv
 
 returns : tie.Need-returns Inv-loop μ-loop

@@ -83,12 +83,13 @@ loop-less : tie.Need-loop-less Inv-loop μ-loop
 loop-less c = omega arith
 
 loop-again : tie.Need-loop-again Inv-loop μ-loop
-loop-again c = let o = c .before .before .before .before .before .loop in let g = c .before .before .before .before .before .before .before .args in (
-  omega arith,
-  simp length-set (o .inv .1),
-  keep-step (g .words .now) (o .words) (g .n) (o .i) (o .inv .1) (omega arith) (o .inv .3) (o .inv .2) (c .before .before .word-if .result) (c .word-if2 .result) (c .before .before .word-if .ensures) (c .word-if2 .ensures),
-  alike-more (o .words) (g .words .now) (o .i) (c .before .before .word-if .result) (c .word-if2 .result) (o .inv .3),
-)
+loop-again c = let o = c .before .before .before .before .before .loop in
+    let g = c .before .before .before .before .before .before .before .args in (
+      omega arith,
+      simp length-set (o .inv .1),
+      keep-step (g .words .now) (o .words) (g .n) (o .i) (o .inv .1) (omega arith) (o .inv .3) (o .inv .2) (c .before .before .word-if .result) (c .word-if2 .result) (c .before .before .word-if .ensures) (c .word-if2 .ensures),
+      alike-more (o .words) (g .words .now) (o .i) (c .before .before .word-if .result) (c .word-if2 .result) (o .inv .3),
+    )
 
 same-length : tie.Need-same-length Inv-loop μ-loop
 same-length c = c .before .loop .inv .1 ∙ sym (c .before .before .before .pre)

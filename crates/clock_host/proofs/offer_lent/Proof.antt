@@ -23,8 +23,9 @@ same-length : tie.Need-same-length
 same-length c = search needs
 
 returns-2 : tie.Need-returns-2
-returns-2 c = let w = c .before .before .before .before .before .args .words .now in let a = c .before .before .before .before .before .args .a in
-    lent-35 w a (c .before .before .before .if1 .left) (told (c .before .is-spoiled .ensures) (c .if2 .taken))
+returns-2 c =
+    let e1 = c .before .before .before in let g = e1 .before .before .args in
+    lent-35 (g .words .now) (g .a) (e1 .if1 .left) (told (c .before .is-spoiled .ensures) (c .if2 .taken))
 
 is-above-requires : tie.Need-is-above-requires
 is-above-requires c κs = search needs
@@ -33,8 +34,9 @@ same-length-2 : tie.Need-same-length-2
 same-length-2 c = search needs
 
 returns-3 : tie.Need-returns-3
-returns-3 c = let w = c .before .before .before .before .before .before .before .args .words .now in let a = c .before .before .before .before .before .before .before .args .a in
-    lent-30 w a (c .before .before .before .before .before .if1 .left) (told (c .before .before .before .is-spoiled .ensures) (c .before .before .if2 .left)) (told (c .before .is-above .ensures) (c .if3 .taken))
+returns-3 c =
+    let e2 = c .before .before in let e1 = e2 .before .before .before in let g = e1 .before .before .args in
+    lent-30 (g .words .now) (g .a) (e1 .if1 .left) (told (e2 .before .is-spoiled .ensures) (e2 .if2 .left)) (told (c .before .is-above .ensures) (c .if3 .taken))
 
 slice-read-now : tie.Need-slice-read-now
 slice-read-now c = search needs
@@ -46,8 +48,11 @@ same-length-3 : tie.Need-same-length-3
 same-length-3 c = search needs
 
 returns-4 : tie.Need-returns-4
-returns-4 c = let w = c .before .before .before .before .before .before .before .before .before .before .args .words .now in let a = c .before .before .before .before .before .before .before .before .before .before .args .a in
-    lent-32 w a (c .before .before .before .before .before .before .before .before .if1 .left) (told (c .before .before .before .before .before .before .is-spoiled .ensures) (c .before .before .before .before .before .if2 .left)) (told (c .before .before .before .before .is-above .ensures) (c .before .before .before .if3 .left)) (told (c .before .is-past .ensures) (c .if4 .taken))
+returns-4 c =
+    let e3 = c .before .before .before in let e2 = e3 .before .before in let e1 = e2 .before .before .before in
+    let g = e1 .before .before .args in
+    lent-32 (g .words .now) (g .a) (e1 .if1 .left) (told (e2 .before .is-spoiled .ensures) (e2 .if2 .left)) (told (e3 .before .is-above .ensures) (e3 .if3 .left))
+    (told (c .before .is-past .ensures) (c .if4 .taken))
 
 slice-read-n : tie.Need-slice-read-n
 slice-read-n c = search needs
@@ -63,15 +68,23 @@ same-length-4 : tie.Need-same-length-4
 same-length-4 c = search needs
 
 returns-5 : tie.Need-returns-5
-returns-5 c = let w = c .before .before .before .before .before .before .before .before .before .before .before .before .before .before .args .words .now in let a = c .before .before .before .before .before .before .before .before .before .before .before .before .before .before .args .a in
-    lent-33 w a (c .before .before .before .before .before .before .before .before .before .before .before .before .if1 .left) (told (c .before .before .before .before .before .before .before .before .before .before .is-spoiled .ensures) (c .before .before .before .before .before .before .before .before .before .if2 .left)) (told (c .before .before .before .before .before .before .before .before .is-above .ensures) (c .before .before .before .before .before .before .before .if3 .left)) (told (c .before .before .before .before .before .is-past .ensures) (c .before .before .before .before .if4 .left)) (told (c .before .is-held .ensures) (c .if5 .taken))
+returns-5 c =
+    let e4 = c .before .before .before .before in
+    let e3 = e4 .before .before .before in let e2 = e3 .before .before in let e1 = e2 .before .before .before in
+    let g = e1 .before .before .args in
+    lent-33 (g .words .now) (g .a) (e1 .if1 .left) (told (e2 .before .is-spoiled .ensures) (e2 .if2 .left)) (told (e3 .before .is-above .ensures) (e3 .if3 .left))
+    (told (e4 .before .is-past .ensures) (e4 .if4 .left)) (told (c .before .is-held .ensures) (c .if5 .taken))
 
 same-length-5 : tie.Need-same-length-5
 same-length-5 c = search needs
 
 returns-6 : tie.Need-returns-6
-returns-6 c = let w = c .before .before .before .before .before .before .before .before .before .before .before .before .before .before .before .args .words .now in let a = c .before .before .before .before .before .before .before .before .before .before .before .before .before .before .before .args .a in
-    lent-34 w a (c .before .before .before .before .before .before .before .before .before .before .before .before .before .if1 .left) (told (c .before .before .before .before .before .before .before .before .before .before .before .is-spoiled .ensures) (c .before .before .before .before .before .before .before .before .before .before .if2 .left)) (told (c .before .before .before .before .before .before .before .before .before .is-above .ensures) (c .before .before .before .before .before .before .before .before .if3 .left)) (told (c .before .before .before .before .before .before .is-past .ensures) (c .before .before .before .before .before .if4 .left)) (told (c .before .before .is-held .ensures) (c .before .if5 .left)) (c .if6 .taken)
+returns-6 c =
+    let e5 = c .before in let e4 = e5 .before .before .before .before in
+    let e3 = e4 .before .before .before in let e2 = e3 .before .before in let e1 = e2 .before .before .before in
+    let g = e1 .before .before .args in
+    lent-34 (g .words .now) (g .a) (e1 .if1 .left) (told (e2 .before .is-spoiled .ensures) (e2 .if2 .left)) (told (e3 .before .is-above .ensures) (e3 .if3 .left))
+    (told (e4 .before .is-past .ensures) (e4 .if4 .left)) (told (e5 .before .is-held .ensures) (e5 .if5 .left)) (c .if6 .taken)
 
 slice-read-apps-in : tie.Need-slice-read-apps-in
 slice-read-apps-in c = search needs
@@ -92,10 +105,19 @@ same-length-6 : tie.Need-same-length-6
 same-length-6 c = search needs
 
 returns-7 : tie.Need-returns-7
-returns-7 c = let w = c .before .before .before .before .before .before .before .before .before .before .before .before .before .before .before .before .before .before .before .before .before .before .before .before .before .args .words .now in let a = c .before .before .before .before .before .before .before .before .before .before .before .before .before .before .before .before .before .before .before .before .before .before .before .before .before .args .a in
+returns-7 c =
+    let put = c .before .before .before .before in let acted = put .before .before in
+    let t7 = acted .before .before in let e6 = t7 .before .before in
+    let e5 = e6 .before in let e4 = e5 .before .before .before .before in
+    let e3 = e4 .before .before .before in let e2 = e3 .before .before in let e1 = e2 .before .before .before in
+    let g = e1 .before .before .args in
     ap (lent Heard.Applied) (c .before .before .hold .ensures)
-    ∙ lent-applied w a (c .before .before .before .before .before .before .before .before .before .before .before .before .before .before .before .before .before .before .before .before .before .before .before .if1 .left) (told (c .before .before .before .before .before .before .before .before .before .before .before .before .before .before .before .before .before .before .before .before .before .is-spoiled .ensures) (c .before .before .before .before .before .before .before .before .before .before .before .before .before .before .before .before .before .before .before .before .if2 .left)) (told (c .before .before .before .before .before .before .before .before .before .before .before .before .before .before .before .before .before .before .before .is-above .ensures) (c .before .before .before .before .before .before .before .before .before .before .before .before .before .before .before .before .before .before .if3 .left)) (told (c .before .before .before .before .before .before .before .before .before .before .before .before .before .before .before .before .is-past .ensures) (c .before .before .before .before .before .before .before .before .before .before .before .before .before .before .before .if4 .left)) (told (c .before .before .before .before .before .before .before .before .before .before .before .before .is-held .ensures) (c .before .before .before .before .before .before .before .before .before .before .before .if5 .left)) (c .before .before .before .before .before .before .before .before .before .before .if6 .left) (c .before .before .before .before .states-word .result) (c .before .before .before .before .before .before .before .before .if7 .taken)
-    (c .before .before .before .before .states-word .ensures ∙ ap statesWord (c .before .before .before .before .before .apply .ensures ∙ ap (λ (x : List App). applied x (a .application) (a .action)) (c .before .before .before .before .before .before .apps-in .ensures)))
+    ∙ lent-applied (g .words .now) (g .a) (e1 .if1 .left) (told (e2 .before .is-spoiled .ensures) (e2 .if2 .left)) (told (e3 .before .is-above .ensures) (e3 .if3 .left))
+    (told (e4 .before .is-past .ensures) (e4 .if4 .left)) (told (e5 .before .is-held .ensures) (e5 .if5 .left)) (e6 .if6 .left)
+    (put .states-word .result) (t7 .if7 .taken)
+    (put .states-word .ensures
+    ∙ ap statesWord (put .before .apply .ensures)
+    ∙ ap (λ (x : List App). statesWord (applied x (g .a .application) (g .a .action))) (acted .apps-in .ensures))
 
 slice-read-states-in : tie.Need-slice-read-states-in
 slice-read-states-in c = search needs
@@ -110,9 +132,15 @@ same-length-7 : tie.Need-same-length-7
 same-length-7 c = search needs
 
 returns-8 : tie.Need-returns-8
-returns-8 c = let w = c .before .before .before .before .before .before .before .before .before .before .before .before .before .before .before .before .before .before .before .before .before .before .before .args .words .now in let a = c .before .before .before .before .before .before .before .before .before .before .before .before .before .before .before .before .before .before .before .before .before .before .before .args .a in
+returns-8 c =
+    let put = c .before .before .before .before in let e7 = put .before .before in let e6 = e7 .before .before in
+    let e5 = e6 .before in let e4 = e5 .before .before .before .before in
+    let e3 = e4 .before .before .before in let e2 = e3 .before .before in let e1 = e2 .before .before .before in
+    let g = e1 .before .before .args in
     ap (lent Heard.Waiting) (c .before .before .hold2 .ensures)
-    ∙ lent-waiting w a (c .before .before .before .before .before .before .before .before .before .before .before .before .before .before .before .before .before .before .before .before .before .if1 .left) (told (c .before .before .before .before .before .before .before .before .before .before .before .before .before .before .before .before .before .before .before .is-spoiled .ensures) (c .before .before .before .before .before .before .before .before .before .before .before .before .before .before .before .before .before .before .if2 .left)) (told (c .before .before .before .before .before .before .before .before .before .before .before .before .before .before .before .before .before .is-above .ensures) (c .before .before .before .before .before .before .before .before .before .before .before .before .before .before .before .before .if3 .left)) (told (c .before .before .before .before .before .before .before .before .before .before .before .before .before .before .is-past .ensures) (c .before .before .before .before .before .before .before .before .before .before .before .before .before .if4 .left)) (told (c .before .before .before .before .before .before .before .before .before .before .is-held .ensures) (c .before .before .before .before .before .before .before .before .before .if5 .left)) (c .before .before .before .before .before .before .before .before .if6 .left) (c .before .before .before .before .states-in .result) (c .before .before .before .before .before .before .if7 .left) (c .before .before .before .before .states-in .ensures)
+    ∙ lent-waiting (g .words .now) (g .a) (e1 .if1 .left) (told (e2 .before .is-spoiled .ensures) (e2 .if2 .left)) (told (e3 .before .is-above .ensures) (e3 .if3 .left))
+    (told (e4 .before .is-past .ensures) (e4 .if4 .left)) (told (e5 .before .is-held .ensures) (e5 .if5 .left)) (e6 .if6 .left)
+    (put .states-in .result) (e7 .if7 .left) (put .states-in .ensures)
 
 pub offer-lent-spec : {M : Type 1} → statement M
 offer-lent-spec =

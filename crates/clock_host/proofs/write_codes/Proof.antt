@@ -62,12 +62,14 @@ loop-less : tie.Need-loop-less Inv-loop μ-loop
 loop-less c = omega arith
 
 loop-again : tie.Need-loop-again Inv-loop μ-loop
-loop-again c = let o = c .before .before .before .before .loop in let g = c .before .before .before .before .before .before .before .args in let w = g .words .now in let long = places w in (
-  length-set (o .codes) (o .i) (c .code .result) ∙ o .inv .0,
-  omega arith,
-  numbered-more (heldsIn w) (o .codes) (o .i) (c .code .result) (omega (arith, c .before .before .before .before .before .before .before .pre)) (omega (arith, o .inv, c .before .before .before .before .before .before .before .pre)) (o .inv .2)
-      (subst (λ (h : Held). Coded (h .activation) (c .code .result)) (sym (place-at w (o .i) (omega (arith, c .before .before .before .before .before .before .before .pre)))) (c .code .ensures)),
-)
+loop-again c = let o = c .before .before .before .before .loop in
+    let g = c .before .before .before .before .before .before .before .args in let w = g .words .now in
+    let long = places w in (
+      length-set (o .codes) (o .i) (c .code .result) ∙ o .inv .0,
+      omega arith,
+      numbered-more (heldsIn w) (o .codes) (o .i) (c .code .result) (omega (arith, c .before .before .before .before .before .before .before .pre)) (omega (arith, o .inv, c .before .before .before .before .before .before .before .pre)) (o .inv .2)
+          (subst (λ (h : Held). Coded (h .activation) (c .code .result)) (sym (place-at w (o .i) (omega (arith, c .before .before .before .before .before .before .before .pre)))) (c .code .ensures)),
+    )
 
 same-length : tie.Need-same-length Inv-loop μ-loop
 same-length c = c .before .loop .inv .0

@@ -71,7 +71,8 @@ four-in-requires : tie.Need-four-in-requires Inv-loop μ-loop
 four-in-requires c κs = search needs
 
 returns : tie.Need-returns Inv-loop μ-loop
-returns c = let o = c .before .before .before .before .before .before .before .before .loop in let g = c .before .before .before .before .before .before .before .before .before .before .before .args in
+returns c = let o = c .before .before .before .before .before .before .before .before .loop in
+    let g = c .before .before .before .before .before .before .before .before .before .before .before .args in
     sym
     (o .inv .2
     ∙ four-found (g .codes .now) (c .before .before .before .before .before .before .before .before .before .lesser .result) (o .inv .1) (o .i) (omega arith)
@@ -81,13 +82,14 @@ loop-less : tie.Need-loop-less Inv-loop μ-loop
 loop-less c = omega arith
 
 loop-again : tie.Need-loop-again Inv-loop μ-loop
-loop-again c = let o = c .before .before .before .before .before .before .before .before .loop in let g = c .before .before .before .before .before .before .before .before .before .before .before .args in (
-  omega arith,
-  o .inv .1,
-  o .inv .2
-      ∙ four-more (g .codes .now) (c .before .before .before .before .before .before .before .before .before .lesser .result) (o .inv .1) (o .i) (omega arith)
-      (rw (← c .before .before .two-of-four .ensures, ← c .before .four-in .ensures) (c .if1 .left)),
-)
+loop-again c = let o = c .before .before .before .before .before .before .before .before .loop in
+    let g = c .before .before .before .before .before .before .before .before .before .before .before .args in (
+      omega arith,
+      o .inv .1,
+      o .inv .2
+          ∙ four-more (g .codes .now) (c .before .before .before .before .before .before .before .before .before .lesser .result) (o .inv .1) (o .i) (omega arith)
+          (rw (← c .before .before .two-of-four .ensures, ← c .before .four-in .ensures) (c .if1 .left)),
+    )
 
 two-from-requires : tie.Need-two-from-requires Inv-loop μ-loop
 two-from-requires c κs = search needs

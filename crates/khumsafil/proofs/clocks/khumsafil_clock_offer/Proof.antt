@@ -8,7 +8,8 @@ use Rattle.khumsafil.proofs.clocks.khumsafil_clock_offer.Tie as tie
 
 returns : tie.Need-returns
 returns c = let g = c .before .before .args in let w = g .words .now in
-    let e : unchanged w 255 ≡ offerCall w (g .application) (g .event) (g .action) (g .time) = offer-255 w (g .application) (g .event) (g .action) (g .time) (c .if1 .taken) in
+    let e : unchanged w 255 ≡ offerCall w (g .application) (g .event) (g .action) (g .time) =
+    offer-255 w (g .application) (g .event) (g .action) (g .time) (c .if1 .taken) in
     (ap (λ (x : Called). x .answer) e, ap (λ (x : Called). x .words) e)
 
 action-of-requires : tie.Need-action-of-requires
@@ -33,24 +34,36 @@ same-length : tie.Need-same-length
 same-length c = search needs
 
 returns-2 : tie.Need-returns-2
-returns-2 c = let g = c .before .before .before .before .before .before .before .before .before .before .args in
-    let e = offer-answered (g .words .now) (g .application) (g .event) (g .action) (g .time) (c .before .before .before .before .before .before .before .before .if1 .left) (c .before .before .before .before .before .before .before .action-of .result) (c .before .before .before .before .before .before .before .action-of .ensures) (c .before .before .before .before .before .offer-lent .result) _ (c .before .before .before .before .before .offer-lent .ensures) in
+returns-2 c =
+    let said = c .before .before .before .before .before in let act = said .before .before in let e1 = act .before in
+    let g = e1 .before .before .args in
+    let e =
+    offer-answered (g .words .now) (g .application) (g .event) (g .action) (g .time) (e1 .if1 .left)
+    (act .action-of .result) (act .action-of .ensures) (said .offer-lent .result) _ (said .offer-lent .ensures) in
     (ap heardNo (sym (c .before .answer .given .1)) ∙ ap (λ (x : Called). x .answer) e, ap (λ (x : Called). x .words) e)
 
 same-length-2 : tie.Need-same-length-2
 same-length-2 c = search needs
 
 returns-3 : tie.Need-returns-3
-returns-3 c = let g = c .before .before .before .before .before .before .before .before .before .args in
-    let e = offer-answered (g .words .now) (g .application) (g .event) (g .action) (g .time) (c .before .before .before .before .before .before .before .if1 .left) (c .before .before .before .before .before .before .action-of .result) (c .before .before .before .before .before .before .action-of .ensures) (c .before .before .before .before .offer-lent .result) _ (c .before .before .before .before .offer-lent .ensures) in
+returns-3 c =
+    let said = c .before .before .before .before in let act = said .before .before in let e1 = act .before in
+    let g = e1 .before .before .args in
+    let e =
+    offer-answered (g .words .now) (g .application) (g .event) (g .action) (g .time) (e1 .if1 .left)
+    (act .action-of .result) (act .action-of .ensures) (said .offer-lent .result) _ (said .offer-lent .ensures) in
     (ap heardNo (sym (c .enum-told .given .1)) ∙ ap (λ (x : Called). x .answer) e, ap (λ (x : Called). x .words) e)
 
 same-length-3 : tie.Need-same-length-3
 same-length-3 c = search needs
 
 returns-4 : tie.Need-returns-4
-returns-4 c = let g = c .before .before .before .before .before .before .before .before .before .args in
-    let e = offer-answered (g .words .now) (g .application) (g .event) (g .action) (g .time) (c .before .before .before .before .before .before .before .if1 .left) (c .before .before .before .before .before .before .action-of .result) (c .before .before .before .before .before .before .action-of .ensures) (c .before .before .before .before .offer-lent .result) _ (c .before .before .before .before .offer-lent .ensures) in
+returns-4 c =
+    let said = c .before .before .before .before in let act = said .before .before in let e1 = act .before in
+    let g = e1 .before .before .args in
+    let e =
+    offer-answered (g .words .now) (g .application) (g .event) (g .action) (g .time) (e1 .if1 .left)
+    (act .action-of .result) (act .action-of .ensures) (said .offer-lent .result) _ (said .offer-lent .ensures) in
     (ap heardNo (sym (c .enum-told2 .given .1)) ∙ ap (λ (x : Called). x .answer) e, ap (λ (x : Called). x .words) e)
 
 pub khumsafil-clock-offer-spec : {M : Type 1} → statement M
