@@ -21,17 +21,17 @@ ghost use Rattle.clock.specs.Move.{MoveSays};
 ghost use Rattle.clock.specs.Ask.{timeIn, stateIn};
 
 // What a refused call answers.
-const ABOVE: u8 = 30;
+pub const ABOVE: u8 = 30;
 
-const MOVED_BACK: u8 = 31;
+pub const MOVED_BACK: u8 = 31;
 
-const PAST: u8 = 32;
+pub const PAST: u8 = 32;
 
-const ALREADY_HELD: u8 = 33;
+pub const ALREADY_HELD: u8 = 33;
 
-const FULL: u8 = 34;
+pub const FULL: u8 = 34;
 
-const SPOILED: u8 = 35;
+pub const SPOILED: u8 = 35;
 
 // The clock, the applications, and the activations held: the first `count` of the array.
 pub struct Clock {

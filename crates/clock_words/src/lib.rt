@@ -95,7 +95,7 @@ fn app(number: u32) -> App
 }
 
 // The applications, of whose states a word has two bits each.
-fn apps_in(word: u32) -> [App; APPLICATIONS]
+pub fn apps_in(word: u32) -> [App; APPLICATIONS]
     ensures { λ r. ⌜ r ≡ appsIn word ⌝ }
 {
     let a = app(word % 4);
@@ -116,7 +116,7 @@ fn bits(app: App) -> u32
     state_number(state)
 }
 
-fn states_word(apps: [App; APPLICATIONS]) -> u32
+pub fn states_word(apps: [App; APPLICATIONS]) -> u32
     ensures { λ r. ⌜ r ≡ statesWord apps ⌝ }
 {
     let a = bits(apps[0]);
@@ -150,7 +150,7 @@ fn held_of(time: u32, word: u32) -> Held
 }
 
 // The second word of a place.
-fn mark(h: Held) -> u32
+pub fn mark(h: Held) -> u32
     ensures { λ r. ⌜ r ≡ markOf h ⌝ }
 {
     let a = h.activation;

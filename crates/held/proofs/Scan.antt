@@ -4,10 +4,11 @@
 --   any-found, any-more, any-end         a scan for one that passes
 --   gather-step, gather-end              the same, looking at all
 --   same-found, same-more, same-end      a scan for two equal numbers
+--   two-of-four, four-found, four-more   the same, four at a time
 --   numbered-none, numbered-more         the numbers of the held
 --   two-alike-same                       two are equal exactly where two of the held are alike
 --   take-within   past the array's end there is no more
-use mathlib.Core.Path.{_≡_, refl, sym, ap}
+use mathlib.Core.Path.{_≡_, refl, sym, ap, _∙_}
 use mathlib.Core.List.{List, [], _∷_, map}
 use mathlib.Core.Bool.{Bool, true, false, _||_}
 use Prim.Native.Nat.{ℕ, _+_, _<_, _≤_, min}
@@ -24,7 +25,7 @@ use Rattle.activation.specs.Code.{Coded, Narrow}
 use Rattle.activation.proofs.Codes.{code-alike}
 use Rattle.held.specs.Lists.{anyOf, All}
 use Rattle.held.specs.Held.{isHeld, twoAlike}
-use Rattle.held.specs.Codes.{twoSame, numberOf, Numbered}
+use Rattle.held.specs.Codes.{oneOf, twoSame, numberOf, Numbered}
 use Rattle.held.proofs.Lists.{all-append, map-append}
 
 module _ {A : Type 0} (l : List A) (n : ℕ) (fits : n ≤ length l) where
@@ -88,6 +89,104 @@ module _ (l : List ℕ) (n : ℕ) (fits : n ≤ length l) (i : ℕ) where
   pub same-end : n ≤ i → twoSame (drop i (take n l)) ≡ false
   unfolding twoSame
   same-end h = rw (from-end l n fits i h)
+
+-- two of four are equal, by the six pairs
+six : (p q r s t u : Bool)
+    → ((((p || q) || r) || s) || t) || u ≡ (p || (q || (r || false))) || ((s || (t || false)) || ((u || false) || (false || false)))
+six true q r s t u = refl
+six false true r s t u = refl
+six false false true s t u = refl
+six false false false true t u = refl
+six false false false false true u = refl
+six false false false false false true = refl
+six false false false false false false = refl
+
+pub two-of-four : (a b c d : ℕ)
+    → ((((eqb a b || eqb a c) || eqb a d) || eqb b c) || eqb b d) || eqb c d ≡ twoSame (a ∷ b ∷ c ∷ d ∷ [])
+unfolding twoSame anyOf
+two-of-four a b c d = six (eqb a b) (eqb a c) (eqb a d) (eqb b c) (eqb b d) (eqb c d)
+
+-- one of four passes somewhere exactly where each of them does somewhere
+mixed : (p q r s k l m n : Bool) → (((p || q) || r) || s) || (k || (l || (m || n))) ≡ (p || k) || ((q || l) || ((r || m) || (s || n)))
+mixed true q r s k l m n = refl
+mixed false q r s true l m n = by (q) (λ t. rw t) λ f. by r (λ t. rw (f, t)) λ g. by s (λ t. rw (f, g, t)) λ h. rw (f, g, h)
+mixed false true r s false l m n = refl
+mixed false false r s false true m n = by r (λ t. rw t) λ g. by s (λ t. rw (g, t)) λ h. rw (g, h)
+mixed false false true s false false m n = refl
+mixed false false false s false false true n = by s (λ t. rw t) λ h. rw h
+mixed false false false true false false false n = refl
+mixed false false false false false false false n = refl
+
+any-four : (a b c d : ℕ) (l : List ℕ)
+    → anyOf (oneOf a b c d) l ≡ anyOf (eqb a) l || (anyOf (eqb b) l || (anyOf (eqb c) l || anyOf (eqb d) l))
+unfolding anyOf
+any-four a b c d [] = refl
+any-four a b c d (x ∷ l) =
+    rw (any-four a b c d l)
+    (mixed (eqb a x) (eqb b x) (eqb c x) (eqb d x) (anyOf (eqb a) l) (anyOf (eqb b) l) (anyOf (eqb c) l) (anyOf (eqb d) l))
+
+-- four rows at once: the pairs among them, each of them with what follows, and then what follows
+rows : (p q r s t u k l m n z : Bool)
+    → (p || (q || (r || k))) || ((s || (t || l)) || ((u || m) || (n || z)))
+    ≡ ((p || (q || (r || false))) || ((s || (t || false)) || ((u || false) || (false || false)))) || ((k || (l || (m || n))) || z)
+rows true q r s t u k l m n z = refl
+rows false true r s t u k l m n z = refl
+rows false false true s t u k l m n z = refl
+rows false false false true t u true l m n z = refl
+rows false false false false true u true l m n z = refl
+rows false false false false false true true l m n z = refl
+rows false false false false false false true l m n z = refl
+rows false false false true t u false l m n z = refl
+rows false false false false true u false l m n z = refl
+rows false false false false false true false true m n z = refl
+rows false false false false false false false true m n z = refl
+rows false false false false false true false false m n z = refl
+rows false false false false false false false false true n z = refl
+rows false false false false false false false false false true z = refl
+rows false false false false false false false false false false z = refl
+
+four-rows : (a b c d : ℕ) (l : List ℕ)
+    → twoSame (a ∷ b ∷ c ∷ d ∷ l) ≡ twoSame (a ∷ b ∷ c ∷ d ∷ []) || (anyOf (oneOf a b c d) l || twoSame l)
+unfolding twoSame anyOf
+four-rows a b c d l =
+    rw (any-four a b c d l)
+    (rows (eqb a b) (eqb a c) (eqb a d) (eqb b c) (eqb b d) (eqb c d) (anyOf (eqb a) l) (anyOf (eqb b) l) (anyOf (eqb c) l) (anyOf (eqb d) l) (twoSame l))
+
+module _ (l : List ℕ) (n : ℕ) (fits : n ≤ length l) (i : ℕ) (room : i + 4 ≤ n) where
+  four-here : drop i (take n l) ≡ getD l i 0 ∷ getD l (i + 1) 0 ∷ getD l (i + 2) 0 ∷ getD l (i + 3) 0 ∷ drop (i + 4) (take n l)
+  four-here =
+      let one : i + 1 + 1 ≡ i + 2 = omega arith in
+      let two : i + 2 + 1 ≡ i + 3 = omega arith in
+      let three : i + 3 + 1 ≡ i + 4 = omega arith in
+      from-here l n fits i 0 (omega arith)
+      ∙ ap (λ (t : List ℕ). getD l i 0 ∷ t)
+      (from-here l n fits (i + 1) 0 (omega arith)
+      ∙ ap (λ (k : ℕ). getD l (i + 1) 0 ∷ drop k (take n l)) one
+      ∙ ap (λ (t : List ℕ). getD l (i + 1) 0 ∷ t)
+      (from-here l n fits (i + 2) 0 (omega arith)
+      ∙ ap (λ (k : ℕ). getD l (i + 2) 0 ∷ drop k (take n l)) two
+      ∙ ap (λ (t : List ℕ). getD l (i + 2) 0 ∷ t)
+      (from-here l n fits (i + 3) 0 (omega arith) ∙ ap (λ (k : ℕ). getD l (i + 3) 0 ∷ drop k (take n l)) three)))
+
+  abbrev four : List ℕ
+  four = getD l i 0 ∷ getD l (i + 1) 0 ∷ getD l (i + 2) 0 ∷ getD l (i + 3) 0 ∷ []
+
+  abbrev follow : Bool
+  follow = anyOf (oneOf (getD l i 0) (getD l (i + 1) 0) (getD l (i + 2) 0) (getD l (i + 3) 0)) (drop (i + 4) (take n l))
+
+  pub four-found : twoSame four || follow ≡ true → twoSame (drop i (take n l)) ≡ true
+  four-found t =
+      ap twoSame four-here
+      ∙ four-rows (getD l i 0) (getD l (i + 1) 0) (getD l (i + 2) 0) (getD l (i + 3) 0) (drop (i + 4) (take n l))
+      ∙ or-join (twoSame four) follow (twoSame (drop (i + 4) (take n l)))
+      ∙ rw t
+
+  pub four-more : twoSame four || follow ≡ false → twoSame (drop i (take n l)) ≡ twoSame (drop (i + 4) (take n l))
+  four-more t =
+      ap twoSame four-here
+      ∙ four-rows (getD l i 0) (getD l (i + 1) 0) (getD l (i + 2) 0) (getD l (i + 3) 0) (drop (i + 4) (take n l))
+      ∙ or-join (twoSame four) follow (twoSame (drop (i + 4) (take n l)))
+      ∙ rw t
 
 -- the numbers of the held, one more at a time
 pub numbered-none : Numbered [] []

@@ -8,6 +8,10 @@ use Rattle.activation.specs.declared.Held.{Held}
 use Rattle.activation.specs.Code.{codeOf, Narrow}
 use Rattle.held.specs.Lists.{anyOf, All}
 
+-- one of four numbers
+abbrev pub oneOf : ℕ → ℕ → ℕ → ℕ → ℕ → Bool
+oneOf a b c d x = ((eqb a x || eqb b x) || eqb c x) || eqb d x
+
 -- two of the numbers are equal
 unfoldable pub twoSame : List ℕ → Bool
 twoSame [] = false

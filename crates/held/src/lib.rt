@@ -10,13 +10,14 @@ use activation::is_past;
 use activation::within;
 use rule::is_above;
 ghost use mathlib.Core.Path.{_≡_};
-ghost use Prim.Native.Nat.{_<_, _≤_};
+ghost use mathlib.Core.List.{[], _∷_};
+ghost use Prim.Native.Nat.{_<_, _≤_, min};
 ghost use lib.Dec.{ltb, eqb};
 ghost use lib.ListN.{length, take, drop};
 ghost use Rattle.activation.specs.Limits.{most};
 ghost use Rattle.held.specs.Lists.{anyOf};
 ghost use Rattle.held.specs.Held.{isOne, isHeld, twoAlike, wrong, spoiledBy};
-ghost use Rattle.held.specs.Codes.{twoSame, Numbered};
+ghost use Rattle.held.specs.Codes.{oneOf, twoSame, Numbered};
 
 // Whether one of the first n held is the given activation.
 fn is_among(a: Activation, n: usize, held: [Held; HELD]) -> bool
@@ -69,12 +70,34 @@ fn is_in(x: u64, from: usize, n: usize, codes: &[u64]) -> bool
     found
 }
 
-// Whether two of the first n numbers are equal.
-fn two_same(n: usize, codes: &[u64]) -> bool
+// Whether one of four numbers stands among the first n, from a place on: each of those is read once for the four.
+fn four_in(a: u64, b: u64, c: u64, d: u64, from: usize, n: usize, codes: &[u64]) -> bool
     requires { ⌜ n ≤ length (now codes) ⌝ }
-    ensures { λ r. ⌜ r ≡ twoSame (take n (now (codes .entry))) ⌝ }
+    ensures { λ r. ⌜ r ≡ anyOf (oneOf a b c d) (drop from (take n (now (codes .entry)))) ⌝ }
 {
-    let mut i: usize = 0;
+    let mut found = false;
+    let mut i = from;
+    while i < n {
+        let x = codes[i];
+        found = found | ((a == x) | (b == x) | (c == x) | (d == x));
+        i += 1;
+    }
+    found
+}
+
+// Whether two of four numbers are equal.
+fn two_of_four(a: u64, b: u64, c: u64, d: u64) -> bool
+    ensures { λ r. ⌜ r ≡ twoSame (a ∷ b ∷ c ∷ d ∷ []) ⌝ }
+{
+    (a == b) | (a == c) | (a == d) | (b == c) | (b == d) | (c == d)
+}
+
+// Whether two of the first n numbers are equal, from a place on.
+fn two_from(from: usize, n: usize, codes: &[u64]) -> bool
+    requires { ⌜ n ≤ length (now codes) ⌝ }
+    ensures { λ r. ⌜ r ≡ twoSame (drop from (take n (now (codes .entry)))) ⌝ }
+{
+    let mut i = from;
     while i < n {
         let x = codes[i];
         i += 1;
@@ -83,6 +106,31 @@ fn two_same(n: usize, codes: &[u64]) -> bool
         }
     }
     false
+}
+
+fn lesser(a: usize, b: usize) -> usize
+    ensures { λ r. ⌜ r ≡ min a b ⌝ }
+{
+    if a < b { a } else { b }
+}
+
+// Whether two of the first n numbers are equal: four are compared with all that follow, while there are four.
+pub fn two_same(n: usize, codes: &[u64]) -> bool
+    ensures { λ r. ⌜ r ≡ twoSame (take n (now (codes .entry))) ⌝ }
+{
+    let end = lesser(n, codes.len());
+    let mut i: usize = 0;
+    while 4 <= end - i {
+        let a = codes[i];
+        let b = codes[i + 1];
+        let c = codes[i + 2];
+        let d = codes[i + 3];
+        i += 4;
+        if two_of_four(a, b, c, d) | four_in(a, b, c, d, i, end, codes) {
+            return true;
+        }
+    }
+    two_from(i, end, codes)
 }
 
 // Whether two of the held are one activation.

@@ -1,6 +1,6 @@
 -- Each way out of a call on a clock that is lent in words: what leads to it, and what the call then is.
---   fresh-35, fresh-put                                         of a fresh clock
---   offer-255, offer-35, offer-refused, offer-applied, offer-waiting   of an offer
+--   fresh-35, fresh-put                                          of a fresh clock
+--   offer-255, offer-answered                                    of an offer
 --   move-35, move-refused, move-applied                          of a move
 --   few                                                          a move applies at most 32
 --   time-35, time-asked, state-35, state-asked                   of the two questions
@@ -9,6 +9,7 @@ use mathlib.Core.Bool.{Bool, true, false}
 use mathlib.Core.List.{List, [], _∷_}
 use Prim.Native.Nat.{ℕ, _*_, _^_, _<_, _≤_}
 use native.Mathlib.Omega.{arith}
+use lib.Dec.{eqb}
 use lib.ListN.{length, take, length-take}
 use borrow.Author.Tests.{lt-ltb, le-ltb, eq-eqb, ne-eqb}
 use Rattle.base.proofs.Cases.{by}
@@ -20,18 +21,18 @@ use Rattle.held.specs.Lists.{onlyOf}
 use Rattle.held.specs.Waiting.{waitingOf, dueOf, reached}
 use Rattle.clock.specs.declared.Clock.{Clock}
 use Rattle.clock.specs.declared.Heard.{Heard}
-use Rattle.clock.specs.declared.Offered.{Offered}
 use Rattle.clock.specs.declared.Moved.{Moved}
 use Rattle.clock.specs.declared.Advanced.{Advanced}
 use Rattle.clock.specs.declared.AskedTime.{AskedTime}
 use Rattle.clock.specs.declared.AskedState.{AskedState}
 use Rattle.clock.specs.Book.{Book, bookOf, fresh, Answered}
-use Rattle.clock.specs.Offer.{offerIn, OfferSays}
+use Rattle.clock.specs.Offer.{offerIn}
 use Rattle.clock.specs.Move.{moveIn, MoveSays, faults, refused, advanced}
 use Rattle.clock.specs.Ask.{timeIn, stateIn}
 use Rattle.clock_words.specs.Words.{actionNo, heldsIn, placeIn, clockIn, putIn}
 use Rattle.clock_words.proofs.Laws.{up-length}
-use Rattle.khumsafil.specs.Clock.{Called, unchanged, bookIn, activation, freshCall, offerCall, moveCall, timeWord, timeCall, stateWord, stateCall}
+use Rattle.clock_host.specs.Lent.{Lent, lent, after, offerLent}
+use Rattle.khumsafil.specs.Clock.{Called, unchanged, bookIn, activation, freshCall, heardCall, offerCall, moveCall, timeWord, timeCall, stateWord, stateCall}
 
 -- a call that was answered and put its record
 abbrev pub put : List ℕ → ℕ → Clock → Called
@@ -62,6 +63,20 @@ module _ (w : List ℕ) where
   unfolding stateCall
   state-asked n z c e r a = rw (eq-eqb _ _ z, a, e)
 
+-- an offer's answer in a number
+abbrev pub heardNo : Heard → ℕ
+heardNo Heard.Applied = 1 * 2 ^ 8
+heardNo Heard.Waiting = 2 * 2 ^ 8
+heardNo (Heard.Refused n) = n
+
+abbrev pub numbered : Lent → Called
+numbered l = record { answer = heardNo (l .answer); words = l .words }
+
+same : (w : List ℕ) (x : Heard) (b : Book) → numbered (after w x b) ≡ heardCall w x b
+same w Heard.Applied b = refl
+same w Heard.Waiting b = refl
+same w (Heard.Refused n) b = refl
+
 module _ (w : List ℕ) (application event action time : ℕ) where
   abbrev call : Called
   call = offerCall w application event action time
@@ -71,29 +86,18 @@ module _ (w : List ℕ) (application event action time : ℕ) where
   offer-255 h = rw (lt-ltb _ _ h)
 
   module _ (h : action ≤ 3) where
-    pub offer-35 : (length w ≡ 67 → ⊥) → unchanged w 35 ≡ call
-    unfolding offerCall
-    offer-35 n = rw (le-ltb _ _ h, ne-eqb _ _ n)
+    offer-lent : numbered (offerLent w (activation application event action time)) ≡ call
+    unfolding offerCall offerLent
+    offer-lent =
+        let r = offerIn (bookIn w) (activation application event action time) in
+        by (eqb (length w) 67) (λ t. rw (le-ltb _ _ h, t) (same w (r .answer) (r .book))) (λ f. rw (le-ltb _ _ h, f))
 
-    module _ (z : length w ≡ 67) (c : Clock) (e : c ≡ clockIn w) (x : Action) (q : x ≡ actionNo action) (r : Offered)
-        (s : OfferSays c (record { application = application; event = event; action = x; time = time }) r) where
-      told : record { answer = r .answer; book = bookOf (r .clock) } ≡ offerIn (bookIn w) (activation application event action time)
-      told =
-          s .says
-          ∙ ap (λ (k : Clock). offerIn (bookOf k) (record { application = application; event = event; action = x; time = time })) e
-          ∙ ap (λ (y : Action). offerIn (bookIn w) (record { application = application; event = event; action = y; time = time })) q
-
-      pub offer-refused : (n : ℕ) → r .answer ≡ Heard.Refused n → unchanged w n ≡ call
-      unfolding offerCall
-      offer-refused n a = rw (le-ltb _ _ h, eq-eqb _ _ z, ← told, a)
-
-      pub offer-applied : r .answer ≡ Heard.Applied → put w 256 (r .clock) ≡ call
-      unfolding offerCall putIn
-      offer-applied a = rw (le-ltb _ _ h, eq-eqb _ _ z, ← told, a)
-
-      pub offer-waiting : r .answer ≡ Heard.Waiting → put w 512 (r .clock) ≡ call
-      unfolding offerCall putIn
-      offer-waiting a = rw (le-ltb _ _ h, eq-eqb _ _ z, ← told, a)
+    pub offer-answered : (x : Action) → x ≡ actionNo action → (r : Heard) (v : List ℕ)
+        → lent r v ≡ offerLent w (record { application = application; event = event; action = x; time = time })
+        → record { answer = heardNo r; words = v } ≡ call
+    offer-answered x q r v e =
+        ap numbered (e ∙ ap (λ (y : Action). offerLent w (record { application = application; event = event; action = y; time = time })) q)
+        ∙ offer-lent
 
 -- those that pass are no more than all
 pub only-fewer : {A : Type 0} (p : A → Bool) (l : List A) → length (onlyOf p l) ≤ length l

@@ -54,10 +54,6 @@ pub extern "C" fn khumsafil_clock_offer(
     if LAST_ACTION < action {
         return NO_SUCH_ACTION;
     }
-    if words.len() != clock_words::WORDS {
-        return NO_RECORD as u16;
-    }
-    let clock = clock_words::record_in(words);
     let act = clock_words::action_of(action as u32);
     let a = Activation {
         application,
@@ -65,19 +61,11 @@ pub extern "C" fn khumsafil_clock_offer(
         action: act,
         time,
     };
-    let offered = clock.offer(a);
-    let answer = offered.answer;
-    let next = offered.clock;
+    let answer = clock_host::offer_lent(words, a);
     match answer {
         Heard::Refused(n) => n as u16,
-        Heard::Applied => {
-            clock_words::put(next, words);
-            APPLIED
-        }
-        Heard::Waiting => {
-            clock_words::put(next, words);
-            WAITING
-        }
+        Heard::Applied => APPLIED,
+        Heard::Waiting => WAITING,
     }
 }
 

@@ -548,7 +548,7 @@ fn main() {
     println!(
         "A walk is of 41 descriptors or about as many. A call on a clock is timed with the copying of its record."
     );
-    println!("The library's record is 67 words that it reads and puts back whole; the other's is a structure and a list.\n");
+    println!("The library's record is 67 words, the other's a structure and a list.\n");
     println!("| nanoseconds for a call | library | independent Rust | ratio | lowest to highest |");
     println!("|---|---|---|---|---|");
     OTHERS
