@@ -3,7 +3,7 @@
 --   none                  no section is left to read
 --   refused, other, fallen   the next section is refused
 --   next                  the next section is taken
-use mathlib.Core.Path.{_≡_, refl, sym, ap, _∙_}
+use mathlib.Core.Path.{_≡_, ap, _∙_}
 use mathlib.Core.Bool.{Bool, true, false, not}
 use mathlib.Core.List.{List, [], _∷_}
 use Prim.Native.Nat.{ℕ, suc, _-_, _<_, _≤_}
@@ -11,7 +11,7 @@ use native.Mathlib.Omega.{arith}
 use lib.Dec.{ltb}
 use lib.ListN.{length}
 use borrow.Author.Tests.{lt-ltb, le-ltb}
-use Rattle.base.specs.Choice.{if_then_else_, Row, _if_, first}
+use Rattle.base.specs.Choice.{_if_, first}
 use Rattle.section.specs.declared.Header.{Header}
 use Rattle.file.specs.Layout.{sameTable}
 use Rattle.file.specs.Scan.{refused, accepted, firstOf, added, sectionAt, sectionsOf}

@@ -3,14 +3,12 @@
 --   Alike         the same answer, the same store, and equal records
 --   load-same     so of every file and every store
 use mathlib.Core.Path.{_≡_, refl}
-use mathlib.Core.Bool.{Bool, true, false, not}
 use mathlib.Core.List.{List}
-use Prim.Native.Nat.{ℕ, _<_}
+use Prim.Native.Nat.{ℕ}
 use native.Mathlib.Omega.{arith}
 use lib.Dec.{eqb}
 use lib.ListN.{length}
 use borrow.Author.Tests.{eqb-false}
-use Rattle.base.specs.Choice.{if_then_else_}
 use Rattle.base.proofs.Cases.{by}
 use Rattle.berth.specs.Berth.{places, storeSize}
 use Rattle.section.specs.declared.Header.{Header}

@@ -2,15 +2,14 @@
 --   unreadable-exactly   11 is given exactly when the number is cut off, not shortest, or above 65,535
 --   only-11              no other number is given
 use mathlib.Core.Path.{_≡_, refl, sym, ap, _∙_}
-use mathlib.Core.Bool.{Bool, true, false, _||_, _&&_}
+use mathlib.Core.Bool.{Bool, true, false, _||_}
 use mathlib.Core.List.{List, [], _∷_, _++_}
-use mathlib.Core.Logic.{_↔_, _⊎_, ⊎-elim, inl, inr}
-use Prim.Native.Nat.{ℕ, zero, suc, _+_, _<_, _≤_}
+use mathlib.Core.Logic.{_↔_, ⊎-elim, inl, inr}
+use Prim.Native.Nat.{ℕ, _+_, _<_, _≤_}
 use native.Mathlib.Omega.{arith}
 use lib.Dec.{ltb, eqb}
 use lib.ListN.{length, length-append}
-use borrow.Author.Tests.{lt-ltb, le-ltb, ltb-true, ltb-false, eq-eqb, eqb-true}
-use Rattle.base.specs.Choice.{if_then_else_}
+use borrow.Author.Tests.{lt-ltb, le-ltb, ltb-true, ltb-false, eqb-true}
 use Rattle.base.specs.Tables.{Decides}
 use Rattle.base.proofs.Cases.{by, unlike, and-left, and-right}
 use Rattle.number.specs.Number.{largest, groups, worth, cutOff, lastIsZero, notShortest, numberIn}

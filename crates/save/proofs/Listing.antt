@@ -1,9 +1,8 @@
 -- The held sections in the file, one after another.
---   listed-append                       sections after sections
 --   held-count, listed-size             how many they are, and how many bytes they take
 --   none-listed, one-listed, all-listed the output, turn by turn, where there is room (`Ready`)
 use mathlib.Core.Path.{_≡_, refl, sym, ap, _∙_}
-use mathlib.Core.List.{List, [], _∷_, _++_, append-assoc, append-nil}
+use mathlib.Core.List.{List, append-nil}
 use Prim.Native.Nat.{ℕ, zero, suc, _+_, _<_, _≤_}
 use native.Mathlib.Nat.{le-of-suc-le-suc, eq-or-lt-of-le, not-suc-le-zero}
 use mathlib.Core.Logic.{⊎-elim}
@@ -15,15 +14,11 @@ use Rattle.base.proofs.Cases.{by}
 use Rattle.berth.specs.Berth.{berthSize, places, sections, storeSize, laid, standing}
 use Rattle.berth.proofs.Laid.{laid-beside}
 use Rattle.file.specs.Layout.{listed, chosen}
+use Rattle.file.proofs.Listed.{listed-append}
 use Rattle.save.specs.Sizes.{heldOf, sizeOf, countOf, sizeBelow, countBelow, Berthed}
 use Rattle.save.specs.Save.{heldBelow}
 use Rattle.save.proofs.Adding.{none-sized, next-size}
 use Rattle.save.proofs.Writing.{standing-length, laid-nothing}
-
-pub listed-append : (a b : List (List ℕ)) → listed (a ++ b) ≡ listed a ++ listed b
-unfolding listed
-listed-append [] b = refl
-listed-append (s ∷ a) b = rw (listed-append a b) (simp append-assoc)
 
 -- one section
 one-count : (size : ℕ) (store : List ℕ) (p n : ℕ) → length (heldOf size store p n) ≡ countOf size
