@@ -4,10 +4,11 @@ ghost use mathlib.Core.Path.{_≡_};
 ghost use mathlib.Core.Bool.{true, not};
 ghost use Prim.Native.Nat.{_+_, _<_, _≤_};
 ghost use lib.Dec.{eqb};
-ghost use lib.ListN.{length, getD};
-ghost use Rattle.base.specs.Bytes.{same, zeros};
+ghost use mathlib.Core.List.{_++_};
+ghost use lib.ListN.{length, getD, drop};
+ghost use Rattle.base.specs.Bytes.{part, same, zeros};
 ghost use Rattle.berth.specs.Berth.{berthSize, places, sections, storeSize, beginsAt, laid, padded, wipedWhere, standing};
-ghost use Rattle.berth.specs.Calls.{isPlace, isBerth, putIn, wipedIn, wipedWhereIn, standsIn, copiedIn};
+ghost use Rattle.berth.specs.Calls.{blockSize, isPlace, isBerth, putIn, wipedIn, wipedWhereIn, standsIn, copiedIn};
 
 // A berth's bytes, the sections of a table, the places of a shelf, and the bytes of the whole store.
 pub const BERTH: usize = 1024;
@@ -18,6 +19,9 @@ pub const PLACES: usize = 4;
 
 pub const STORE: usize = 65536;
 
+// The bytes that are copied at a time.
+const BLOCK: usize = 256;
+
 // Zeroes what it is lent.
 fn fill(lent: &mut [u8])
     ensures { λ _. ⌜ now (lent .exit) ≡ zeros (length (now (lent .entry))) ⌝ }
@@ -27,6 +31,39 @@ fn fill(lent: &mut [u8])
         lent[i] = 0;
         i += 1;
     }
+}
+
+// Copies a block from a place of one run of bytes to the same place of another.
+fn copy_block(from: &[u8], to: &mut [u8], at: usize)
+    requires { ⌜ (at + blockSize ≤ length (now from)) × (at + blockSize ≤ length (now to)) ⌝ }
+    ensures { λ _. ⌜ now (to .exit) ≡ laid (now (to .entry)) at (part (now (from .entry)) at blockSize) ⌝ }
+{
+    let mut block = [0u8; 256];
+    let mut i = 0;
+    while i < BLOCK {
+        block[i] = from[at + i];
+        i += 1;
+    }
+    let mut k = 0;
+    while k < BLOCK {
+        to[at + k] = block[k];
+        k += 1;
+    }
+}
+
+// Copies all bytes to the front of others. Each block is read whole before any of it is written: the compiler then moves many
+// bytes at a time, and need not ask whether the two runs meet.
+fn copy(from: &[u8], to: &mut [u8])
+    requires { ⌜ length (now from) ≤ length (now to) ⌝ }
+    ensures { λ _. ⌜ now (to .exit) ≡ now (from .entry) ++ drop (length (now (from .entry))) (now (to .entry)) ⌝ }
+{
+    let size = from.len();
+    let mut at = 0;
+    while BLOCK <= size - at {
+        copy_block(from, to, at);
+        at += BLOCK;
+    }
+    bytes::copy(&from[at..size], &mut to[at..size]);
 }
 
 // Whether two runs of bytes are the same throughout. It reads all of them: without a way out at each byte the compiler
@@ -62,7 +99,7 @@ fn put_from(store: &mut [u8], from: usize, size: usize, section: &[u8])
 {
     let rest = from + section.len();
     let end = from + size;
-    bytes::copy(section, &mut store[from..rest]);
+    copy(section, &mut store[from..rest]);
     fill(&mut store[rest..end]);
 }
 
@@ -179,6 +216,6 @@ pub fn copy_out(store: &[u8], p: usize, n: usize, count: usize, out: &mut [u8])
         return;
     }
     if is_berth(store.len(), p, n) {
-        bytes::copy(view(store, p, n, count), out);
+        copy(view(store, p, n, count), out);
     }
 }

@@ -18,9 +18,8 @@ use Rattle.section.specs.declared.Reading.{Reading}
 use Rattle.number.specs.Number.{numberAt}
 use Rattle.number.specs.declared.Number.{Number}
 use Rattle.file.specs.Layout.{form, fewest, most, shortest, longest, sameTable}
-use Rattle.file.specs.Scan.{refused, nothing, firstOf, added, sectionAt, sectionsOf, followOf, countOf, formOf, scanOf}
+use Rattle.file.specs.Scan.{Seen, refused, nothing, firstOf, added, sectionAt, sectionsOf, followOf, countOf, formOf, scanOf}
 use Rattle.file.specs.declared.Part.{Part}
-use Rattle.file.specs.declared.Seen.{Seen}
 use Rattle.file.specs.declared.Scan.{Scan}
 use Rattle.file.specs.declared.Scanned.{Scanned}
 use Rattle.file.proofs.Found.{found, sound-number}

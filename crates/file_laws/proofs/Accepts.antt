@@ -19,9 +19,8 @@ use Rattle.number.specs.declared.Number.{Number}
 use Rattle.number.proofs.OneSpelling.{read-spelt}
 use Rattle.number.proofs.Bounds.{spelt-some}
 use Rattle.file.specs.Layout.{form, most, shortest, longest, listed, fileOf, chosen, sameTable, Rising, SoundTable}
-use Rattle.file.specs.Scan.{accepted, nothing, firstOf, added, readingOf, sectionAt, sectionsOf, scanOf, holds, foundIn, tableIn}
+use Rattle.file.specs.Scan.{Seen, accepted, nothing, firstOf, added, readingOf, sectionAt, sectionsOf, scanOf, holds, foundIn, tableIn}
 use Rattle.file.specs.declared.Part.{Part}
-use Rattle.file.specs.declared.Seen.{Seen}
 use Rattle.file.specs.declared.Scan.{Scan}
 use Rattle.file.proofs.Parts.{read-as}
 use Rattle.file.proofs.Found.{sound-size, sound-number}

@@ -28,9 +28,8 @@ use Rattle.number.proofs.OneSpelling.{read-spelt}
 use Rattle.number.proofs.Bounds.{within}
 use Rattle.number.proofs.Unreadable.{unreadable-exactly, only-11}
 use Rattle.file.specs.Layout.{form, fewest, most, shortest, longest, listed, sameTable, Rising}
-use Rattle.file.specs.Scan.{refused, nothing, firstOf, added, readingOf, lengthOf, sectionAt, sectionsOf, followOf, countOf, formOf, scanOf}
+use Rattle.file.specs.Scan.{Seen, refused, nothing, firstOf, added, readingOf, lengthOf, sectionAt, sectionsOf, followOf, countOf, formOf, scanOf}
 use Rattle.file.specs.declared.Part.{Part}
-use Rattle.file.specs.declared.Seen.{Seen}
 use Rattle.file.specs.declared.Scan.{Scan}
 use Rattle.file.proofs.Listed.{listed-append, same-refl}
 use Rattle.file.proofs.Parts.{no-number, short, long, past, read-as}

@@ -23,9 +23,8 @@ use Rattle.number.specs.Number.{largest, spelling, spelt, groups, worth, cutOff
 use Rattle.number.specs.declared.Number.{Number}
 use Rattle.number.proofs.OneSpelling.{read-spelt}
 use Rattle.file.specs.Layout.{form, fewest, most, shortest, longest, listed, sameTable, Rising}
-use Rattle.file.specs.Scan.{refused, nothing, firstOf, readingOf, lengthOf, sectionAt, sectionsOf, scanOf}
+use Rattle.file.specs.Scan.{Seen, refused, nothing, firstOf, readingOf, lengthOf, sectionAt, sectionsOf, scanOf}
 use Rattle.file.specs.declared.Part.{Part}
-use Rattle.file.specs.declared.Seen.{Seen}
 use Rattle.file.proofs.Sections.{faulty, other, fallen}
 use Rattle.file.proofs.Front.{counted, formed}
 use Rattle.file_laws.specs.Fault.{Begins, ToCome}

@@ -20,9 +20,8 @@ use Rattle.number.specs.Number.{groups, cutOff, numberIn, numberAt}
 use Rattle.number.specs.declared.Number.{Number}
 use Rattle.number.proofs.Reading.{one-in, zero-in, two-in, zero-in-3, three-in, above-in}
 use Rattle.file.specs.Layout.{form, fewest, most, shortest, longest, largestFile, sameTable}
-use Rattle.file.specs.Scan.{nothing, firstOf, added, readingOf, lengthOf, sectionAt, sectionsOf, followOf, countOf, formOf, scanOf}
+use Rattle.file.specs.Scan.{Seen, nothing, firstOf, added, readingOf, lengthOf, sectionAt, sectionsOf, followOf, countOf, formOf, scanOf}
 use Rattle.file.specs.declared.Part.{Part}
-use Rattle.file.specs.declared.Seen.{Seen}
 
 -- a number and the place after it: below 128 it takes one byte, and below 128 × 128 two at most
 abbrev Near : ℕ → ℕ → ℕ → Type 0

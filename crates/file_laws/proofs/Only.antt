@@ -19,9 +19,8 @@ use Rattle.number.specs.Number.{spelt, numberAt, Bytes}
 use Rattle.number.specs.declared.Number.{Number}
 use Rattle.number.proofs.OneSpelling.{only-spelt}
 use Rattle.file.specs.Layout.{form, fewest, most, listed, fileOf, sameTable, Rising, SoundTable}
-use Rattle.file.specs.Scan.{refused, nothing, firstOf, added, sectionAt, sectionsOf, followOf, countOf, formOf, scanOf}
+use Rattle.file.specs.Scan.{Seen, refused, nothing, firstOf, added, sectionAt, sectionsOf, followOf, countOf, formOf, scanOf}
 use Rattle.file.specs.declared.Part.{Part}
-use Rattle.file.specs.declared.Seen.{Seen}
 use Rattle.file.specs.declared.Scan.{Scan}
 use Rattle.file.proofs.Found.{Found, found, sound-header}
 
