@@ -1,6 +1,6 @@
 -- What the steps of the code come to.
 --   gather, same-other, same-more, same-end       a difference is gathered byte by byte
---   filled, lent-back, wiped-back, put-back, viewed          a part is filled, comes back to the store, is looked at
+--   filled, wiped-back, put-back, viewed          a part is filled, comes back to the store, is looked at
 --   has-place, has-berth, is-place, is-berth      what the tests for a place and for a berth say
 --   wiped-done, put-done, stands-done, copied-done, seen-length      a call that names a berth
 --   put-long, put-nowhere, wiped-nowhere, stands-long, stands-nowhere, copied-long, copied-narrow, copied-nowhere    one that does not
@@ -68,7 +68,7 @@ module _ (a b : List ℕ) where
       e ∙ ap (λ t. every t (λ k. eqb (byte a k) (byte b k))) n ∙ rw (eq-eqb _ _ h)
 
 -- a part that was lent comes back with other bytes
-pub lent-back : (old : List ℕ) (at end : ℕ) (bytes : List ℕ) → at ≤ end → length bytes ≡ end - at → putMid at (end - at) old bytes ≡ laid old at bytes
+lent-back : (old : List ℕ) (at end : ℕ) (bytes : List ℕ) → at ≤ end → length bytes ≡ end - at → putMid at (end - at) old bytes ≡ laid old at bytes
 unfolding laid
 lent-back old at end bytes h e = rw (drop-drop, ← e)
 

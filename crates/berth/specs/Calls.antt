@@ -8,10 +8,6 @@ use Rattle.base.specs.Choice.{if_then_else_}
 use Rattle.base.specs.Bytes.{same}
 use Rattle.berth.specs.Berth.{berthSize, places, sections, storeSize, put, wiped, wipedWhere, standing}
 
--- the bytes that are copied at a time
-abbrev pub blockSize : ℕ
-blockSize = 256
-
 -- a store of that size is whole, and has place p
 unfoldable pub isPlace : ℕ → ℕ → Bool
 isPlace size p = eqb size storeSize && ltb p places

@@ -6,9 +6,9 @@ ghost use Prim.Native.Nat.{_+_, _<_, _≤_};
 ghost use lib.Dec.{eqb};
 ghost use mathlib.Core.List.{_++_};
 ghost use lib.ListN.{length, getD, drop};
-ghost use Rattle.base.specs.Bytes.{part, same, zeros};
+ghost use Rattle.base.specs.Bytes.{same, zeros};
 ghost use Rattle.berth.specs.Berth.{berthSize, places, sections, storeSize, beginsAt, laid, padded, wipedWhere, standing};
-ghost use Rattle.berth.specs.Calls.{blockSize, isPlace, isBerth, putIn, wipedIn, wipedWhereIn, standsIn, copiedIn};
+ghost use Rattle.berth.specs.Calls.{isPlace, isBerth, putIn, wipedIn, wipedWhereIn, standsIn, copiedIn};
 
 // A berth's bytes, the sections of a table, the places of a shelf, and the bytes of the whole store.
 pub const BERTH: usize = 1024;
@@ -18,9 +18,6 @@ pub const SECTIONS: usize = 16;
 pub const PLACES: usize = 4;
 
 pub const STORE: usize = 65536;
-
-// The bytes that are copied at a time.
-const BLOCK: usize = 256;
 
 // Zeroes what it is lent.
 fn fill(lent: &mut [u8])
@@ -33,37 +30,24 @@ fn fill(lent: &mut [u8])
     }
 }
 
-// Copies a block from a place of one run of bytes to the same place of another.
-fn copy_block(from: &[u8], to: &mut [u8], at: usize)
-    requires { ⌜ (at + blockSize ≤ length (now from)) × (at + blockSize ≤ length (now to)) ⌝ }
-    ensures { λ _. ⌜ now (to .exit) ≡ laid (now (to .entry)) at (part (now (from .entry)) at blockSize) ⌝ }
+// Copies a section's bytes to the front of others. All are read before any is written, so that the compiler need not ask whether
+// the two runs meet: it moves them at once and keeps no array.
+fn copy(section: &[u8], to: &mut [u8])
+    requires { ⌜ (length (now section) ≤ berthSize) × (length (now section) ≤ length (now to)) ⌝ }
+    ensures { λ _. ⌜ now (to .exit) ≡ now (section .entry) ++ drop (length (now (section .entry))) (now (to .entry)) ⌝ }
 {
-    let mut block = [0u8; 256];
+    let size = section.len();
+    let mut held = [0u8; 1024];
     let mut i = 0;
-    while i < BLOCK {
-        block[i] = from[at + i];
+    while i < size {
+        held[i] = section[i];
         i += 1;
     }
     let mut k = 0;
-    while k < BLOCK {
-        to[at + k] = block[k];
+    while k < size {
+        to[k] = held[k];
         k += 1;
     }
-}
-
-// Copies all bytes to the front of others. Each block is read whole before any of it is written: the compiler then moves many
-// bytes at a time, and need not ask whether the two runs meet.
-fn copy(from: &[u8], to: &mut [u8])
-    requires { ⌜ length (now from) ≤ length (now to) ⌝ }
-    ensures { λ _. ⌜ now (to .exit) ≡ now (from .entry) ++ drop (length (now (from .entry))) (now (to .entry)) ⌝ }
-{
-    let size = from.len();
-    let mut at = 0;
-    while BLOCK <= size - at {
-        copy_block(from, to, at);
-        at += BLOCK;
-    }
-    bytes::copy(&from[at..size], &mut to[at..size]);
 }
 
 // Whether two runs of bytes are the same throughout. It reads all of them: without a way out at each byte the compiler
@@ -94,7 +78,7 @@ fn wipe_from(store: &mut [u8], from: usize, size: usize)
 
 // Stores bytes from a place on, and zeros after them, up to size bytes in all.
 fn put_from(store: &mut [u8], from: usize, size: usize, section: &[u8])
-    requires { ⌜ (from + size ≤ length (now store)) × (length (now section) ≤ size) ⌝ }
+    requires { ⌜ (from + size ≤ length (now store)) × (length (now section) ≤ size) × (size ≤ berthSize) ⌝ }
     ensures { λ _. ⌜ now (store .exit) ≡ laid (now (store .entry)) from (padded size (now (section .entry))) ⌝ }
 {
     let rest = from + section.len();

@@ -1,74 +1,92 @@
--- `berth::copy` meets its promise: block after block, and then the bytes that are fewer than a block.
-use mathlib.Core.Path.{_≡_, refl, sym, ap, _∙_}
-use Prim.Native.Nat.{_+_, _-_, _≤_}
+-- `berth::copy` meets its promise: the first loop reads the bytes, the second writes them.
+use mathlib.Core.Path.{_≡_, refl, _∙_}
+use mathlib.Core.List.{_++_}
+use Prim.Native.Nat.{_-_, _≤_}
 use native.Mathlib.Omega.{arith}
-use lib.ListN.{length, take, drop, length-take, length-drop}
+use lib.ListN.{length, take, drop, length-set}
 use borrow.Author.Needs.{needs}
-use Rattle.berth.specs.Calls.{blockSize}
-use Rattle.berth.proofs.Copying.{copiedTo, none-copied, next-copied, copied-length, copied-rest}
+use Rattle.berth.specs.Berth.{berthSize}
+use Rattle.berth.proofs.Copying.{read-more, read-end, written-more, written-end}
 use Rattle.berth.proofs.copy.Statement.{statement}
 use Rattle.berth.proofs.copy.Tie as tie
 
 abbrev Inv-loop : tie.InvT-loop
-Inv-loop from to₀ size at₀ to at =
-    (at ≤ size) × (length to ≡ length to₀) × (to ≡ copiedTo from to₀ at)
+Inv-loop section to size held₀ i₀ held i = (i ≤ size) × (length held ≡ berthSize) × (take i held ≡ take i section)
 
 abbrev μ-loop : tie.MeasureT-loop
-μ-loop from to₀ size at₀ to at = size - at
+μ-loop section to size held₀ i₀ held i = size - i
 
-loop-holds : tie.Need-loop-holds Inv-loop μ-loop
-loop-holds c = (search needs, refl, none-copied (c .before .before .args .from .now) (c .before .before .args .to .now))
+abbrev Inv-loop2 : tie.InvT-loop2
+Inv-loop2 section to₀ size held i k₀ to k =
+    (k ≤ size)
+    × (length held ≡ berthSize)
+    × (take size held ≡ section)
+    × (length to ≡ length to₀)
+    × (to ≡ take k held ++ drop k to₀)
 
-sub-loop : tie.Need-sub-loop Inv-loop μ-loop
-sub-loop c = search needs
+abbrev μ-loop2 : tie.MeasureT-loop2
+μ-loop2 section to₀ size held i k₀ to k = size - k
 
-copy-block-requires : tie.Need-copy-block-requires Inv-loop μ-loop
-copy-block-requires c κs = search needs
+loop-holds : tie.Need-loop-holds Inv-loop μ-loop Inv-loop2 μ-loop2
+loop-holds c = (search needs, refl, refl)
 
-add-at : tie.Need-add-at Inv-loop μ-loop
-add-at c = search needs
+shared-slice-read-held : tie.Need-shared-slice-read-held Inv-loop μ-loop Inv-loop2 μ-loop2
+shared-slice-read-held c = search needs
 
-loop-less : tie.Need-loop-less Inv-loop μ-loop
+array-write-held : tie.Need-array-write-held Inv-loop μ-loop Inv-loop2 μ-loop2
+array-write-held c = search needs
+
+add-i : tie.Need-add-i Inv-loop μ-loop Inv-loop2 μ-loop2
+add-i c = search needs
+
+loop-less : tie.Need-loop-less Inv-loop μ-loop Inv-loop2 μ-loop2
 loop-less c = search needs
 
-loop-again : tie.Need-loop-again Inv-loop μ-loop
+loop-again : tie.Need-loop-again Inv-loop μ-loop Inv-loop2 μ-loop2
 loop-again c =
-    let a = c .before .before .before .before .before .before .before .before .args in
-    let at = c .before .before .before .before .before .loop in
-    let e = next-copied (a .from .now) (a .to .now) (search needs) (at .at) (search needs) (at .to) (at .inv .2) _ (c .before .before .copy-block .ensures) in
-    (search needs, ap length e ∙ copied-length (a .from .now) (a .to .now) (search needs) (at .at + blockSize) (search needs), e)
+    let at = c .before .before .loop in
+    let section = c .before .before .before .args .section .now in
+    (search needs, length-set (at .held) _ _ ∙ at .inv .1, read-more section (at .held) (search needs) (at .i) (at .inv .2) (search needs))
 
-sub-copy : tie.Need-sub-copy Inv-loop μ-loop
-sub-copy c = search needs
+loop2-holds : tie.Need-loop2-holds Inv-loop μ-loop Inv-loop2 μ-loop2
+loop2-holds c =
+    let at = c .before .loop in
+    let section = c .before .before .args .section .now in
+    (search needs, at .inv .1, read-end section (at .held) (search needs) (at .i) (at .inv .2) (omega arith), refl, refl)
 
-part-copy-start : tie.Need-part-copy-start Inv-loop μ-loop
-part-copy-start c = search needs
+array-read-to : tie.Need-array-read-to Inv-loop μ-loop Inv-loop2 μ-loop2
+array-read-to c = search needs
 
-part-copy-end : tie.Need-part-copy-end Inv-loop μ-loop
-part-copy-end c = search needs
+slice-write-to : tie.Need-slice-write-to Inv-loop μ-loop Inv-loop2 μ-loop2
+slice-write-to c = search needs
 
-sub-copy-2 : tie.Need-sub-copy-2 Inv-loop μ-loop
-sub-copy-2 c = search needs
+add-k : tie.Need-add-k Inv-loop μ-loop Inv-loop2 μ-loop2
+add-k c = search needs
 
-part-copy-start-2 : tie.Need-part-copy-start-2 Inv-loop μ-loop
-part-copy-start-2 c = search needs
+loop2-less : tie.Need-loop2-less Inv-loop μ-loop Inv-loop2 μ-loop2
+loop2-less c = search needs
 
-part-copy-end-2 : tie.Need-part-copy-end-2 Inv-loop μ-loop
-part-copy-end-2 c = search needs
+loop2-again : tie.Need-loop2-again Inv-loop μ-loop Inv-loop2 μ-loop2
+loop2-again c =
+    let at = c .before .loop2 in
+    let held = c .before .before .before .loop .held in
+    let old = c .before .before .before .before .args .to .now in (
+      search needs,
+      at .inv .1,
+      at .inv .2,
+      length-set (at .to) _ _ ∙ at .inv .3,
+      written-more held old (at .to) (at .k) (at .inv .4) (search needs) (search needs),
+    )
 
-copy-requires : tie.Need-copy-requires Inv-loop μ-loop
-copy-requires c κs =
-    let at = c .before .before .before .loop in
-    simp (length-take, length-drop) (omega (arith, at .inv .0, at .inv .1))
-
-same-length : tie.Need-same-length Inv-loop μ-loop
+same-length : tie.Need-same-length Inv-loop μ-loop Inv-loop2 μ-loop2
 same-length c = search needs
 
-returns : tie.Need-returns Inv-loop μ-loop
+returns : tie.Need-returns Inv-loop μ-loop Inv-loop2 μ-loop2
 returns c =
-    let a = c .before .before .before .before .before .before .before .before .before .args in
-    let at = c .before .before .before .before .before .before .loop in
-    copied-rest (a .from .now) (a .to .now) (search needs) (at .at) (at .inv .0) (at .to) (at .inv .2) (length (a .from .now)) refl _ (c .before .before .copy .ensures .1)
+    let at = c .before .loop2 in
+    let held = c .before .before .before .loop .held in
+    let a = c .before .before .before .before .args in
+    written-end held (a .to .now) (at .to) (at .k) (at .inv .4) (a .section .now) (omega arith) (at .inv .2)
 
 pub copy-spec : {M : Type 1} → statement M
 copy-spec =
@@ -76,18 +94,19 @@ copy-spec =
     (tie.spec
     Inv-loop
     μ-loop
+    Inv-loop2
+    μ-loop2
     loop-holds
-    sub-loop
-    copy-block-requires
-    add-at
+    shared-slice-read-held
+    array-write-held
+    add-i
     loop-less
     loop-again
-    sub-copy
-    part-copy-start
-    part-copy-end
-    sub-copy-2
-    part-copy-start-2
-    part-copy-end-2
-    copy-requires
+    loop2-holds
+    array-read-to
+    slice-write-to
+    add-k
+    loop2-less
+    loop2-again
     same-length
     returns)
