@@ -14,7 +14,7 @@ use native.Mathlib.Numerals.{add-one}
 use lib.Bits.{bitOr, bitXor, and-le-l, and-le-r, or-add-and, xor-add-and, xor-self, or-zero-l}
 use lib.Dec.{eqb, ltb, leb}
 use borrow.Rule.Slice.PartMut.{midOf, putMid, mid-len}
-use lib.Seq.{drop-drop, take-length}
+use lib.Seq.{drop-drop}
 use Rattle.berth.specs.Berth.{berthSize, storeSize, places, sections, beginsAt, laid, padded, put, wiped, wipedWhere, standing}
 use Rattle.berth.specs.Calls.{isPlace, isBerth, goesIn, putIn, wipedIn, wipedWhereIn, standsIn, copiedIn}
 use Rattle.berth.proofs.Berths.{standing-length}
@@ -83,7 +83,7 @@ module _ (old : List ℕ) (from size : ℕ) (h : from + size ≤ length old) whe
   -- the section, and then the zeros after it
   module _ (section : List ℕ) (l : length section ≤ size) where
     pub put-back : (copied rest : List ℕ)
-        → copied ≡ take (length section) section ++ drop (length section) (midOf from (from + length section - from) old)
+        → copied ≡ section ++ drop (length section) (midOf from (from + length section - from) old)
         → rest ≡ zeros (length (midOf (from + length section) (from + size - (from + length section)) (putMid from (from + length section - from) old copied)))
         → putMid (from + length section) (from + size - (from + length section)) (putMid from (from + length section - from) old copied) rest
         ≡ laid old from (padded size section)
@@ -94,8 +94,7 @@ module _ (old : List ℕ) (from size : ℕ) (h : from + size ≤ length old) whe
         let first = putMid from (at - from) old copied in
         let a : length (midOf from (at - from) old) ≡ at - from = mid-len from at old (omega arith) in
         let c : copied ≡ section =
-        e ∙ ap (λ t. t ++ drop (length section) (midOf from (at - from) old)) (take-length section)
-        ∙ ap (λ t. section ++ t) (drop-of-length-le (midOf from (at - from) old) {i = length section} (omega arith))
+        e ∙ ap (λ t. section ++ t) (drop-of-length-le (midOf from (at - from) old) {i = length section} (omega arith))
         ∙ append-nil section in
         let k : length section ≡ at - from = omega arith in
         let m : first ≡ laid old from section =
@@ -175,11 +174,10 @@ module _ (store : List ℕ) (p n : ℕ) (b : isBerth (length store) p n ≡ true
     unfolding standsIn goesIn
     stands-done section = rw (v, b, le-leb _ _ h)
 
-    pub copied-done : (out : List ℕ) → count ≤ length out → take (length seen) seen ++ drop (length seen) out ≡ copiedIn store p n count out
+    pub copied-done : (out : List ℕ) → count ≤ length out → seen ++ drop (length seen) out ≡ copiedIn store p n count out
     unfolding copiedIn goesIn
     copied-done out l =
-        ap (λ t. t ++ drop (length seen) out) (take-length seen)
-        ∙ ap (λ t. seen ++ drop t out) seen-length
+        ap (λ t. seen ++ drop t out) seen-length
         ∙ rw (v, b, le-leb _ _ h, le-leb _ _ l)
 
 -- a call that names none, or brings too much

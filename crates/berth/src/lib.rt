@@ -4,7 +4,8 @@ ghost use mathlib.Core.Path.{_≡_};
 ghost use mathlib.Core.Bool.{true, not};
 ghost use Prim.Native.Nat.{_+_, _<_, _≤_};
 ghost use lib.Dec.{eqb};
-ghost use lib.ListN.{length, getD};
+ghost use mathlib.Core.List.{_++_};
+ghost use lib.ListN.{length, getD, drop};
 ghost use Rattle.base.specs.Bytes.{same, zeros};
 ghost use Rattle.berth.specs.Berth.{berthSize, places, sections, storeSize, beginsAt, laid, padded, wipedWhere, standing};
 ghost use Rattle.berth.specs.Calls.{isPlace, isBerth, putIn, wipedIn, wipedWhereIn, standsIn, copiedIn};
@@ -26,6 +27,26 @@ fn fill(lent: &mut [u8])
     while i < lent.len() {
         lent[i] = 0;
         i += 1;
+    }
+}
+
+// Copies a section's bytes to the front of others. All are read before any is written, so that the compiler need not ask whether
+// the two runs meet: it moves them at once and keeps no array.
+fn copy(section: &[u8], to: &mut [u8])
+    requires { ⌜ (length (now section) ≤ berthSize) × (length (now section) ≤ length (now to)) ⌝ }
+    ensures { λ _. ⌜ now (to .exit) ≡ now (section .entry) ++ drop (length (now (section .entry))) (now (to .entry)) ⌝ }
+{
+    let size = section.len();
+    let mut held = [0u8; 1024];
+    let mut i = 0;
+    while i < size {
+        held[i] = section[i];
+        i += 1;
+    }
+    let mut k = 0;
+    while k < size {
+        to[k] = held[k];
+        k += 1;
     }
 }
 
@@ -57,12 +78,12 @@ fn wipe_from(store: &mut [u8], from: usize, size: usize)
 
 // Stores bytes from a place on, and zeros after them, up to size bytes in all.
 fn put_from(store: &mut [u8], from: usize, size: usize, section: &[u8])
-    requires { ⌜ (from + size ≤ length (now store)) × (length (now section) ≤ size) ⌝ }
+    requires { ⌜ (from + size ≤ length (now store)) × (length (now section) ≤ size) × (size ≤ berthSize) ⌝ }
     ensures { λ _. ⌜ now (store .exit) ≡ laid (now (store .entry)) from (padded size (now (section .entry))) ⌝ }
 {
     let rest = from + section.len();
     let end = from + size;
-    bytes::copy(section, &mut store[from..rest]);
+    copy(section, &mut store[from..rest]);
     fill(&mut store[rest..end]);
 }
 
@@ -179,6 +200,6 @@ pub fn copy_out(store: &[u8], p: usize, n: usize, count: usize, out: &mut [u8])
         return;
     }
     if is_berth(store.len(), p, n) {
-        bytes::copy(view(store, p, n, count), out);
+        copy(view(store, p, n, count), out);
     }
 }

@@ -1,8 +1,8 @@
 -- What is so of a section that is found at a place of the file.
 --   sound-size, sound-header, sound-number     what a sound section says of itself
 --   found     its length is written there, it lies in the file, and it is sound
-use mathlib.Core.Path.{_≡_, refl, sym, ap, subst, _∙_}
-use mathlib.Core.Bool.{Bool, true, false, _||_}
+use mathlib.Core.Path.{_≡_}
+use mathlib.Core.Bool.{_||_}
 use mathlib.Core.List.{List}
 use mathlib.Core.Logic.{inr}
 use Prim.Native.Nat.{ℕ, _+_, _<_, _≤_}
@@ -10,7 +10,6 @@ use native.Mathlib.Omega.{arith}
 use lib.Dec.{ltb}
 use lib.ListN.{length}
 use borrow.Author.Tests.{ltb-false}
-use Rattle.base.specs.Choice.{if_then_else_}
 use Rattle.base.specs.Bytes.{part}
 use Rattle.base.proofs.Cases.{by, or-left, or-right}
 use Rattle.section.specs.Section.{sectionLength, readOf, headerOf}

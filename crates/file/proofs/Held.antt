@@ -1,16 +1,15 @@
 -- What an accepted file holds: for each number nothing, or a sound section of that number that lies in the file.
 --   held        so it is of every accepted file
 use mathlib.Core.Path.{_≡_, refl, sym, ap, subst, _∙_}
-use mathlib.Core.Bool.{Bool, true, false, not, _||_}
+use mathlib.Core.Bool.{true, false, _||_}
 use mathlib.Core.Logic.{_⊎_, ⊎-elim, inl, inr}
-use mathlib.Core.List.{List, [], _∷_}
+use mathlib.Core.List.{List}
 use Prim.Native.Nat.{ℕ, zero, suc, _+_, _<_, _≤_}
 use native.Mathlib.Omega.{arith}
 use lib.Dec.{ltb, eqb}
-use lib.ListN.{length, getD, set, replicate, length-set, getD-replicate, List·getD-eq-default, length-replicate}
+use lib.ListN.{length, getD, set, replicate, length-set, getD-replicate, List·getD-eq-default}
 use lib.Seq.{getD-set-same, getD-set-other}
-use borrow.Author.Tests.{ltb-true, ltb-false, eq-eqb, not-true, not-false}
-use Rattle.base.specs.Choice.{if_then_else_}
+use borrow.Author.Tests.{ltb-true, ltb-false}
 use Rattle.base.specs.Bytes.{part}
 use Rattle.base.proofs.Cases.{by, same-or, unlike, or-left}
 use Rattle.section.specs.Section.{readOf}
@@ -19,12 +18,11 @@ use Rattle.section.specs.declared.Reading.{Reading}
 use Rattle.number.specs.Number.{numberAt}
 use Rattle.number.specs.declared.Number.{Number}
 use Rattle.file.specs.Layout.{form, fewest, most, shortest, longest, sameTable}
-use Rattle.file.specs.Scan.{refused, nothing, firstOf, added, sectionAt, sectionsOf, followOf, countOf, formOf, scanOf}
+use Rattle.file.specs.Scan.{Seen, refused, nothing, firstOf, added, sectionAt, sectionsOf, followOf, countOf, formOf, scanOf}
 use Rattle.file.specs.declared.Part.{Part}
-use Rattle.file.specs.declared.Seen.{Seen}
 use Rattle.file.specs.declared.Scan.{Scan}
 use Rattle.file.specs.declared.Scanned.{Scanned}
-use Rattle.file.proofs.Found.{Found, found, sound-number}
+use Rattle.file.proofs.Found.{found, sound-number}
 
 -- a section of number n that lies in the file, and shares the table of the first
 pub record Lies (file : List ℕ) (first : Header) (n start size : ℕ) : Type 0 where
@@ -53,17 +51,6 @@ none-held n =
     by (ltb n most)
     (λ t. getD-replicate most n 0 0 (ltb-true _ _ t))
     (λ f. let l : length blank ≤ n = ltb-false _ _ f in List·getD-eq-default blank 0 l)
-
--- a section shares the table with itself
-same-refl : (h : Header) → sameTable h h ≡ true
-unfolding sameTable
-same-refl h =
-    rw (
-      eq-eqb (h .table) (h .table) refl,
-      eq-eqb (h .extension) (h .extension) refl,
-      eq-eqb (h .version) (h .version) refl,
-      eq-eqb (h .last) (h .last) refl,
-    )
 
 -- before the first section there is no table yet
 pub record Good (file : List ℕ) (seen : Seen) : Type 0 where

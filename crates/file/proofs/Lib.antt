@@ -1,3 +1,4 @@
+pub mod Listed
 pub mod Parts
 pub mod Found
 pub mod Sections

@@ -1,9 +1,10 @@
 -- The scan of the sections, for each turn of its loop.
+--   seenAs, told-next     what the code keeps, as what was seen
 --   ended                 what the scan answers where it ends
 --   none                  no section is left to read
 --   refused, other, fallen   the next section is refused
 --   next                  the next section is taken
-use mathlib.Core.Path.{_≡_, refl, sym, ap, _∙_}
+use mathlib.Core.Path.{_≡_, ap, _∙_}
 use mathlib.Core.Bool.{Bool, true, false, not}
 use mathlib.Core.List.{List, [], _∷_}
 use Prim.Native.Nat.{ℕ, suc, _-_, _<_, _≤_}
@@ -11,12 +12,11 @@ use native.Mathlib.Omega.{arith}
 use lib.Dec.{ltb}
 use lib.ListN.{length}
 use borrow.Author.Tests.{lt-ltb, le-ltb}
-use Rattle.base.specs.Choice.{if_then_else_, Row, _if_, first}
+use Rattle.base.specs.Choice.{_if_, first}
 use Rattle.section.specs.declared.Header.{Header}
 use Rattle.file.specs.Layout.{sameTable}
-use Rattle.file.specs.Scan.{refused, accepted, firstOf, added, sectionAt, sectionsOf}
+use Rattle.file.specs.Scan.{Seen, refused, accepted, firstOf, added, sectionAt, sectionsOf}
 use Rattle.file.specs.declared.Part.{Part}
-use Rattle.file.specs.declared.Seen.{Seen}
 use Rattle.file.specs.declared.Scanned.{Scanned}
 use Rattle.file.specs.declared.End.{End}
 
@@ -27,6 +27,16 @@ swap false t e = rw (← e)
 -- what the code's test says of two headers
 pub told-same : (f g h : Header) (r t : Bool) → r ≡ sameTable f h → f ≡ g → not r ≡ t → sameTable g h ≡ not t
 told-same f g h r t e q p = rw (← q, ← e) (swap r t p)
+
+-- what was seen, by its parts
+abbrev pub seenAs : Bool → Header → ℕ → ℕ → List ℕ → List ℕ → Seen
+seenAs begun first lowest next starts lengths =
+    record { begun = begun; first = first; lowest = lowest; next = next; starts = starts; lengths = lengths }
+
+-- the first section's header and the next place, as the code has them
+pub told-next : (file : List ℕ) (n lowest : ℕ) (starts lengths : List ℕ) {f g : Header} {a b : ℕ} → f ≡ g → a ≡ b
+    → sectionsOf n file (seenAs true f lowest a starts lengths) ≡ sectionsOf n file (seenAs true g lowest b starts lengths)
+told-next file n lowest starts lengths e q = rw (e, q)
 
 unfoldable pub ended : List ℕ → Seen → End → Scanned
 ended file seen (End.Refused n) = refused n

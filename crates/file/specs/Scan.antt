@@ -15,7 +15,6 @@ use Rattle.number.specs.Number.{numberAt}
 use Rattle.number.specs.declared.Number.{Number}
 use Rattle.file.specs.Layout.{form, fewest, most, shortest, longest, chosen, sameTable}
 use Rattle.file.specs.declared.Part.{Part}
-use Rattle.file.specs.declared.Seen.{Seen}
 use Rattle.file.specs.declared.Scan.{Scan}
 use Rattle.file.specs.declared.Scanned.{Scanned}
 
@@ -23,6 +22,16 @@ use Rattle.file.specs.declared.Scanned.{Scanned}
 abbrev pub numberOf : Scan → ℕ
 numberOf (Scan.Table h) = 0
 numberOf (Scan.Refused n) = n
+
+-- what the sections read so far say: the first one's header, the lowest number that the next may have, the place where it begins,
+-- and by number the place and the length of each
+pub record Seen : Type 0 where
+  pub begun : Bool
+  pub first : Header
+  pub lowest : ℕ
+  pub next : ℕ
+  pub starts : List ℕ
+  pub lengths : List ℕ
 
 -- a refused file gives the number alone
 abbrev pub refused : ℕ → Scanned

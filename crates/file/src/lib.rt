@@ -4,16 +4,12 @@ use number::Number;
 use section::Header;
 use section::Reading;
 ghost use mathlib.Core.Path.{_≡_};
-ghost use Prim.Native.Nat.{_+_, _^_, _<_, _≤_};
-ghost use lib.ListN.{length};
+ghost use Rattle.base.specs.Choice.{if_then_else_};
 ghost use Rattle.number.specs.Number.{numberAt};
 ghost use Rattle.file.specs.Layout.{sameTable};
 ghost use Rattle.file.specs.Scan.{
   refused as refusedOf,
-  accepted as acceptedOf,
   nothing as nothingAt,
-  firstOf,
-  added,
   sectionAt,
   sectionsOf,
   countOf,
@@ -38,17 +34,6 @@ pub struct Scanned {
 pub enum Part {
     Section(Header, usize, u16),
     Refused(u8),
-}
-
-// What the sections read so far say: the first one's header, the lowest number that the next may have, the place where it
-// begins, and by number the place and the length of each.
-pub struct Seen {
-    pub begun: bool,
-    pub first: Header,
-    pub lowest: u8,
-    pub next: usize,
-    pub starts: [usize; 16],
-    pub lengths: [u16; 16],
 }
 
 // Where the scan ended.
@@ -112,48 +97,11 @@ fn refused(n: u8) -> Scanned
     }
 }
 
-// The table that the sections are.
-fn accepted(seen: Seen) -> Scanned
-    ensures { λ r. ⌜ r ≡ acceptedOf seen ⌝ }
-{
-    let first = seen.first;
-    let starts = seen.starts;
-    let lengths = seen.lengths;
-    Scanned {
-        answer: Scan::Table(first),
-        starts,
-        lengths,
-    }
-}
-
-// Before the first section, which begins at a place of the file.
-fn nothing(at: usize) -> Seen
-    ensures { λ r. ⌜ r ≡ nothingAt at ⌝ }
-{
-    Seen {
-        begun: false,
-        first: Header {
-            table: 0,
-            extension: 0,
-            version: 0,
-            number: 0,
-            last: 0,
-            start: 0,
-            length: 0,
-        },
-        lowest: 0,
-        next: at,
-        starts: [0; 16],
-        lengths: [0; 16],
-    }
-}
-
 // The header of the first section, which is this one where none was read before.
-fn first_of(seen: Seen, header: Header) -> Header
-    ensures { λ r. ⌜ r ≡ firstOf seen header ⌝ }
+fn first_of(begun: bool, first: Header, header: Header) -> Header
+    ensures { λ r. ⌜ r ≡ if_then_else_ begun first header ⌝ }
 {
-    if seen.begun {
-        let first = seen.first;
+    if begun {
         return first;
     }
     header
@@ -175,53 +123,48 @@ fn same_table(a: Header, b: Header) -> bool
     a.last == b.last
 }
 
-// With one section more.
-fn with_section(seen: Seen, header: Header, start: usize, length: u16) -> Seen
-    requires { ⌜ header .number < 16 ⌝ }
-    requires { ⌜ start + length < 2 ^ 64 ⌝ }
-    ensures { λ r. ⌜ r ≡ added seen header start length ⌝ }
-{
-    let first = first_of(seen, header);
-    let number = header.number as usize;
-    let lowest = header.number + 1;
-    let next = start + wide(length);
-    let mut starts = seen.starts;
-    let mut lengths = seen.lengths;
-    starts[number] = start;
-    lengths[number] = length;
-    Seen {
-        begun: true,
-        first,
-        lowest,
-        next,
-        starts,
-        lengths,
-    }
-}
-
 // The first fault of the sections from a place on, or the table that they are, where nothing stands after them.
 fn scan_sections(file: &[u8], count: usize, from: usize) -> Scanned
     ensures { λ r. ⌜ r ≡ sectionsOf count (now (file .entry)) (nothingAt from) ⌝ }
 {
-    let mut seen = nothing(from);
+    // What the sections read so far say, as plain locals: a struct with the two arrays would be copied at each section.
+    let mut begun = false;
+    let mut first = Header {
+        table: 0,
+        extension: 0,
+        version: 0,
+        number: 0,
+        last: 0,
+        start: 0,
+        length: 0,
+    };
+    let mut lowest: u8 = 0;
+    let mut next = from;
+    let mut starts = [0usize; 16];
+    let mut lengths = [0u16; 16];
     let mut left = count;
     let end = loop {
-        let at = seen.next;
         if left == 0 {
-            break End::At(at);
+            break End::At(next);
         }
-        let part = section_at(file, at);
+        let part = section_at(file, next);
         match part {
             Part::Refused(n) => break End::Refused(n),
             Part::Section(header, start, length) => {
-                let first = first_of(seen, header);
-                if !same_table(first, header) {
+                let shared = first_of(begun, first, header);
+                if !same_table(shared, header) {
                     break End::Refused(BAD_FILE);
                 }
-                if header.number < seen.lowest {
+                if header.number < lowest {
                     break End::Refused(BAD_FILE);
                 }
-                seen = with_section(seen, header, start, length);
+                let number = header.number as usize;
+                starts[number] = start;
+                lengths[number] = length;
+                begun = true;
+                first = shared;
+                lowest = header.number + 1;
+                next = start + wide(length);
                 left -= 1;
             }
         }
@@ -232,7 +175,11 @@ fn scan_sections(file: &[u8], count: usize, from: usize) -> Scanned
             if at < file.len() {
                 return refused(BAD_FILE);
             }
-            accepted(seen)
+            Scanned {
+                answer: Scan::Table(first),
+                starts,
+                lengths,
+            }
         }
     }
 }

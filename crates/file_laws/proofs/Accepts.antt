@@ -1,14 +1,13 @@
 -- A file of a sound table is accepted, and what is found in it are the table's sections.
 --   accepted-as      the reading of the file of a sound table gives its first section's header
 --   in-one-way       and finds its sections, each once and in order
-use mathlib.Core.Path.{_≡_, refl, sym, ap, subst, _∙_}
-use mathlib.Core.Bool.{Bool, true, false, not}
+use mathlib.Core.Path.{_≡_, refl, sym, ap, _∙_}
+use mathlib.Core.Bool.{true, false, not}
 use mathlib.Core.List.{List, [], _∷_, _++_, append-assoc, append-nil}
-use mathlib.Core.Logic.{⊎-elim}
-use Prim.Native.Nat.{ℕ, zero, suc, _+_, _-_, _<_, _≤_}
+use Prim.Native.Nat.{ℕ, suc, _+_, _-_, _<_, _≤_}
 use native.Mathlib.Omega.{arith}
-use lib.Dec.{ltb, eqb}
-use lib.ListN.{length, take, drop, getD, set, replicate, length-append, length-drop, length-set}
+use lib.Dec.{eqb}
+use lib.ListN.{length, take, drop, getD, set, length-append, length-drop, length-set}
 use lib.Seq.{drop-drop, drop-append-seam, take-append-seam, getD-set-same, getD-set-other}
 use borrow.Author.Tests.{le-ltb, eq-eqb, ne-eqb}
 use Rattle.base.specs.Bytes.{part}
@@ -20,11 +19,9 @@ use Rattle.number.specs.declared.Number.{Number}
 use Rattle.number.proofs.OneSpelling.{read-spelt}
 use Rattle.number.proofs.Bounds.{spelt-some}
 use Rattle.file.specs.Layout.{form, most, shortest, longest, listed, fileOf, chosen, sameTable, Rising, SoundTable}
-use Rattle.file.specs.Scan.{accepted, nothing, firstOf, added, readingOf, sectionAt, sectionsOf, countOf, formOf, scanOf, holds, foundIn, tableIn}
+use Rattle.file.specs.Scan.{Seen, accepted, nothing, firstOf, added, readingOf, sectionAt, sectionsOf, scanOf, holds, foundIn, tableIn}
 use Rattle.file.specs.declared.Part.{Part}
-use Rattle.file.specs.declared.Seen.{Seen}
 use Rattle.file.specs.declared.Scan.{Scan}
-use Rattle.file.specs.declared.Scanned.{Scanned}
 use Rattle.file.proofs.Parts.{read-as}
 use Rattle.file.proofs.Found.{sound-size, sound-number}
 use Rattle.file.proofs.Sections.{next}

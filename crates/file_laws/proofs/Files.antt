@@ -3,7 +3,7 @@
 --   file-of-the-table    and then it is the file of the table that was read, which is sound
 --   one-table            so a file is the file of one table
 --   too-long             a file of more than 16,418 bytes is refused
-use mathlib.Core.Path.{_≡_, refl, sym, ap, subst, _∙_}
+use mathlib.Core.Path.{_≡_, sym, ap, subst, _∙_}
 use mathlib.Core.List.{List, [], _∷_}
 use mathlib.Core.Logic.{_↔_}
 use Prim.Native.Nat.{ℕ, _<_, _≤_}
@@ -15,7 +15,6 @@ use Rattle.number.specs.Number.{Bytes}
 use Rattle.file.specs.Layout.{largestFile, fileOf, SoundTable}
 use Rattle.file.specs.Scan.{scanOf, tableIn}
 use Rattle.file.specs.declared.Scan.{Scan}
-use Rattle.file.specs.declared.Scanned.{Scanned}
 use Rattle.file_laws.proofs.Accepts.{accepted-as, in-one-way}
 use Rattle.file_laws.proofs.Only.{only-files}
 use Rattle.file_laws.proofs.Largest.{largest-file}

@@ -1,38 +1,37 @@
 -- "The first fault from the left gives the answer": behind sound sections of one table the answer is the next section's fault,
 -- whatever stands after it.
---   first-fault      the section's own fault: 11, its length and running past the file (12), its own number
+--   lowestAfter, firstOr    the lowest number that a section behind others may have, and the header of the first section
+--   Behind, behind          where the scan stands after them
+--   first-fault             the next section's own fault: 11, its length and running past the file (12), its own number
 --   other-table, not-rising     then key, version, last and rising number (12)
+--   left-over               and where none is to come, bytes left over (12)
 use mathlib.Core.Path.{_≡_, refl, sym, ap, subst, _∙_}
-use mathlib.Core.Bool.{Bool, true, false, not, _||_}
+use mathlib.Core.Bool.{true, false, _||_}
 use mathlib.Core.List.{List, [], _∷_, _++_, append-assoc}
-use mathlib.Core.Logic.{_⊎_, ⊎-elim}
-use Prim.Native.Nat.{ℕ, zero, suc, _+_, _-_, _<_, _≤_}
-use native.Mathlib.Nat.{add-assoc}
+use Prim.Native.Nat.{ℕ, suc, _+_, _-_, _<_, _≤_}
 use native.Mathlib.Omega.{arith}
 use lib.Dec.{ltb}
 use lib.ListN.{length, take, drop, length-append, length-drop}
 use borrow.Author.Tests.{lt-ltb, le-ltb, ltb-true, ltb-false}
-use Rattle.base.specs.Choice.{if_then_else_}
 use Rattle.base.specs.Bytes.{part}
 use lib.Seq.{drop-drop, drop-append-seam}
 use Rattle.base.proofs.Cases.{by}
 use Rattle.section.specs.Section.{readOf, headerOf}
 use Rattle.section.specs.declared.Header.{Header}
 use Rattle.section.specs.declared.Reading.{Reading}
-use Rattle.number.specs.Number.{largest, spelling, spelt, groups, worth, cutOff, notShortest, numberIn, numberAt}
+use Rattle.number.specs.Number.{largest, spelling, spelt, groups, worth, cutOff, notShortest, numberIn}
 use Rattle.number.specs.declared.Number.{Number}
 use Rattle.number.proofs.OneSpelling.{read-spelt}
-use Rattle.file.specs.Layout.{form, most, shortest, longest, listed, sameTable, Rising}
-use Rattle.file.specs.Scan.{refused, nothing, firstOf, added, readingOf, lengthOf, sectionAt, sectionsOf, scanOf}
+use Rattle.file.specs.Layout.{form, fewest, most, shortest, longest, listed, sameTable, Rising}
+use Rattle.file.specs.Scan.{Seen, refused, nothing, firstOf, readingOf, lengthOf, sectionAt, sectionsOf, scanOf}
 use Rattle.file.specs.declared.Part.{Part}
-use Rattle.file.specs.declared.Seen.{Seen}
-use Rattle.file.specs.declared.Scanned.{Scanned}
 use Rattle.file.proofs.Sections.{faulty, other, fallen}
 use Rattle.file.proofs.Front.{counted, formed}
+use Rattle.file_laws.specs.Fault.{Begins, ToCome}
 use Rattle.file_laws.proofs.Accepts.{Clear, clear-nothing, taken, taken-clear, taken-rest, its-end, step, count-at, first-at}
 
 -- what is read at a place of the file, as what is read at the front of the bytes from that place on
-abbrev moved : ℕ → Part → Part
+abbrev pub moved : ℕ → Part → Part
 moved at (Part.Section h start size) = Part.Section h (at + start) size
 moved at (Part.Refused n) = Part.Refused n
 
@@ -71,7 +70,7 @@ module _ (file rest : List ℕ) (at : ℕ) (here : drop at file ≡ rest) (insid
       let e : at + length (groups s) ≡ at + (0 + length (groups s)) = omega arith in
       rw (t, e) (length-moved (worth (groups s)) (0 + length (groups s))))
 
-  section-moved : sectionAt file at ≡ moved at (sectionAt rest 0)
+  pub section-moved : sectionAt file at ≡ moved at (sectionAt rest 0)
   unfolding sectionAt
   section-moved = ap (λ s. lengthOf file (numberIn s at)) here ∙ number-moved rest
 
@@ -117,82 +116,143 @@ walks file rest first n (s ∷ ss) seen b f c i here rising =
       lowest = w .lowest;
     }
 
-module _ (s : List ℕ) (ss : List (List ℕ)) (rest : List ℕ) (n : ℕ) (few : n ≤ most) (more : length (s ∷ ss) < n)
-    (rising : Rising (headerOf s) 0 (s ∷ ss)) where
-  -- a file whose first sections are sound and of one table
-  abbrev pub begins : List ℕ
-  begins = spelt form ++ (spelt n ++ (listed (s ∷ ss) ++ rest))
+-- the header of the first section, which is this one where none stands before it
+abbrev pub firstOr : Header → List (List ℕ) → Header
+firstOr h [] = h
+firstOr h (s ∷ ss) = headerOf s
 
-  counts-here : drop count-at begins ≡ spelt n ++ (listed (s ∷ ss) ++ rest)
+-- the scan behind good sections, with so many to come
+pub record Behind (file rest : List ℕ) (ss : List (List ℕ)) (left : ℕ) : Type 0 where
+  pub seen : Seen
+  pub goes : scanOf file ≡ sectionsOf left file seen
+  pub here : drop (seen .next) file ≡ rest
+  pub inside : seen .next ≤ length file
+  pub first : (h : Header) → firstOf seen h ≡ firstOr h ss
+  pub lowest : seen .lowest ≡ lowestAfter 0 ss
+
+module _ (n : ℕ) (some : fewest ≤ n) (few : n ≤ most) (body : List ℕ) where
+  -- a file with that count, and what stands after it
+  abbrev counts : List ℕ
+  counts = spelt form ++ (spelt n ++ body)
+
+  count-here : drop count-at counts ≡ spelt n ++ body
   unfolding spelling
-  counts-here = refl
+  count-here = refl
 
-  lists-here : drop (first-at n) begins ≡ listed (s ∷ ss) ++ rest
-  lists-here =
-      sym (drop-drop (length (spelt n)) count-at begins)
-      ∙ ap (drop (length (spelt n))) counts-here
-      ∙ drop-append-seam (spelt n) (listed (s ∷ ss) ++ rest)
+  body-here : drop (first-at n) counts ≡ body
+  body-here =
+      sym (drop-drop (length (spelt n)) count-at counts)
+      ∙ ap (drop (length (spelt n))) count-here
+      ∙ drop-append-seam (spelt n) body
 
-  front : scanOf begins ≡ sectionsOf n begins (nothing (first-at n))
+  body-inside : first-at n ≤ length counts
+  body-inside = simp length-append (omega arith)
+
+  front : scanOf counts ≡ sectionsOf n counts (nothing (first-at n))
   front =
-      sym (formed begins form count-at (read-spelt form (omega arith) (spelt n ++ (listed (s ∷ ss) ++ rest)) 0) refl)
-      ∙ sym (counted begins count-at n (first-at n)
-      (ap (λ d. numberIn d count-at) counts-here ∙ read-spelt n (omega arith) (listed (s ∷ ss) ++ rest) count-at) (omega arith) few)
+      sym (formed counts form count-at (read-spelt form (omega arith) (spelt n ++ body) 0) refl)
+      ∙ sym (counted counts count-at n (first-at n)
+      (ap (λ d. numberIn d count-at) count-here ∙ read-spelt n (omega arith) body count-at) some few)
 
-  here' : drop (first-at n) begins ≡ spelt (length s) ++ (s ++ (listed ss ++ rest))
+module _ (s : List ℕ) (ss : List (List ℕ)) (rest : List ℕ) (n : ℕ) (some : fewest ≤ n) (few : n ≤ most) (more : length (s ∷ ss) ≤ n)
+    (rising : Rising (headerOf s) 0 (s ∷ ss)) where
+  abbrev file : List ℕ
+  file = counts n some few (listed (s ∷ ss) ++ rest)
+
+  here' : drop (first-at n) file ≡ spelt (length s) ++ (s ++ (listed ss ++ rest))
   unfolding listed
-  here' = lists-here ∙ append-assoc (spelt (length s)) (s ++ listed ss) rest ∙ ap (λ l. spelt (length s) ++ l) (append-assoc s (listed ss) rest)
+  here' =
+      body-here n some few (listed (s ∷ ss) ++ rest)
+      ∙ append-assoc (spelt (length s)) (s ++ listed ss) rest
+      ∙ ap (λ l. spelt (length s) ++ l) (append-assoc s (listed ss) rest)
 
   abbrev one : Seen
-  one = taken begins s (listed ss ++ rest) (nothing (first-at n)) (clear-nothing (first-at n)) here' (rising .0) (rising .1) (rising .2)
+  one = taken file s (listed ss ++ rest) (nothing (first-at n)) (clear-nothing (first-at n)) here' (rising .0) (rising .1) (rising .2)
 
   left : ℕ
   left = n - length (s ∷ ss)
 
-  walked : Walked begins rest (headerOf s) (lowestAfter 0 (s ∷ ss)) (length ss) left one
+  walked : Walked file rest (headerOf s) (lowestAfter 0 (s ∷ ss)) (length ss) left one
   walked =
-      walks begins rest (headerOf s) left ss one refl refl
-      (taken-clear begins s (listed ss ++ rest) (nothing (first-at n)) (clear-nothing (first-at n)) here' (rising .0) (rising .1) (rising .2))
-      (its-end begins s (listed ss ++ rest) (first-at n) here')
-      (taken-rest begins s (listed ss ++ rest) (nothing (first-at n)) (clear-nothing (first-at n)) here' (rising .0) (rising .1) (rising .2))
+      walks file rest (headerOf s) left ss one refl refl
+      (taken-clear file s (listed ss ++ rest) (nothing (first-at n)) (clear-nothing (first-at n)) here' (rising .0) (rising .1) (rising .2))
+      (its-end file s (listed ss ++ rest) (first-at n) here')
+      (taken-rest file s (listed ss ++ rest) (nothing (first-at n)) (clear-nothing (first-at n)) here' (rising .0) (rising .1) (rising .2))
       (rising .3)
 
-  behind : scanOf begins ≡ sectionsOf left begins (walked .after)
+  behind-some : Behind file rest (s ∷ ss) (n - length (s ∷ ss))
   unfolding left
-  behind =
-      front
-      ∙ ap (λ k. sectionsOf k begins (nothing (first-at n))) (let e : n ≡ suc (length ss + (n - length (s ∷ ss))) = omega arith in e)
-      ∙ step begins s (listed ss ++ rest) (nothing (first-at n)) (clear-nothing (first-at n)) here' (rising .0) (rising .1) (rising .2) (length ss + left)
-      ∙ walked .goes
+  behind-some =
+      record {
+        seen = walked .after;
+        goes =
+            front n some few (listed (s ∷ ss) ++ rest)
+            ∙ ap (λ k. sectionsOf k file (nothing (first-at n))) (let e : n ≡ suc (length ss + (n - length (s ∷ ss))) = omega arith in e)
+            ∙ step file s (listed ss ++ rest) (nothing (first-at n)) (clear-nothing (first-at n)) here' (rising .0) (rising .1) (rising .2) (length ss + left)
+            ∙ walked .goes;
+        here = walked .here;
+        inside = walked .inside;
+        first = λ h. rw (walked .begun) (walked .shares);
+        lowest = walked .lowest;
+      }
 
-  next-part : sectionAt begins (walked .after .next) ≡ moved (walked .after .next) (sectionAt rest 0)
-  next-part = section-moved begins rest (walked .after .next) (walked .here) (walked .inside)
+-- where the scan stands after the file's first sections
+pub behind : (file : List ℕ) (n : ℕ) (ss : List (List ℕ)) (rest : List ℕ) → Begins file n ss rest → length ss ≤ n
+    → Behind file rest ss (n - length ss)
+unfolding listed
+behind file n [] rest b l =
+    subst (λ f. Behind f rest [] (n - 0)) (sym (b .stands))
+    (record {
+      seen = nothing (first-at n);
+      goes = front n (b .some) (b .few) rest ∙ ap (λ k. sectionsOf k (counts n (b .some) (b .few) rest) (nothing (first-at n))) (let e : n ≡ n - 0 = omega arith in e);
+      here = body-here n (b .some) (b .few) rest;
+      inside = body-inside n (b .some) (b .few) rest;
+      first = λ h. refl;
+      lowest = refl;
+    })
+behind file n (s ∷ ss) rest b l =
+    subst (λ f. Behind f rest (s ∷ ss) (n - length (s ∷ ss))) (sym (b .stands)) (behind-some s ss rest n (b .some) (b .few) l (b .good))
 
-  some-left : left ≡ 0 → ⊥
-  unfolding left
-  some-left e = omega arith
+module _ (file : List ℕ) (ss : List (List ℕ)) (rest : List ℕ) (w : ToCome file ss rest) where
+  at-next : Behind file rest ss (w .n - length ss)
+  at-next = behind file (w .n) ss rest (w .begins) (let l : length ss < w .n = w .left in omega arith)
 
-  pub first-fault : (m : ℕ) → sectionAt rest 0 ≡ Part.Refused m → scanOf begins ≡ refused m
+  next-part : sectionAt file (at-next .seen .next) ≡ moved (at-next .seen .next) (sectionAt rest 0)
+  next-part = section-moved file rest (at-next .seen .next) (at-next .here) (at-next .inside)
+
+  some-left : w .n - length ss ≡ 0 → ⊥
+  some-left e = let l : length ss < w .n = w .left in omega arith
+
+  pub first-fault : (m : ℕ) → sectionAt rest 0 ≡ Part.Refused m → scanOf file ≡ refused m
   first-fault m e =
-      behind ∙ faulty begins (walked .after) left some-left m (next-part ∙ ap (moved (walked .after .next)) e)
-
-  -- the first section's header is the one that was kept
-  first-kept : (h : Header) → firstOf (walked .after) h ≡ headerOf s
-  first-kept h = rw (walked .begun) (walked .shares)
+      at-next .goes ∙ faulty file (at-next .seen) (w .n - length ss) some-left m (next-part ∙ ap (moved (at-next .seen .next)) e)
 
   module _ (h : Header) (start size : ℕ) (e : sectionAt rest 0 ≡ Part.Section h start size) where
-    next-section : sectionAt begins (walked .after .next) ≡ Part.Section h (walked .after .next + start) size
-    next-section = next-part ∙ ap (moved (walked .after .next)) e
+    next-section : sectionAt file (at-next .seen .next) ≡ Part.Section h (at-next .seen .next + start) size
+    next-section = next-part ∙ ap (moved (at-next .seen .next)) e
 
-    pub other-table : sameTable (headerOf s) h ≡ false → scanOf begins ≡ refused 12
+    pub other-table : sameTable (firstOr h ss) h ≡ false → scanOf file ≡ refused 12
     other-table d =
-        behind
-        ∙ other begins (walked .after) left some-left h (walked .after .next + start) size next-section
-        (ap (λ k. sameTable k h) (first-kept h) ∙ d)
+        at-next .goes
+        ∙ other file (at-next .seen) (w .n - length ss) some-left h (at-next .seen .next + start) size next-section
+        (ap (λ k. sameTable k h) (at-next .first h) ∙ d)
 
-    pub not-rising : sameTable (headerOf s) h ≡ true → h .number < lowestAfter 0 (s ∷ ss) → scanOf begins ≡ refused 12
+    pub not-rising : sameTable (firstOr h ss) h ≡ true → h .number < lowestAfter 0 ss → scanOf file ≡ refused 12
     not-rising d l =
-        behind
-        ∙ fallen begins (walked .after) left some-left h (walked .after .next + start) size next-section
-        (ap (λ k. sameTable k h) (first-kept h) ∙ d)
-        (rw (walked .lowest) l)
+        at-next .goes
+        ∙ fallen file (at-next .seen) (w .n - length ss) some-left h (at-next .seen .next + start) size next-section
+        (ap (λ k. sameTable k h) (at-next .first h) ∙ d)
+        (rw (at-next .lowest) l)
+
+over : (file : List ℕ) (seen : Seen) → seen .next < length file → sectionsOf 0 file seen ≡ refused 12
+unfolding sectionsOf
+over file seen l = rw (lt-ltb (seen .next) (length file) l)
+
+pub left-over : (file : List ℕ) (ss : List (List ℕ)) (rest : List ℕ) → Begins file (length ss) ss rest → 0 < length rest
+    → scanOf file ≡ refused 12
+left-over file ss rest b l =
+    let w = behind file (length ss) ss rest b (omega arith) in
+    let e : length file - w .seen .next ≡ length rest = sym (length-drop (w .seen .next) file) ∙ ap length (w .here) in
+    w .goes
+    ∙ ap (λ k. sectionsOf k file (w .seen)) (let z : length ss - length ss ≡ 0 = omega arith in z)
+    ∙ over file (w .seen) (omega arith)

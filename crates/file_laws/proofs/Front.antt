@@ -2,19 +2,17 @@
 --   number-front     a number is read from three bytes at most
 --   scan-front       the scan of the first 16,419 bytes of a longer file is the scan of the file
 use mathlib.Core.Path.{_≡_, refl, sym, ap, subst, _∙_}
-use mathlib.Core.Bool.{Bool, true, false, not, _||_}
-use mathlib.Core.List.{List, [], _∷_, _++_}
+use mathlib.Core.Bool.{true, false, _||_}
+use mathlib.Core.List.{List, [], _∷_}
 use mathlib.Core.Logic.{⊎-elim}
 use Prim.Native.Nat.{ℕ, zero, suc, _+_, _-_, _*_, _%_, _<_, _≤_}
-use native.Mathlib.Numerals.{add-one}
 use native.Mathlib.Omega.{arith}
 use lib.Dec.{ltb, eqb}
-use lib.ListN.{length, take, drop, length-drop, length-take}
+use lib.ListN.{length, take, drop}
 use lib.Seq.{take-take, take-nil, length-take-le}
 use borrow.Author.Tests.{lt-ltb, le-ltb, ltb-true, ltb-false, eqb-true}
-use Rattle.base.specs.Choice.{if_then_else_}
 use Rattle.base.specs.Bytes.{part}
-use Rattle.base.proofs.Cases.{by, same-or, or-left, or-right}
+use Rattle.base.proofs.Cases.{by, same-or, or-right}
 use Rattle.section.specs.Section.{readOf}
 use Rattle.section.specs.declared.Header.{Header}
 use Rattle.section.specs.declared.Reading.{Reading}
@@ -22,10 +20,8 @@ use Rattle.number.specs.Number.{groups, cutOff, numberIn, numberAt}
 use Rattle.number.specs.declared.Number.{Number}
 use Rattle.number.proofs.Reading.{one-in, zero-in, two-in, zero-in-3, three-in, above-in}
 use Rattle.file.specs.Layout.{form, fewest, most, shortest, longest, largestFile, sameTable}
-use Rattle.file.specs.Scan.{refused, nothing, firstOf, added, readingOf, lengthOf, sectionAt, sectionsOf, followOf, countOf, formOf, scanOf}
+use Rattle.file.specs.Scan.{Seen, nothing, firstOf, added, readingOf, lengthOf, sectionAt, sectionsOf, followOf, countOf, formOf, scanOf}
 use Rattle.file.specs.declared.Part.{Part}
-use Rattle.file.specs.declared.Seen.{Seen}
-use Rattle.file.specs.declared.Scanned.{Scanned}
 
 -- a number and the place after it: below 128 it takes one byte, and below 128 × 128 two at most
 abbrev Near : ℕ → ℕ → ℕ → Type 0

@@ -5,3 +5,4 @@ pub mod Largest
 pub mod Files
 pub mod Front
 pub mod FirstFault
+pub mod Faults

@@ -1,33 +1,46 @@
 -- What is accepted is the file of a sound table.
+--   spelt-here, listed-here    a number that is read, and a section that is found, as they stand in the file
 --   only-files      an accepted file is one, and here are its sections
 use mathlib.Core.Path.{_≡_, refl, sym, ap, subst, _∙_}
-use mathlib.Core.Bool.{Bool, true, false, not, _||_}
+use mathlib.Core.Bool.{true, _||_}
 use mathlib.Core.List.{List, [], _∷_, _++_}
-use Prim.Native.Nat.{ℕ, zero, suc, _+_, _-_, _<_, _≤_}
+use Prim.Native.Nat.{ℕ, zero, suc, _+_, _≤_}
 use native.Mathlib.Omega.{arith}
 use lib.Dec.{ltb, eqb}
-use lib.ListN.{length, take, drop, getD, length-append, length-drop, take-append-drop, drop-of-length-le}
+use lib.ListN.{length, drop, length-drop, take-append-drop, drop-of-length-le}
 use lib.Seq.{drop-drop, drop-append-seam, length-take-le, getD-drop}
-use borrow.Author.Tests.{ltb-false, eqb-true, not-true, not-false}
-use Rattle.base.specs.Choice.{if_then_else_}
+use borrow.Author.Tests.{ltb-false, eqb-true}
 use Rattle.base.specs.Bytes.{part}
 use Rattle.base.proofs.Cases.{by, or-left, or-right}
 use Rattle.section.specs.Section.{readOf, headerOf}
 use Rattle.section.specs.declared.Header.{Header}
 use Rattle.section.specs.declared.Reading.{Reading}
-use Rattle.number.specs.Number.{spelt, numberIn, numberAt, Bytes}
+use Rattle.number.specs.Number.{spelt, numberAt, Bytes}
 use Rattle.number.specs.declared.Number.{Number}
-use Rattle.number.proofs.OneSpelling.{Spelt, only-spelt}
+use Rattle.number.proofs.OneSpelling.{only-spelt}
 use Rattle.file.specs.Layout.{form, fewest, most, listed, fileOf, sameTable, Rising, SoundTable}
-use Rattle.file.specs.Scan.{refused, nothing, firstOf, added, sectionAt, sectionsOf, followOf, countOf, formOf, scanOf}
+use Rattle.file.specs.Scan.{Seen, refused, nothing, firstOf, added, sectionAt, sectionsOf, followOf, countOf, formOf, scanOf}
 use Rattle.file.specs.declared.Part.{Part}
-use Rattle.file.specs.declared.Seen.{Seen}
 use Rattle.file.specs.declared.Scan.{Scan}
-use Rattle.file.specs.declared.Scanned.{Scanned}
 use Rattle.file.proofs.Found.{Found, found, sound-header}
 
-bytes-drop : (file : List ℕ) → Bytes file → (n : ℕ) → Bytes (drop n file)
+pub bytes-drop : (file : List ℕ) → Bytes file → (n : ℕ) → Bytes (drop n file)
 bytes-drop file b n k = rw (getD-drop n file k 0) (b (n + k))
+
+-- a number that is read stands there, and what follows it
+pub spelt-here : (file : List ℕ) → Bytes file → (at n next : ℕ) → numberAt file at ≡ Number.Value n next → drop at file ≡ spelt n ++ drop next file
+spelt-here file b at n next q =
+    let w = only-spelt at n next (drop at file) (bytes-drop file b at) q in
+    let rest : drop next file ≡ w .rest
+    = ap (λ k. drop k file) (w .after)
+    ∙ sym (drop-drop (length (spelt n)) at file)
+    ∙ ap (drop (length (spelt n))) (w .here)
+    ∙ drop-append-seam (spelt n) (w .rest) in
+    w .here ∙ ap (λ l. spelt n ++ l) (sym rest)
+
+-- some bytes, and those after them
+pub parted : (file : List ℕ) (start size : ℕ) → drop start file ≡ part file start size ++ drop (start + size) file
+parted file start size = sym (take-append-drop size (drop start file)) ∙ ap (λ l. part file start size ++ l) (drop-drop size start file)
 
 apart : {A : Type 0} (n : ℕ) (h : Header) → refused n .answer ≡ Scan.Table h → A
 apart n h e = absurd (let z : _≡_ {A = ℕ} 0 1 = cc in omega arith)
@@ -45,21 +58,17 @@ record Peeled (file : List ℕ) (seen : Seen) (n : ℕ) (last : Header) : Type 0
   rises : seen .lowest ≤ headerOf section .number
   goes-on : sectionsOf n file (added seen (headerOf section) start (length section)) .answer ≡ Scan.Table last
 
-module _ (file : List ℕ) (b : Bytes file) (seen : Seen) (n : ℕ) (last h : Header) (start size : ℕ) (f : Found h start size file (numberAt file (seen .next))) where
-  sized : length (part file start size) ≡ size
+-- a section that is found, as the file lists it
+module _ (file : List ℕ) (b : Bytes file) (at : ℕ) (h : Header) (start size : ℕ) (f : Found h start size file (numberAt file at)) where
+  pub sized : length (part file start size) ≡ size
   sized = length-take-le size (drop start file) (rw (length-drop start file) (let i : start + size ≤ length file = f .inside in omega arith))
 
-  listed-here : drop (seen .next) file ≡ spelt size ++ (part file start size ++ drop (start + size) file)
-  listed-here =
-      let w = only-spelt (seen .next) size start (drop (seen .next) file) (bytes-drop file b (seen .next)) (f .stands) in
-      let rest : drop start file ≡ w .rest
-      = ap (λ k. drop k file) (w .after)
-      ∙ sym (drop-drop (length (spelt size)) (seen .next) file)
-      ∙ ap (drop (length (spelt size))) (w .here)
-      ∙ drop-append-seam (spelt size) (w .rest) in
-      let split : drop start file ≡ part file start size ++ drop (start + size) file
-      = sym (take-append-drop size (drop start file)) ∙ ap (λ l. part file start size ++ l) (drop-drop size start file) in
-      w .here ∙ ap (λ l. spelt size ++ l) (sym rest ∙ split)
+  pub listed-here : drop at file ≡ spelt size ++ (part file start size ++ drop (start + size) file)
+  listed-here = spelt-here file b at size start (f .stands) ∙ ap (λ l. spelt size ++ l) (parted file start size)
+
+module _ (file : List ℕ) (b : Bytes file) (seen : Seen) (n : ℕ) (last h : Header) (start size : ℕ) (f : Found h start size file (numberAt file (seen .next))) where
+  size-is : length (part file start size) ≡ size
+  size-is = sized file b (seen .next) h start size f
 
   peel : sameTable (firstOf seen h) h ≡ true → seen .lowest ≤ h .number → sectionsOf n file (added seen h start size) .answer ≡ Scan.Table last
       → Peeled file seen n last
@@ -68,12 +77,12 @@ module _ (file : List ℕ) (b : Bytes file) (seen : Seen) (n : ℕ) (last h : He
       record {
         section = part file start size;
         start = start;
-        stands = rw sized listed-here;
+        stands = rw size-is (listed-here file b (seen .next) h start size f);
         sound = f .sound ∙ ap Reading.Sound e;
         same = subst (λ k. sameTable (firstOf seen k) k ≡ true) e s;
         rises = subst (λ k. seen .lowest ≤ k .number) e r;
         goes-on =
-            rw sized (subst (λ k. sectionsOf n file (added seen k start size) .answer ≡ Scan.Table last) e g);
+            rw size-is (subst (λ k. sectionsOf n file (added seen k start size) .answer ≡ Scan.Table last) e g);
       }
 
 module _ (file : List ℕ) (b : Bytes file) (last : Header) where
@@ -155,13 +164,7 @@ module _ (file : List ℕ) (b : Bytes file) (last : Header) where
           (λ t. apart 12 last (rw t at e))
           (λ t.
           let t' = table next n (ltb-false _ _ (or-left (ltb n fewest) _ t)) (ltb-false _ _ (or-right (ltb n fewest) _ t)) (rw t at e) in
-          let w = only-spelt at n next (drop at file) (bytes-drop file b at) q in
-          let rest : drop next file ≡ w .rest
-          = ap (λ k. drop k file) (w .after)
-          ∙ sym (drop-drop (length (spelt n)) at file)
-          ∙ ap (drop (length (spelt n))) (w .here)
-          ∙ drop-append-seam (spelt n) (w .rest) in
-          (t' .sections, t' .sound, w .here ∙ ap (λ l. spelt n ++ l) (sym rest ∙ t' .stands) ∙ ap (λ k. spelt k ++ listed (t' .sections)) (sym (t' .count))))
+          (t' .sections, t' .sound, spelt-here file b at n next q ∙ ap (λ l. spelt n ++ l) (t' .stands) ∙ ap (λ k. spelt k ++ listed (t' .sections)) (sym (t' .count))))
 
   pub only-files : scanOf file .answer ≡ Scan.Table last → (ss : List (List ℕ)) × SoundTable ss × (file ≡ fileOf ss)
   unfolding scanOf fileOf
@@ -173,11 +176,5 @@ module _ (file : List ℕ) (b : Bytes file) (last : Header) where
           by (eqb found form)
           (λ t.
           let k = counted next (rw t at e) in
-          let w = only-spelt 0 found next file b q in
-          let rest : drop next file ≡ w .rest
-          = ap (λ k. drop k file) (w .after)
-          ∙ ap (λ k. drop k file) (let z : 0 + length (spelt found) ≡ length (spelt found) = omega arith in z)
-          ∙ ap (drop (length (spelt found))) (w .here)
-          ∙ drop-append-seam (spelt found) (w .rest) in
-          (k .0, k .1, w .here ∙ ap (λ l. spelt found ++ l) (sym rest ∙ k .2) ∙ ap (λ m. spelt m ++ (spelt (length (k .0)) ++ listed (k .0))) (eqb-true found form t)))
+          (k .0, k .1, spelt-here file b 0 found next q ∙ ap (λ l. spelt found ++ l) (k .2) ∙ ap (λ m. spelt m ++ (spelt (length (k .0)) ++ listed (k .0))) (eqb-true found form t)))
           (λ t. apart 12 last (rw t at e))

@@ -5,3 +5,4 @@ pub mod Left
 pub mod Again
 pub mod Restored
 pub mod Round
+pub mod Faults

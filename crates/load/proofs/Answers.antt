@@ -1,15 +1,18 @@
 -- The answer of a load, by what was tested.
 --   table-13, table-9, table-done             of a file that holds a table
 --   load-17, load-18, load-fault, load-table  of any file
---   scanned-within                            the sections of an accepted file lie in it and fit their berths
+--   scanned-within                            the sections of an accepted file lie in it, fit their berths, and have no number above its last
 use mathlib.Core.Path.{_≡_, sym, ap, _∙_}
 use mathlib.Core.Bool.{true, false}
 use mathlib.Core.List.{List}
 use mathlib.Core.Logic.{⊎-elim, inl, inr}
-use Prim.Native.Nat.{ℕ}
+use Prim.Native.Nat.{ℕ, _≤_}
+use native.Mathlib.Omega.{arith}
+use lib.Dec.{eqb}
 use lib.ListN.{length}
-use borrow.Author.Tests.{eq-eqb, ne-eqb}
+use borrow.Author.Tests.{eq-eqb, ne-eqb, eqb-true}
 use Rattle.base.specs.Choice.{first}
+use Rattle.base.proofs.Cases.{and-right}
 use Rattle.section.specs.declared.Header.{Header}
 use Rattle.berth.specs.Berth.{sections, places, storeSize}
 use Rattle.shelf.specs.Record.{withPlace, spoiledOf, placeOf, freeOf}
@@ -20,19 +23,37 @@ use Rattle.offer.specs.Offer.{keyOf}
 use Rattle.file.specs.Scan.{scanOf}
 use Rattle.file.specs.declared.Scan.{Scan}
 use Rattle.file.specs.declared.Scanned.{Scanned}
-use Rattle.file.proofs.Held.{held}
+use Rattle.file.specs.Layout.{sameTable}
+use Rattle.file.proofs.Found.{sound-number}
+use Rattle.file.proofs.Held.{Lies, held}
 use Rattle.load.specs.Steps.{Within}
 use Rattle.load.specs.Load.{After, after, refused, loadedPlace, storedBelow, tableOf, answered, loadOf}
 use Rattle.load.specs.declared.Loaded.{Loaded}
 use Rattle.load.specs.declared.Loading.{Loading}
 
-within : (file : List ℕ) (first : Header) → scanOf file .answer ≡ Scan.Table first → Within file (scanOf file .starts) (scanOf file .lengths)
+-- two sections of one table have one last number
+one-last : (a b : Header) → sameTable a b ≡ true → a .last ≡ b .last
+unfolding sameTable
+one-last a b e =
+    eqb-true _ _ (and-right (eqb (a .version) (b .version)) _ (and-right (eqb (a .extension) (b .extension)) _ (and-right (eqb (a .table) (b .table)) _ e)))
+
+-- no number is above the last
+low : {file : List ℕ} {first : Header} {n start size : ℕ} → Lies file first n start size → n ≤ first .last
+low {first = first} l =
+    let k : (l .header .number ≤ l .header .last) × (l .header .last ≤ 15) = sound-number _ (l .header) (l .sound) in
+    let e : first .last ≡ l .header .last = one-last first (l .header) (l .shares) in
+    omega (arith, k .0, e, l .number)
+
+within : (file : List ℕ) (first : Header) → scanOf file .answer ≡ Scan.Table first
+    → Within file (scanOf file .starts) (scanOf file .lengths) (first .last)
 unfolding Within
-within file first e n = ⊎-elim (λ z. inl z) (λ l. inr (l .inside, l .high)) (held file first e .each n)
+within file first e =
+    let h = held file first e in
+    (omega (arith, h .last), λ n. ⊎-elim (λ z. inl z) (λ l. inr (l .inside, l .high, low l)) (h .each n))
 
 -- what the code has of a file: its scan, and the answer of that
 module _ (file : List ℕ) (scanned : Scanned) (e : scanned ≡ scanOf file) where
-  pub scanned-within : (h : Header) → scanned .answer ≡ Scan.Table h → Within file (scanned .starts) (scanned .lengths)
+  pub scanned-within : (h : Header) → scanned .answer ≡ Scan.Table h → Within file (scanned .starts) (scanned .lengths) (h .last)
   scanned-within h a = rw e (within file h (rw e at a))
 
 module _ (shelf : Shelf) (store file : List ℕ) where

@@ -20,8 +20,7 @@ use Rattle.section.proofs.ExactlyWhen.{refused-1, refused-range}
 use Rattle.number.specs.Number as Number
 use Rattle.number.specs.declared.Number.{Number as Read}
 use Rattle.file.specs.Layout.{form, fewest, most, shortest, longest, sameTable}
-use Rattle.file.specs.Scan.{nothing, firstOf, added, readingOf, lengthOf, sectionAt, sectionsOf, followOf, countOf, formOf, scanOf}
-use Rattle.file.specs.declared.Seen.{Seen}
+use Rattle.file.specs.Scan.{Seen, nothing, firstOf, added, readingOf, lengthOf, sectionAt, sectionsOf, followOf, countOf, formOf, scanOf}
 use Rattle.file.specs.declared.Scan.{Scan}
 use Rattle.file.specs.declared.Scanned.{Scanned}
 

@@ -3,3 +3,4 @@ pub mod Answers
 pub mod Faults
 pub mod ExactlyWhen
 pub mod Unique
+pub mod Alike

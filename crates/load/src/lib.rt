@@ -1,6 +1,5 @@
 // Loads a file's table onto the shelf (document 01, "The shelf file"). Nothing is written before the last fault is ruled out.
 use berth::PLACES;
-use berth::SECTIONS;
 use berth::STORE;
 use file::Scan;
 use file::Scanned;
@@ -36,14 +35,22 @@ fn wide(x: u16) -> usize
     x as usize
 }
 
-// Puts each of the file's sections into its berth of place p.
-fn store_each(store: &mut [u8], p: usize, file: &[u8], starts: [usize; 16], lengths: [u16; 16])
+// Puts each of the file's sections, of which none has a number above the last, into its berth of place p.
+fn store_each(
+    store: &mut [u8],
+    p: usize,
+    file: &[u8],
+    starts: [usize; 16],
+    lengths: [u16; 16],
+    last: u8,
+)
     requires { ⌜ (p < places) × (length (now store) ≡ storeSize) ⌝ }
-    requires { ⌜ Within (now file) starts lengths ⌝ }
+    requires { ⌜ Within (now file) starts lengths last ⌝ }
     ensures { λ _. ⌜ now (store .exit) ≡ storedBelow sections (now (file .entry)) starts lengths (now (store .entry)) p ⌝ }
 {
+    let count = last as usize + 1;
     let mut n: usize = 0;
-    while n < SECTIONS {
+    while n < count {
         let size = wide(lengths[n]);
         if size != 0 {
             let start = starts[n];
@@ -97,7 +104,7 @@ fn load_table(
     header: Header,
 ) -> Loading
     requires { ⌜ length (now store) ≡ storeSize ⌝ }
-    requires { ⌜ Within (now file) (scanned .starts) (scanned .lengths) ⌝ }
+    requires { ⌜ Within (now file) (scanned .starts) (scanned .lengths) (header .last) ⌝ }
     ensures { λ r. ⌜ after r (now (store .exit)) ≡ tableOf shelf (now (store .entry)) (now (file .entry)) scanned header ⌝ }
 {
     let key = key_of(header);
@@ -110,7 +117,7 @@ fn load_table(
     }
     let starts = scanned.starts;
     let lengths = scanned.lengths;
-    store_each(store, p, file, starts, lengths);
+    store_each(store, p, file, starts, lengths, header.last);
     let place = loaded_place(header, lengths);
     let mut next = shelf;
     next.places[p] = place;

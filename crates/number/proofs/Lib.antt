@@ -5,3 +5,4 @@ pub mod OneSpelling
 pub mod Bounds
 pub mod Unique
 pub mod Untouched
+pub mod Unreadable

@@ -4,3 +4,4 @@ pub mod Listing
 pub mod Saving
 pub mod ExactlyWhen
 pub mod Unique
+pub mod Alike

@@ -1,9 +1,8 @@
 -- The held sections in the file, one after another.
---   listed-append                       sections after sections
 --   held-count, listed-size             how many they are, and how many bytes they take
 --   none-listed, one-listed, all-listed the output, turn by turn, where there is room (`Ready`)
 use mathlib.Core.Path.{_≡_, refl, sym, ap, _∙_}
-use mathlib.Core.List.{List, [], _∷_, _++_, append-assoc, append-nil}
+use mathlib.Core.List.{List, append-nil}
 use Prim.Native.Nat.{ℕ, zero, suc, _+_, _<_, _≤_}
 use native.Mathlib.Nat.{le-of-suc-le-suc, eq-or-lt-of-le, not-suc-le-zero}
 use mathlib.Core.Logic.{⊎-elim}
@@ -13,17 +12,14 @@ use lib.Dec.{eqb}
 use lib.ListN.{length, getD, length-append}
 use Rattle.base.proofs.Cases.{by}
 use Rattle.berth.specs.Berth.{berthSize, places, sections, storeSize, laid, standing}
+use Rattle.berth.proofs.Berths.{standing-length}
 use Rattle.berth.proofs.Laid.{laid-beside}
 use Rattle.file.specs.Layout.{listed, chosen}
+use Rattle.file.proofs.Listed.{listed-append}
 use Rattle.save.specs.Sizes.{heldOf, sizeOf, countOf, sizeBelow, countBelow, Berthed}
 use Rattle.save.specs.Save.{heldBelow}
 use Rattle.save.proofs.Adding.{none-sized, next-size}
-use Rattle.save.proofs.Writing.{standing-length, laid-nothing}
-
-pub listed-append : (a b : List (List ℕ)) → listed (a ++ b) ≡ listed a ++ listed b
-unfolding listed
-listed-append [] b = refl
-listed-append (s ∷ a) b = rw (listed-append a b) (simp append-assoc)
+use Rattle.save.proofs.Writing.{laid-nothing}
 
 -- one section
 one-count : (size : ℕ) (store : List ℕ) (p n : ℕ) → length (heldOf size store p n) ≡ countOf size
@@ -34,7 +30,7 @@ one-size : (size : ℕ) (store : List ℕ) (p n : ℕ) → length store ≡ stor
     → length (listed (heldOf size store p n)) ≡ sizeOf size
 unfolding heldOf sizeOf listed
 one-size size store p n w hp hn h =
-    let e : length (standing store p n size) ≡ size = standing-length store p n size w hp hn h in
+    let e : length (standing store p n size) ≡ size = standing-length store w p n hp hn size h in
     by (eqb size 0) (λ t. rw t) (λ f. rw (f, e, append-nil, length-append, e))
 
 pub held-count : (lengths store : List ℕ) (p k : ℕ) → length (heldBelow k lengths store p) ≡ countBelow k lengths

@@ -2,7 +2,6 @@
 --   lent-end                              the rest of an output, lent from a place on, comes back with bytes at its front
 --   wrote-count, wrote-number, never-15   a number that fits
 --   laid-nothing                          nothing laid changes nothing
---   standing-length                       the bytes that stand in a berth
 --   held-none, held-end, held-written     a section after its length, where there is room (`Room`)
 use mathlib.Core.Path.{_≡_, sym, ap, _∙_}
 use mathlib.Core.Bool.{true}
@@ -14,9 +13,9 @@ use lib.ListN.{length, drop, length-drop, drop-of-length-le, take-append-drop}
 use lib.Seq.{take-all, drop-drop}
 use borrow.Author.Tests.{le-ltb, le-leb, eq-eqb, ne-eqb}
 use borrow.Rule.Slice.PartMut.{midOf, putMid}
-use Rattle.base.proofs.Bytes.{length-part}
-use Rattle.berth.specs.Berth.{berthSize, places, sections, storeSize, beginsAt, laid, standing}
+use Rattle.berth.specs.Berth.{berthSize, places, sections, storeSize, laid, standing}
 use Rattle.berth.specs.Calls.{isBerth, goesIn, copiedIn}
+use Rattle.berth.proofs.Berths.{standing-length}
 use Rattle.berth.proofs.Laid.{laid-length, laid-beside}
 use Rattle.berth.proofs.Steps.{is-berth}
 use Rattle.number.specs.Number.{spelt, Writing, writing, writtenOf}
@@ -69,12 +68,6 @@ module _ (n at : ℕ) (old : List ℕ) {back : List ℕ} {r : Written} (h : at +
       let z : _≡_ {A = ℕ} 0 1 = cc in
       omega arith
 
--- the bytes that stand in a berth
-pub standing-length : (store : List ℕ) (p n count : ℕ) → length store ≡ storeSize → p < places → n < sections → count ≤ berthSize
-    → length (standing store p n count) ≡ count
-unfolding standing
-standing-length store p n count w hp hn h = length-part store (beginsAt berthSize p n) count (omega arith)
-
 -- a section in a berth, and room for it in the output
 pub record Room (store : List ℕ) (p n size : ℕ) (old : List ℕ) (at : ℕ) : Type 0 where
   pub whole : length store ≡ storeSize
@@ -94,7 +87,7 @@ held-none store p n size old at z =
 -- a section after its length
 module _ {store : List ℕ} {p n size : ℕ} {old : List ℕ} {at : ℕ} (r : Room store p n size old at) where
   bytes-length : length (standing store p n size) ≡ size
-  bytes-length = standing-length store p n size (r .whole) (r .place) (r .number) (r .small)
+  bytes-length = standing-length store (r .whole) p n (r .place) (r .number) size (r .small)
 
   -- one section in the file
   listed-one : listed (heldOf size store p n) ≡ spelt size ++ standing store p n size

@@ -5,8 +5,7 @@
 use mathlib.Core.Path.{_≡_}
 use mathlib.Core.List.{List}
 use Prim.Native.Nat.{ℕ, _<_, _≤_}
-use native.Mathlib.Omega.{arith}
-use lib.ListN.{length, length-take, length-drop}
+use lib.ListN.{length}
 use Rattle.berth.specs.Berth.{berthSize, sections, places, storeSize, padded, put, standing}
 use Rattle.berth.proofs.Berths as laws
 use Rattle.berth.proofs.Berths.{Elsewhere}
@@ -18,12 +17,7 @@ pub record Berth (store : List ℕ) (p n : ℕ) : Type 0 where
 
 module _ (store : List ℕ) (p n : ℕ) (b : Berth store p n) where
   pub standing-length : (k : ℕ) → k ≤ berthSize → length (standing store p n k) ≡ k
-  unfolding standing
-  standing-length k h =
-      let l : length store ≡ 65536 = b .lent in
-      let i : p < 4 = b .place in
-      let j : n < 16 = b .number in
-      simp (length-take, length-drop) (omega arith)
+  standing-length = laws.standing-length store (b .lent) p n (b .place) (b .number)
 
   module _ (bytes : List ℕ) (small : length bytes ≤ berthSize) where
     pub put-length : length (put store p n bytes) ≡ length store

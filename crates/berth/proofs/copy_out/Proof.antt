@@ -32,7 +32,7 @@ same-length c = search needs
 returns-3 : tie.Need-returns-3
 returns-3 c =
     let to = c .before .before .before .before .before in
-    c .before .before .copy .ensures .1
+    c .before .before .copy .ensures
     ∙ copied-done _ _ _ (told (to .before .is-berth .ensures) (to .if3 .taken)) _ (search needs) _ (c .before .before .before .before .view .ensures) _
     (search needs)
 

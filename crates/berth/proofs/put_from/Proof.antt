@@ -41,7 +41,7 @@ same-length c = search needs
 returns : tie.Need-returns
 returns c =
     let start = c .before .before .before .before .before .before .before .before .before .before in
-    put-back _ (start .args .from) (start .args .size) (search needs) _ (search needs) _ _ (c .before .before .before .before .before .before .copy .ensures .1) (c .before .before .fill .ensures)
+    put-back _ (start .args .from) (start .args .size) (search needs) _ (search needs) _ _ (c .before .before .before .before .before .before .copy .ensures) (c .before .before .fill .ensures)
 
 pub put-from-spec : {M : Type 1} → statement M
 put-from-spec =
