@@ -1,0 +1,15 @@
+use Rattle.shelf_quick.proofs.Pass.{low-none}
+use borrow.Author.Needs.{needs}
+use Rattle.shelf_quick.proofs.low.Statement.{statement}
+use Rattle.shelf_quick.proofs.low.Tie as tie
+use Rattle.shelf_quick.proofs.low.Reads as reads
+use Rattle.shelf_quick.proofs.low.Lts as lts
+
+returns : tie.Need-returns
+returns c = search needs
+
+returns-2 : tie.Need-returns-2
+returns-2 c = low-none _ _ _ (c .if1 .left)
+
+pub low-spec : {M : Type 1} → statement M
+low-spec = tie.close (tie.spec returns returns-2)
