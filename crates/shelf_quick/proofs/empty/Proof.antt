@@ -1,10 +1,8 @@
-use Rattle.shelf_quick.proofs.Places.{empty-free, empty-taken}
+-- `shelf_quick::empty` meets its promise: a free place, or the sixteen lengths of a taken one.
 use borrow.Author.Needs.{needs}
+use Rattle.shelf_quick.proofs.Places.{empty-free, empty-taken}
 use Rattle.shelf_quick.proofs.empty.Statement.{statement}
 use Rattle.shelf_quick.proofs.empty.Tie as tie
-use Rattle.shelf_quick.proofs.empty.Reads as reads
-use Rattle.shelf_quick.proofs.empty.Lts as lts
-use Rattle.shelf_quick.proofs.holds_one.Reads as holds-one-reads
 
 mul-at : tie.Need-mul-at
 mul-at c = search needs

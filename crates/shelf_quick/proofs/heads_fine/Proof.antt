@@ -1,9 +1,8 @@
-use Rattle.shelf_quick.proofs.Places.{heads-seen}
+-- `shelf_quick::heads_fine` meets its promise: its eight tests, taken apart.
 use borrow.Author.Needs.{needs}
+use Rattle.shelf_quick.proofs.Places.{heads-seen}
 use Rattle.shelf_quick.proofs.heads_fine.Statement.{statement}
 use Rattle.shelf_quick.proofs.heads_fine.Tie as tie
-use Rattle.shelf_quick.proofs.heads_fine.Reads as reads
-use Rattle.shelf_quick.proofs.heads_fine.Lts as lts
 
 shared-slice-read-versions : tie.Need-shared-slice-read-versions
 shared-slice-read-versions c = search needs

@@ -1,17 +1,16 @@
+-- `shelf_quick::holds_one` meets its promise: no length that was passed is held.
 use mathlib.Core.Path.{_≡_, sym}
 use mathlib.Core.Bool.{false, not}
 use Prim.Native.Nat.{_+_, _≤_, _-_}
 use native.Mathlib.Omega.{arith}
 use lib.Dec.{eqb}
 use lib.ListN.{getD}
+use borrow.Author.Needs.{needs}
 use Rattle.base.specs.Below.{some}
 use Rattle.base.proofs.Below.{some-none, some-more, some-found}
 use Rattle.shelf_quick.proofs.Places.{held-now, free-now, some-at}
-use borrow.Author.Needs.{needs}
 use Rattle.shelf_quick.proofs.holds_one.Statement.{statement}
 use Rattle.shelf_quick.proofs.holds_one.Tie as tie
-use Rattle.shelf_quick.proofs.holds_one.Reads as reads
-use Rattle.shelf_quick.proofs.holds_one.Lts as lts
 
 abbrev Inv-loop : tie.InvT-loop
 Inv-loop words at i₀ i = (i ≤ 16) × (some i (λ n. not (eqb (getD words (at + n) 0) 0)) ≡ false)

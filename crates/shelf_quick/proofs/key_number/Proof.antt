@@ -1,12 +1,11 @@
+-- `shelf_quick::key_number` meets its promise: the number fits.
 use mathlib.Core.Path.{refl}
 use Prim.Native.Nat.{_+_, _*_}
 use native.Mathlib.Omega.{arith}
-use Rattle.shelf_words.specs.Words.{placeIn}
 use borrow.Author.Needs.{needs}
+use Rattle.shelf_words.specs.Words.{placeIn}
 use Rattle.shelf_quick.proofs.key_number.Statement.{statement}
 use Rattle.shelf_quick.proofs.key_number.Tie as tie
-use Rattle.shelf_quick.proofs.key_number.Reads as reads
-use Rattle.shelf_quick.proofs.key_number.Lts as lts
 
 mul-at : tie.Need-mul-at
 mul-at c = search needs

@@ -1,11 +1,8 @@
-use Rattle.shelf_quick.proofs.Places.{apart}
+-- `shelf_quick::keys_alike` meets its promise: where all four numbers differ, no two keys are one.
 use borrow.Author.Needs.{needs}
+use Rattle.shelf_quick.proofs.Places.{apart}
 use Rattle.shelf_quick.proofs.keys_alike.Statement.{statement}
 use Rattle.shelf_quick.proofs.keys_alike.Tie as tie
-use Rattle.shelf_quick.proofs.keys_alike.Reads as reads
-use Rattle.shelf_quick.proofs.keys_alike.Lts as lts
-use Rattle.shelf_quick.proofs.key_number.Reads as key-number-reads
-use Rattle.shelf_quick.proofs.names_alike.Reads as names-alike-reads
 
 key-number-requires : tie.Need-key-number-requires
 key-number-requires c κs = search needs

@@ -1,17 +1,14 @@
-use Rattle.base.proofs.Cases.{and-left, and-right}
-use lib.Dec.{eqb, leb}
-use borrow.Author.Tests.{eqb-true, leb-true}
+-- `shelf_quick::lengths_fine` meets its promise: after each number, what was seen of the four places.
 use mathlib.Core.Path.{_≡_}
 use Prim.Native.Nat.{_≤_, _-_}
 use native.Mathlib.Omega.{arith}
-use Rattle.shelf_quick.proofs.Pass.{Seen, seen-none, seen-more, seen-all, none-of-five}
+use lib.Dec.{eqb, leb}
+use borrow.Author.Tests.{eqb-true, leb-true}
 use borrow.Author.Needs.{needs}
+use Rattle.base.proofs.Cases.{and-left, and-right}
+use Rattle.shelf_quick.proofs.Pass.{Seen, seen-none, seen-more, seen-all, none-of-five}
 use Rattle.shelf_quick.proofs.lengths_fine.Statement.{statement}
 use Rattle.shelf_quick.proofs.lengths_fine.Tie as tie
-use Rattle.shelf_quick.proofs.lengths_fine.Reads as reads
-use Rattle.shelf_quick.proofs.lengths_fine.Lts as lts
-use Rattle.shelf_quick.proofs.higher.Reads as higher-reads
-use Rattle.shelf_quick.proofs.low.Reads as low-reads
 
 abbrev Inv-loop : tie.InvT-loop
 Inv-loop words a b c d numbers under₀ top₀ i₀ under top i =

@@ -1,9 +1,8 @@
-use Rattle.shelf_quick.proofs.Pass.{low-none}
+-- `shelf_quick::low` meets its promise: what is not returned is 0, and is neither above last nor short.
 use borrow.Author.Needs.{needs}
+use Rattle.shelf_quick.proofs.Pass.{low-none}
 use Rattle.shelf_quick.proofs.low.Statement.{statement}
 use Rattle.shelf_quick.proofs.low.Tie as tie
-use Rattle.shelf_quick.proofs.low.Reads as reads
-use Rattle.shelf_quick.proofs.low.Lts as lts
 
 returns : tie.Need-returns
 returns c = search needs

@@ -1,12 +1,10 @@
-use native.Mathlib.Omega.{arith}
+-- `shelf_quick::named` meets its promise: a taken place has the number of its key, and a free one its own.
 use Prim.Native.Nat.{_+_, _*_}
-use Rattle.shelf_quick.proofs.Places.{named-free, named-taken}
+use native.Mathlib.Omega.{arith}
 use borrow.Author.Needs.{needs}
+use Rattle.shelf_quick.proofs.Places.{named-free, named-taken}
 use Rattle.shelf_quick.proofs.named.Statement.{statement}
 use Rattle.shelf_quick.proofs.named.Tie as tie
-use Rattle.shelf_quick.proofs.named.Reads as reads
-use Rattle.shelf_quick.proofs.named.Lts as lts
-use Rattle.shelf_quick.proofs.key_number.Reads as key-number-reads
 
 mul-at : tie.Need-mul-at
 mul-at c = search needs

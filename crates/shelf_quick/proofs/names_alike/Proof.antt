@@ -1,11 +1,9 @@
+-- `shelf_quick::names_alike` meets its promise: for each pair, equal numbers are one key of two taken places.
 use native.Mathlib.Omega.{arith}
-use Rattle.shelf.proofs.Names.{name-alike, six}
 use borrow.Author.Needs.{needs}
+use Rattle.shelf.proofs.Names.{name-alike, six}
 use Rattle.shelf_quick.proofs.names_alike.Statement.{statement}
 use Rattle.shelf_quick.proofs.names_alike.Tie as tie
-use Rattle.shelf_quick.proofs.names_alike.Reads as reads
-use Rattle.shelf_quick.proofs.names_alike.Lts as lts
-use Rattle.shelf_quick.proofs.named.Reads as named-reads
 
 named-requires : tie.Need-named-requires
 named-requires c κs = search needs

@@ -1,10 +1,8 @@
-use Rattle.base.proofs.Tests.{told}
+-- `shelf_quick::one_empty` meets its promise: place by place.
 use borrow.Author.Needs.{needs}
+use Rattle.base.proofs.Tests.{told}
 use Rattle.shelf_quick.proofs.one_empty.Statement.{statement}
 use Rattle.shelf_quick.proofs.one_empty.Tie as tie
-use Rattle.shelf_quick.proofs.one_empty.Reads as reads
-use Rattle.shelf_quick.proofs.one_empty.Lts as lts
-use Rattle.shelf_quick.proofs.empty.Reads as empty-reads
 
 empty-requires : tie.Need-empty-requires
 empty-requires c κs = search needs

@@ -1,17 +1,12 @@
-use Rattle.shelf_quick.proofs.Places.{passed}
+-- `shelf_quick::sound` meets its promise: what its parts showed is that no place is spoiled and no two keys are one.
+use mathlib.Core.Path.{sym}
+use borrow.Author.Tests.{not-true, not-false}
+use borrow.Author.Needs.{needs}
 use Rattle.base.proofs.Cases.{unlike}
 use Rattle.base.proofs.Tests.{told}
-use borrow.Author.Tests.{not-true, not-false}
-use mathlib.Core.Path.{sym}
-use borrow.Author.Needs.{needs}
+use Rattle.shelf_quick.proofs.Places.{passed}
 use Rattle.shelf_quick.proofs.sound.Statement.{statement}
 use Rattle.shelf_quick.proofs.sound.Tie as tie
-use Rattle.shelf_quick.proofs.sound.Reads as reads
-use Rattle.shelf_quick.proofs.sound.Lts as lts
-use Rattle.shelf_quick.proofs.heads_fine.Reads as heads-fine-reads
-use Rattle.shelf_quick.proofs.keys_alike.Reads as keys-alike-reads
-use Rattle.shelf_quick.proofs.lengths_fine.Reads as lengths-fine-reads
-use Rattle.shelf_quick.proofs.one_empty.Reads as one-empty-reads
 
 heads-fine-requires : tie.Need-heads-fine-requires
 heads-fine-requires c κs = search needs

@@ -1,14 +1,10 @@
-use Rattle.shelf_quick.proofs.Places.{not-spoiled}
-use Rattle.shelf.specs.Record.{spoiledOf}
+-- `shelf_quick::spoiled_in` meets its promise: by the pass, or by the record in full.
 use mathlib.Core.Path.{ap, _∙_}
 use borrow.Author.Needs.{needs}
+use Rattle.shelf.specs.Record.{spoiledOf}
+use Rattle.shelf_quick.proofs.Places.{not-spoiled}
 use Rattle.shelf_quick.proofs.spoiled_in.Statement.{statement}
 use Rattle.shelf_quick.proofs.spoiled_in.Tie as tie
-use Rattle.shelf_quick.proofs.spoiled_in.Reads as reads
-use Rattle.shelf_quick.proofs.spoiled_in.Lts as lts
-use Rattle.shelf.proofs.spoiled.Reads as spoiled-reads
-use Rattle.shelf_quick.proofs.sound.Reads as sound-reads
-use Rattle.shelf_words.proofs.shelf_in.Reads as shelf-in-reads
 
 sound-requires : tie.Need-sound-requires
 sound-requires c κs = search needs
