@@ -2,6 +2,7 @@
 --   offer-told, release-told, load-told      calls that leave a record
 --   copy-told, save-told, list-told          calls that fill an output
 --   whole-told, missing-told                 questions
+--   repeat-told, add-told                   the frequent steps of an offer
 --   re-word, re-code                         the same with equal numbers, or an equal answer
 use mathlib.Core.Path.{_≡_, refl, sym, ap, _∙_}
 use mathlib.Core.List.{List}
@@ -11,6 +12,12 @@ use Rattle.shelf.specs.declared.Shelf.{Shelf}
 use lib.ListN.{length}
 use borrow.Author.Tests.{eq-eqb}
 use Rattle.berth.specs.Berth.{storeSize}
+use Rattle.berth.specs.Calls.{putIn}
+use Rattle.offer.proofs.Stands.{put-at}
+use Rattle.offer_quick.specs.Frequent.{frequentOf, lengthPut}
+use Rattle.offer_quick.specs.declared.Frequent.the-variants.{Repeats, Adds}
+use Rattle.offer_quick.proofs.Made.{repeat-made, add-made}
+use Rattle.offer_quick.proofs.Numbers.{counted, put-after}
 use Rattle.shelf_words.specs.Words.{count, shelfAt, wordsAfter}
 use Rattle.begin.specs.Begin as Begin
 use Rattle.begin.specs.declared.Beginning.{Beginning}
@@ -65,6 +72,23 @@ module _ (w st : List ℕ) (sh : Shelf) (read : sh ≡ shelfAt w) where
 pub list-told : (file o o' : List ℕ) (r : Listed) (code : ℕ) → Listing.listing r o' ≡ Listing.listOf file o → code ≡ listedCode r → out code o' ≡ listLent file o
 unfolding listLent
 list-told file o o' r code e q = ap (λ k. out k o') q ∙ ap listOut e
+
+-- the frequent steps, told of the numbers
+module _ (w st p : List ℕ) where
+  pub repeat-told : frequentOf (shelfAt w) st p ≡ Repeats → lent 1024 w st ≡ offerLent w st p
+  repeat-told e =
+      let m = repeat-made (shelfAt w) st p e in
+      offer-told w st (shelfAt w) refl p (Offer.offerOf (shelfAt w) st p) Offered.Repeat (lent 1024 w st) refl (m .0) (ap (λ x. lent 1024 w x) (sym (m .1)))
+
+  pub add-told : (q n : ℕ) (w' st' : List ℕ) → frequentOf (shelfAt w) st p ≡ Adds q n → st' ≡ putIn st q n p → w' ≡ lengthPut w q n (length p) → lent 768 w' st' ≡ offerLent w st p
+  add-told q n w' st' e s t =
+      let m = add-made (shelfAt w) st p q n e in
+      let r = m .3 in
+      let words : w' ≡ wordsAfter w (Offer.offerOf (shelfAt w) st p .shelf) =
+      t ∙ put-after w q n (length p) (counted w (r .sound)) (r .place) (r .number) ∙ ap (wordsAfter w) (sym (m .1)) in
+      let store : st' ≡ Offer.offerOf (shelfAt w) st p .store = s ∙ put-at st q (r .whole) (r .place) n (r .number) p (r .size) ∙ sym (m .2) in
+      offer-told w st (shelfAt w) refl p (Offer.offerOf (shelfAt w) st p) Offered.Added (lent 768 w' st') refl (m .0)
+      (ap (λ x. lent 768 x st') words ∙ ap (λ x. lent 768 (wordsAfter w (Offer.offerOf (shelfAt w) st p .shelf)) x) store)
 
 -- the same answer and store, with numbers that are equal
 pub re-word : (code : ℕ) (w w' st : List ℕ) → w ≡ w' → lent code w st ≡ lent code w' st

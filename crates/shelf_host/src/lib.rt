@@ -6,6 +6,7 @@ use ask::Whole;
 use listing::Listed;
 use load::Loaded;
 use offer::Offered;
+use offer_quick::Frequent;
 use release::Released;
 use save::Saved;
 use shelf::Key;
@@ -53,8 +54,8 @@ fn wider(n: u8) -> u32
     n as u32
 }
 
-// Offers a payload.
-pub fn offer_lent(words: &mut [u16], store: &mut [u8], payload: &[u8]) -> u16
+// Offers a payload to the record that the numbers are, by the layer's own call.
+fn by_record(words: &mut [u16], store: &mut [u8], payload: &[u8]) -> u16
     ensures { λ r. ⌜ lent r (now (words .exit)) (now (store .exit)) ≡ offerLent (now (words .entry)) (now (store .entry)) (now (payload .entry)) ⌝ }
 {
     let shelf = shelf_words::shelf_in(words);
@@ -76,6 +77,27 @@ pub fn offer_lent(words: &mut [u16], store: &mut [u8], payload: &[u8]) -> u16
             shelf_words::put_shelf(words, next);
             ADDED
         }
+    }
+}
+
+// Offers a payload. A repeat and a section that is added, which are nearly all offers, are told from the numbers and written
+// there; what else it may be, and every refusal, is left to the layer's own call.
+pub fn offer_lent(words: &mut [u16], store: &mut [u8], payload: &[u8]) -> u16
+    ensures { λ r. ⌜ lent r (now (words .exit)) (now (store .exit)) ≡ offerLent (now (words .entry)) (now (store .entry)) (now (payload .entry)) ⌝ }
+{
+    if store.len() != berth::STORE {
+        return by_record(words, store, payload);
+    }
+    let step = offer_quick::step_in(words, store, payload);
+    match step {
+        Frequent::Repeats => REPEAT,
+        Frequent::Adds(p, n) => {
+            let size = payload.len() as u16;
+            berth::put(store, p, n, payload);
+            offer_quick::put_length(words, p, n, size);
+            ADDED
+        }
+        Frequent::Other => by_record(words, store, payload),
     }
 }
 

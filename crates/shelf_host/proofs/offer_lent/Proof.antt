@@ -1,50 +1,15 @@
--- `shelf_host::offer_lent` keeps its promise by the layer's.
-use borrow.Author.Needs.{needs}
-use mathlib.Core.Path.{_≡_, refl, sym, ap, _∙_}
+-- `shelf_host::offer_lent` meets its promise: a repeat and a section that is added by the frequent steps' laws, all else by the layer's call.
 use native.Mathlib.Omega.{arith}
-use Rattle.shelf_host.specs.Lent.{lent, offered, released, loaded, copiedCode, savedCode, listedCode, wholeCode, missingCode}
-use Rattle.shelf_host.proofs.Told.{offer-told, re-word, re-code}
+use borrow.Author.Needs.{needs}
+use Rattle.offer_quick.proofs.Made.{add-made}
+use Rattle.shelf_words.specs.Words.{shelfAt}
+use Rattle.base.proofs.Tests.{told}
+use Rattle.shelf_host.proofs.Told.{repeat-told, add-told}
 use Rattle.shelf_host.proofs.offer_lent.Statement.{statement}
 use Rattle.shelf_host.proofs.offer_lent.Tie as tie
-use Rattle.shelf_host.proofs.offer_lent.Reads as reads
-use Rattle.shelf_host.proofs.offer_lent.Lts as lts
-use Rattle.offer.proofs.offer.Reads as offer-reads
-use Rattle.shelf_host.proofs.wide.Reads as wide-reads
-use Rattle.shelf_words.proofs.put_shelf.Reads as put-shelf-reads
-use Rattle.shelf_words.proofs.shelf_in.Reads as shelf-in-reads
 
-shelf-in-requires : tie.Need-shelf-in-requires
-shelf-in-requires c κs = search needs
-
-offer-requires : tie.Need-offer-requires
-offer-requires c κs = search needs
-
-enum-known-answer : tie.Need-enum-known-answer
-enum-known-answer c = search needs
-
-wide-requires : tie.Need-wide-requires
-wide-requires c κs = search needs
-
-enum-told : tie.Need-enum-told
-enum-told c = search needs
-
-enum-told-2 : tie.Need-enum-told-2
-enum-told-2 c = search needs
-
-put-shelf-requires : tie.Need-put-shelf-requires
-put-shelf-requires c κs = search needs
-
-enum-told-3 : tie.Need-enum-told-3
-enum-told-3 c = search needs
-
-put-shelf-requires-2 : tie.Need-put-shelf-requires-2
-put-shelf-requires-2 c κs = search needs
-
-enum-told-4 : tie.Need-enum-told-4
-enum-told-4 c = search needs
-
-put-shelf-requires-3 : tie.Need-put-shelf-requires-3
-put-shelf-requires-3 c κs = search needs
+by-record-requires : tie.Need-by-record-requires
+by-record-requires c κs = search needs
 
 same-length : tie.Need-same-length
 same-length c = search needs
@@ -53,7 +18,34 @@ same-length-2 : tie.Need-same-length-2
 same-length-2 c = search needs
 
 returns : tie.Need-returns
-returns c = offer-told _ _ _ (c .before .before .before .before .before .before .before .before .before .shelf-in .ensures) _ _ _ _ (c .before .before .before .before .before .before .before .offer .ensures) (c .before .before .answer .given .1) (re-code _ _ _ _ (c .wide .ensures))
+returns c = search needs
+
+step-in-requires : tie.Need-step-in-requires
+step-in-requires c κs = search needs
+
+enum-told : tie.Need-enum-told
+enum-told c = search needs
+
+enum-known-step : tie.Need-enum-known-step
+enum-known-step c = search needs
+
+cast-size : tie.Need-cast-size
+cast-size c =
+    let a = c .before .before .before .before .before .before .before .before .before .before .args in
+    let f = add-made (shelfAt (a .words .now)) (a .store .now) (a .payload .now) _ _ (told (c .before .before .before .step-in .ensures) (c .before .step .given .1)) in
+    omega (arith, f .3 .size)
+
+put-requires : tie.Need-put-requires
+put-requires c κs = search needs
+
+put-length-requires : tie.Need-put-length-requires
+put-length-requires c κs = search needs
+
+enum-told-2 : tie.Need-enum-told-2
+enum-told-2 c = search needs
+
+by-record-requires-2 : tie.Need-by-record-requires-2
+by-record-requires-2 c κs = search needs
 
 same-length-3 : tie.Need-same-length-3
 same-length-3 c = search needs
@@ -62,7 +54,7 @@ same-length-4 : tie.Need-same-length-4
 same-length-4 c = search needs
 
 returns-2 : tie.Need-returns-2
-returns-2 c = offer-told _ _ _ (c .before .before .before .before .before .before .before .shelf-in .ensures) _ _ _ _ (c .before .before .before .before .before .offer .ensures) (c .enum-told .given .1) refl
+returns-2 c = repeat-told _ _ _ (told (c .before .before .step-in .ensures) (c .enum-told .given .1))
 
 same-length-5 : tie.Need-same-length-5
 same-length-5 c = search needs
@@ -71,7 +63,7 @@ same-length-6 : tie.Need-same-length-6
 same-length-6 c = search needs
 
 returns-3 : tie.Need-returns-3
-returns-3 c = offer-told _ _ _ (c .before .before .before .before .before .before .before .before .before .before .before .shelf-in .ensures) _ _ _ _ (c .before .before .before .before .before .before .before .before .before .offer .ensures) (c .before .before .before .before .enum-told2 .given .1) (re-word _ _ _ _ (c .before .before .put-shelf .ensures))
+returns-3 c = add-told _ _ _ _ _ _ _ (told (c .before .before .before .before .before .before .before .before .before .before .before .step-in .ensures) (c .before .before .before .before .before .before .before .before .before .step .given .1)) (c .before .before .before .before .before .before .put .ensures) (c .before .before .put-length .ensures)
 
 same-length-7 : tie.Need-same-length-7
 same-length-7 c = search needs
@@ -80,35 +72,24 @@ same-length-8 : tie.Need-same-length-8
 same-length-8 c = search needs
 
 returns-4 : tie.Need-returns-4
-returns-4 c = offer-told _ _ _ (c .before .before .before .before .before .before .before .before .before .before .before .shelf-in .ensures) _ _ _ _ (c .before .before .before .before .before .before .before .before .before .offer .ensures) (c .before .before .before .before .enum-told3 .given .1) (re-word _ _ _ _ (c .before .before .put-shelf2 .ensures))
-
-same-length-9 : tie.Need-same-length-9
-same-length-9 c = search needs
-
-same-length-10 : tie.Need-same-length-10
-same-length-10 c = search needs
-
-returns-5 : tie.Need-returns-5
-returns-5 c = offer-told _ _ _ (c .before .before .before .before .before .before .before .before .before .before .before .shelf-in .ensures) _ _ _ _ (c .before .before .before .before .before .before .before .before .before .offer .ensures) (c .before .before .before .before .enum-told4 .given .1) (re-word _ _ _ _ (c .before .before .put-shelf3 .ensures))
+returns-4 c = search needs
 
 pub offer-lent-spec : {M : Type 1} → statement M
 offer-lent-spec =
     tie.close
     (tie.spec
-    shelf-in-requires
-    offer-requires
-    enum-known-answer
-    wide-requires
-    enum-told
-    enum-told-2
-    put-shelf-requires
-    enum-told-3
-    put-shelf-requires-2
-    enum-told-4
-    put-shelf-requires-3
+    by-record-requires
     same-length
     same-length-2
     returns
+    step-in-requires
+    enum-told
+    enum-known-step
+    cast-size
+    put-requires
+    put-length-requires
+    enum-told-2
+    by-record-requires-2
     same-length-3
     same-length-4
     returns-2
@@ -117,7 +98,4 @@ offer-lent-spec =
     returns-3
     same-length-7
     same-length-8
-    returns-4
-    same-length-9
-    same-length-10
-    returns-5)
+    returns-4)

@@ -1,0 +1,324 @@
+-- The numbers after a length is put: those of the record with that length.
+--   no-record, counted      any other count of numbers than 76 is a spoiled record
+--   its-shelf, in-shelf, sound-in, most-in   76 numbers are a record; where it is not spoiled, its lengths
+--   flag-off, flag-on       whether a place is taken, as a number
+--   put-there, put-nowhere, put-no-place, put-no-section, put-after     what a length that is put leaves
+use mathlib.Core.Path.{_≡_, refl, sym, ap, subst, _∙_}
+use mathlib.Core.Bool.{Bool, true, false, not, _&&_}
+use mathlib.Core.Logic.{_⊎_, ⊎-elim, inl, inr}
+use mathlib.Core.List.{List, [], _∷_, _++_}
+use Prim.Native.Nat.{ℕ, zero, suc, _+_, _*_, _/_, _%_, _<_, _≤_}
+use native.Mathlib.Omega.{arith}
+use lib.Dec.{eqb, ltb}
+use lib.ListN.{length, getD, set, drop, length-set, length-append, length-drop, List·getD-append}
+use lib.Seq.{getD-take, getD-drop, getD-set-same, getD-set-other, getD-append-add, ext-getD, length-take-le}
+use borrow.Author.Tests.{eq-eqb, ne-eqb, lt-ltb, le-ltb, ltb-true, ltb-false, eqb-true}
+use Rattle.base.specs.Choice.{if_then_else_}
+use Rattle.base.specs.Below.{some}
+use Rattle.base.proofs.Cases.{by, same-or, unlike}
+use Rattle.berth.specs.Berth.{places, sections}
+use Rattle.shelf.specs.Record.{fresh, noPlace, placeAt, withPlace, lengthAt, spoiledPlace, alike, spoiledOf, placeOf}
+use Rattle.shelf.specs.declared.Place.{Place}
+use Rattle.shelf.specs.declared.Shelf.{Shelf}
+use Rattle.section.specs.declared.Header.{Header}
+use Rattle.offer.specs.Offer.{keyOf}
+use Rattle.offer.proofs.Steps.{held-most}
+use Rattle.shelf_words.specs.Words.{count, over, placeIn, shelfIn, shelfAt, placeWords, shelfWords, noRecord, wordsAfter}
+use Rattle.offer_quick.specs.declared.Frequent.{Frequent}
+use Rattle.offer_quick.specs.Frequent.{frequentOf, lengthened, withLength, lengthPut, marked, tidied}
+use Rattle.offer_quick.proofs.Held.{place-at}
+
+no-record : spoiledOf noRecord ≡ true
+unfolding noRecord fresh spoiledOf spoiledPlace some
+no-record = refl
+
+pub counted : (words : List ℕ) → spoiledOf (shelfAt words) ≡ false → length words ≡ count
+unfolding shelfAt
+counted words e =
+    by (eqb (length words) count)
+    (λ t. eqb-true _ _ t)
+    (λ f. let g : spoiledOf noRecord ≡ false = rw f at e in absurd (unlike (sym no-record ∙ g)))
+
+pub in-shelf : (words store payload : List ℕ) {x : Frequent} → length words ≡ count → x ≡ frequentOf (shelfIn words) store payload → x ≡ frequentOf (shelfAt words) store payload
+unfolding shelfAt
+in-shelf words store payload n e = rw (eq-eqb (length words) count n) e
+
+pub its-shelf : (words : List ℕ) → length words ≡ count → shelfAt words ≡ shelfIn words
+unfolding shelfAt
+its-shelf words e = rw (eq-eqb (length words) count e)
+
+pub flag-off : (x : ℕ) → x ≡ 0 → 0 ≡ over (not (eqb x 0))
+flag-off x e = rw (eq-eqb x 0 e)
+
+pub flag-on : (x : ℕ) → (x ≡ 0 → ⊥) → 256 ≡ over (not (eqb x 0))
+flag-on x d = rw (ne-eqb x 0 d)
+
+pub sound-in : (words : List ℕ) → spoiledOf (shelfAt words) ≡ false → spoiledOf (shelfIn words) ≡ false
+sound-in words e = ap spoiledOf (sym (its-shelf words (counted words e))) ∙ e
+
+-- the held lengths of a place that has a key
+pub most-in : (words store payload : List ℕ) (h : Header) {p : ℕ} → spoiledOf (shelfAt words) ≡ false → p ≡ placeOf (shelfIn words) (keyOf h) → p < 4 → (n : ℕ) → n < 16
+    → lengthAt (placeIn words p) n ≤ 1024
+most-in words store payload h {p} s e l n m =
+    subst (λ x. lengthAt x n ≤ 1024) (place-at words p l) (held-most (shelfIn words) store payload h e (sound-in words s) l n m)
+
+-- number j of the numbers of place q, told of the numbers that the place was read from
+element :
+    (w : List ℕ)
+    (q j : ℕ)
+    → j < 19
+    → getD (placeWords (placeIn w q)) j 0 ≡ (if eqb j 2 then marked (getD w (19 * q + 2) 0) else getD w (19 * q + j) 0)
+unfolding placeIn
+element w q zero h =
+    let e : getD w (19 * q) 0 % 256 + 256 * (getD w (19 * q) 0 / 256) ≡ getD w (19 * q) 0 = omega arith in
+    let k : 19 * q ≡ 19 * q + 0 = omega arith in
+    e ∙ ap (λ k. getD w k 0) k
+element w q (suc zero) h = refl
+element w q (suc (suc zero)) h = refl
+element w q (suc (suc (suc m))) h =
+    let b : m < 16 = omega arith in
+    let a : getD (placeIn w q .lengths) m 0 ≡ getD w (19 * q + 3 + m) 0 = rw (getD-take, getD-drop) in
+    let k : 19 * q + 3 + m ≡ 19 * q + suc (suc (suc m)) = omega arith in
+    rw (ne-eqb (suc (suc (suc m))) 2 (λ z. omega arith)) (a ∙ ap (λ k. getD w k 0) k)
+
+-- the same of a place with another length
+longer : (x : Place) (n size j : ℕ) → n < length (x .lengths)
+    → getD (placeWords (lengthened x n size)) j 0 ≡ (if eqb j (n + 3) then size else getD (placeWords x) j 0)
+longer x n size zero h = rw (ne-eqb 0 (n + 3) (λ z. omega arith))
+longer x n size (suc zero) h = rw (ne-eqb 1 (n + 3) (λ z. omega arith))
+longer x n size (suc (suc zero)) h = rw (ne-eqb 2 (n + 3) (λ z. omega arith))
+longer x n size (suc (suc (suc m))) h =
+    ⊎-elim
+    (λ (e : m ≡ n). rw (eq-eqb (suc (suc (suc m))) (n + 3) (omega arith), e) (getD-set-same (x .lengths) n size 0 h))
+    (λ d. rw (ne-eqb (suc (suc (suc m))) (n + 3) (λ z. d (omega arith))) (getD-set-other (x .lengths) n m size 0 d))
+    (same-or m n)
+
+skip : (a r : List ℕ) (k j : ℕ) → length a ≡ 19 → k ≡ 19 + j → getD (a ++ r) k 0 ≡ getD r j 0
+skip a r k j n e = let f : k ≡ length a + j = omega arith in ap (λ i. getD (a ++ r) i 0) f ∙ getD-append-add a r j 0
+
+-- number j of place q among four times nineteen
+among : (a b c d : List ℕ) → length a ≡ 19 → length b ≡ 19 → length c ≡ 19 → length d ≡ 19 → (j : ℕ) → j < 19
+    → (getD (a ++ (b ++ (c ++ d))) j 0 ≡ getD a j 0)
+    × (getD (a ++ (b ++ (c ++ d))) (19 + j) 0 ≡ getD b j 0)
+    × (getD (a ++ (b ++ (c ++ d))) (38 + j) 0 ≡ getD c j 0)
+    × (getD (a ++ (b ++ (c ++ d))) (57 + j) 0 ≡ getD d j 0)
+among a b c d na nb nc nd j h = (
+  List·getD-append a (b ++ (c ++ d)) 0 j (omega arith),
+  skip a (b ++ (c ++ d)) (19 + j) j na refl ∙ List·getD-append b (c ++ d) 0 j (omega arith),
+  skip a (b ++ (c ++ d)) (38 + j) (19 + j) na (omega arith) ∙ skip b (c ++ d) (19 + j) j nb refl ∙ List·getD-append c d 0 j (omega arith),
+  skip a (b ++ (c ++ d)) (57 + j) (38 + j) na (omega arith) ∙ skip b (c ++ d) (38 + j) (19 + j) nb (omega arith) ∙ skip c d (19 + j) j nc refl,
+)
+
+-- every value of a record's type has sixteen lengths in each place
+abbrev Sixteen : Shelf → Type 0
+Sixteen shelf = (q : ℕ) → q < 4 → length (placeAt shelf q .lengths) ≡ 16
+
+long : (x : Place) → length (x .lengths) ≡ 16 → length (placeWords x) ≡ 19
+long x e = ap (λ n. suc (suc (suc n))) e
+
+of-record : (shelf : Shelf) → Sixteen shelf → (q j : ℕ) → q < 4 → j < 19 → getD (shelfWords shelf) (19 * q + j) 0 ≡ getD (placeWords (placeAt shelf q)) j 0
+unfolding shelfWords
+of-record shelf s q j l h = go q l
+  where
+    all :
+        (getD (shelfWords shelf) j 0 ≡ getD (placeWords (placeAt shelf 0)) j 0)
+        × (getD (shelfWords shelf) (19 + j) 0 ≡ getD (placeWords (placeAt shelf 1)) j 0)
+        × (getD (shelfWords shelf) (38 + j) 0 ≡ getD (placeWords (placeAt shelf 2)) j 0)
+        × (getD (shelfWords shelf) (57 + j) 0 ≡ getD (placeWords (placeAt shelf 3)) j 0)
+    all =
+        among
+        (placeWords (placeAt shelf 0))
+        (placeWords (placeAt shelf 1))
+        (placeWords (placeAt shelf 2))
+        (placeWords (placeAt shelf 3))
+        (long (placeAt shelf 0) (s 0 (omega arith)))
+        (long (placeAt shelf 1) (s 1 (omega arith)))
+        (long (placeAt shelf 2) (s 2 (omega arith)))
+        (long (placeAt shelf 3) (s 3 (omega arith)))
+        j
+        h
+
+    go : (q : ℕ) → q < 4 → getD (shelfWords shelf) (19 * q + j) 0 ≡ getD (placeWords (placeAt shelf q)) j 0
+    go zero l = let k : 19 * 0 + j ≡ j = omega arith in ap (λ i. getD (shelfWords shelf) i 0) k ∙ all .0
+    go (suc zero) l = all .1
+    go (suc (suc zero)) l = all .2
+    go (suc (suc (suc zero))) l = all .3
+    go (suc (suc (suc (suc q)))) l = absurd (omega arith)
+
+-- the first r places tidied
+layers : List ℕ → ℕ → List ℕ
+layers w zero = w
+layers w (suc r) = tidied (layers w r) r
+
+layers-length : (w : List ℕ) (r : ℕ) → length (layers w r) ≡ length w
+unfolding layers tidied
+layers-length w zero = refl
+layers-length w (suc r) = length-set (layers w r) (19 * r + 2) _ ∙ layers-length w r
+
+tidied-at : (w : List ℕ) (p k : ℕ) → 19 * p + 2 < length w → getD (tidied w p) k 0 ≡ (if eqb k (19 * p + 2) then marked (getD w k 0) else getD w k 0)
+unfolding tidied
+tidied-at w p k h =
+    ⊎-elim
+    (λ (e : k ≡ 19 * p + 2). rw (eq-eqb k (19 * p + 2) e, e) (getD-set-same w (19 * p + 2) (marked (getD w (19 * p + 2) 0)) 0 h))
+    (λ d. rw (ne-eqb k (19 * p + 2) d) (getD-set-other w (19 * p + 2) k (marked (getD w (19 * p + 2) 0)) 0 d))
+    (same-or k (19 * p + 2))
+
+module _ (w : List ℕ) (n76 : length w ≡ 76) (q j : ℕ) (small : j < 19) where
+  -- number j of place q after the first r places are tidied
+  layer :
+      (r : ℕ)
+      → r ≤ 4
+      → getD (layers w r) (19 * q + j) 0 ≡ (if ltb q r && eqb j 2 then marked (getD w (19 * q + 2) 0) else getD w (19 * q + j) 0)
+  unfolding layers
+  layer zero h = rw (le-ltb q 0 (omega arith))
+  layer (suc r) h =
+      let n : 19 * r + 2 < length (layers w r) = (let e = layers-length w r in omega arith) in
+      tidied-at (layers w r) r (19 * q + j) n
+      ∙ ⊎-elim
+      (λ (e : 19 * q + j ≡ 19 * r + 2).
+      let a : q ≡ r = omega arith in
+      let b : j ≡ 2 = omega arith in
+      let under : getD (layers w r) (19 * q + j) 0 ≡ getD w (19 * q + j) 0 = layer r (omega arith) ∙ rw (le-ltb q r (omega arith)) in
+      rw (eq-eqb (19 * q + j) (19 * r + 2) e, under, lt-ltb q (suc r) (omega arith), eq-eqb j 2 b, b))
+      (λ d.
+      rw (ne-eqb (19 * q + j) (19 * r + 2) d)
+      (layer r (omega arith)
+      ∙ ⊎-elim
+      (λ (b : j ≡ 2).
+      let a : q ≡ r → ⊥ = λ a. d (omega arith) in
+      by (ltb q r)
+      (λ t. rw (t, lt-ltb q (suc r) (let u : q < r = ltb-true _ _ t in omega arith)))
+      (λ t. rw (t, le-ltb q (suc r) (let u : r ≤ q = ltb-false _ _ t in omega (arith, a)))))
+      (λ b. rw (ne-eqb j 2 b) (both (ltb q r) (ltb q (suc r))))
+      (same-or j 2)))
+      (same-or (19 * q + j) (19 * r + 2))
+    where
+      both : (s t : Bool) → (if s && false then marked (getD w (19 * q + 2) 0) else getD w (19 * q + j) 0) ≡ (if t && false then marked (getD w (19 * q + 2) 0) else getD w (19 * q + j) 0)
+      both true true = refl
+      both true false = refl
+      both false true = refl
+      both false false = refl
+
+  -- all four
+  tidy-all : q < 4 → getD (layers w 4) (19 * q + j) 0 ≡ getD (placeWords (placeIn w q)) j 0
+  tidy-all l = layer 4 (omega arith) ∙ rw (lt-ltb q 4 l) (sym (element w q j small))
+
+by-number : (a b : List ℕ) → length a ≡ 76 → length b ≡ 76 → ((q j : ℕ) → q < 4 → j < 19 → getD a (19 * q + j) 0 ≡ getD b (19 * q + j) 0) → a ≡ b
+by-number a b n m f =
+    ext-getD 0 a b (n ∙ sym m)
+    (λ i h.
+    let e : 19 * (i / 19) + i % 19 ≡ i = omega arith in
+    ap (λ k. getD a k 0) (sym e) ∙ f (i / 19) (i % 19) (omega arith) (omega arith) ∙ ap (λ k. getD b k 0) e)
+
+module _ (w : List ℕ) (n76 : length w ≡ 76) where
+  lengths-16 : (q : ℕ) → q < 4 → length (placeIn w q .lengths) ≡ 16
+  unfolding placeIn
+  lengths-16 q l = length-take-le 16 (drop (19 * q + 3) w) (simp length-drop (omega arith))
+
+  module _ (p n size : ℕ) (l : p < 4) (m : n < 16) where
+    abbrev after : Shelf
+    after = withLength (shelfIn w) p n size
+
+    four : length (shelfIn w .places) ≡ 4
+    unfolding shelfIn
+    four = refl
+
+    here : placeAt after p ≡ lengthened (placeIn w p) n size
+    here =
+        getD-set-same (shelfIn w .places) p (lengthened (placeAt (shelfIn w) p) n size) noPlace (let f = four in omega arith)
+        ∙ ap (λ x. lengthened x n size) (place-at w p l)
+
+    elsewhere : (q : ℕ) → q < 4 → (q ≡ p → ⊥) → placeAt after q ≡ placeIn w q
+    elsewhere q h d = getD-set-other (shelfIn w .places) p q (lengthened (placeAt (shelfIn w) p) n size) noPlace d ∙ place-at w q h
+
+    sixteen : Sixteen after
+    sixteen q h =
+        ⊎-elim
+        (λ (e : q ≡ p). ap (λ i. length (placeAt after i .lengths)) e ∙ ap (λ (x : Place). length (x .lengths)) here ∙ length-set (placeIn w p .lengths) n size ∙ lengths-16 p l)
+        (λ d. ap (λ (x : Place). length (x .lengths)) (elsewhere q h d) ∙ lengths-16 q h)
+        (same-or q p)
+
+    -- number j of place q of the record with that length
+    of-after : (q j : ℕ) → q < 4 → j < 19 → getD (set (layers w 4) (19 * p + 3 + n) size) (19 * q + j) 0 ≡ getD (placeWords (placeAt after q)) j 0
+    of-after q j h k =
+        let f = lengths-16 p l in
+        ⊎-elim
+        (λ (e : q ≡ p).
+        let x : getD (placeWords (placeAt after q)) j 0 ≡ (if eqb j (n + 3) then size else getD (placeWords (placeIn w p)) j 0)
+        = ap (λ r. getD (placeWords (placeAt after r)) j 0) e ∙ ap (λ x. getD (placeWords x) j 0) here ∙ longer (placeIn w p) n size j (omega arith) in
+        ⊎-elim
+        (λ (b : j ≡ n + 3).
+        let i : 19 * q + j ≡ 19 * p + 3 + n = omega arith in
+        let y : (if eqb j (n + 3) then size else getD (placeWords (placeIn w p)) j 0) ≡ size = rw (eq-eqb j (n + 3) b) in
+        ap (λ k. getD (set (layers w 4) (19 * p + 3 + n) size) k 0) i
+        ∙ getD-set-same (layers w 4) (19 * p + 3 + n) size 0 (let g = layers-length w 4 in omega arith)
+        ∙ sym (x ∙ y))
+        (λ b.
+        let y : (if eqb j (n + 3) then size else getD (placeWords (placeIn w p)) j 0) ≡ getD (placeWords (placeIn w p)) j 0
+        = rw (ne-eqb j (n + 3) b) in
+        getD-set-other (layers w 4) (19 * p + 3 + n) (19 * q + j) size 0 (λ i. b (omega arith))
+        ∙ tidy-all w n76 q j k h
+        ∙ ap (λ r. getD (placeWords (placeIn w r)) j 0) e
+        ∙ sym (x ∙ y))
+        (same-or j (n + 3)))
+        (λ d.
+        getD-set-other (layers w 4) (19 * p + 3 + n) (19 * q + j) size 0 (λ i. d (omega arith))
+        ∙ tidy-all w n76 q j k h
+        ∙ ap (λ x. getD (placeWords x) j 0) (sym (elsewhere q h d)))
+        (same-or q p)
+
+    record-length : length (shelfWords after) ≡ 76
+    unfolding shelfWords
+    record-length =
+        simp length-append
+        (let a = long (placeAt after 0) (sixteen 0 (omega arith)) in
+        let b = long (placeAt after 1) (sixteen 1 (omega arith)) in
+        let c = long (placeAt after 2) (sixteen 2 (omega arith)) in
+        let d = long (placeAt after 3) (sixteen 3 (omega arith)) in
+        omega arith)
+
+    written : set (layers w 4) (19 * p + 3 + n) size ≡ shelfWords after
+    written =
+        by-number (set (layers w 4) (19 * p + 3 + n) size) (shelfWords after)
+        (length-set (layers w 4) (19 * p + 3 + n) size ∙ layers-length w 4 ∙ n76)
+        record-length
+        (λ q j h k. of-after q j h k ∙ sym (of-record after sixteen q j h k))
+
+    pub put-there :
+        (a b c d : List ℕ)
+        → a ≡ tidied w 0
+        → b ≡ tidied a 1
+        → c ≡ tidied b 2
+        → d ≡ tidied c 3
+        → set d (19 * p + 3 + n) size ≡ lengthPut w p n size
+    unfolding lengthPut layers wordsAfter
+    put-there a b c d e f g h =
+        let all : d ≡ layers w 4 = h ∙ ap (λ x. tidied x 3) (g ∙ ap (λ x. tidied x 2) (f ∙ ap (λ x. tidied x 1) e)) in
+        rw (eq-eqb (length w) 76 n76, lt-ltb p 4 l, lt-ltb n 16 m) (ap (λ x. set x (19 * p + 3 + n) size) all ∙ written)
+
+module _ (w : List ℕ) (p n size : ℕ) where
+  pub put-nowhere : (length w ≡ 76 → ⊥) → w ≡ lengthPut w p n size
+  unfolding lengthPut
+  put-nowhere d = rw (ne-eqb (length w) 76 d)
+
+  pub put-no-place : 4 ≤ p → w ≡ lengthPut w p n size
+  unfolding lengthPut
+  put-no-place h = rw (le-ltb p 4 h) (sym (go (eqb (length w) 76)))
+    where
+      go : (b : Bool) → (if b && false then wordsAfter w (withLength (shelfIn w) p n size) else w) ≡ w
+      go true = refl
+      go false = refl
+
+  pub put-no-section : 16 ≤ n → w ≡ lengthPut w p n size
+  unfolding lengthPut
+  put-no-section h = rw (le-ltb n 16 h) (sym (go (eqb (length w) 76) (ltb p 4)))
+    where
+      go : (a b : Bool) → (if a && (b && false) then wordsAfter w (withLength (shelfIn w) p n size) else w) ≡ w
+      go true true = refl
+      go true false = refl
+      go false b = refl
+
+-- the numbers of the record that the numbers are, with that length
+pub put-after : (w : List ℕ) (p n size : ℕ) → length w ≡ 76 → p < 4 → n < 16 → lengthPut w p n size ≡ wordsAfter w (withLength (shelfAt w) p n size)
+unfolding lengthPut shelfAt
+put-after w p n size e l m = rw (eq-eqb (length w) 76 e, lt-ltb p 4 l, lt-ltb n 16 m)
