@@ -29,7 +29,7 @@ pub const BODY_TOO_LONG: u8 = 40;
 
 pub const VERSION_ABOVE_31: u8 = 41;
 
-pub const NUMBER_ABOVE_LAST: u8 = 42;
+pub const K_ABOVE_LAST: u8 = 42;
 
 pub const OUTPUT_TOO_SMALL: u8 = 15;
 
@@ -116,7 +116,7 @@ pub fn write_section(label: Label, body: &[u8], k: u8, out: &mut [u8]) -> Writte
     let last = last_of(body.len());
     let number = k as usize;
     if last < number {
-        return Written::Refused(NUMBER_ABOVE_LAST);
+        return Written::Refused(K_ABOVE_LAST);
     }
     let start = FULL * number;
     let end = end_of(body.len(), start);
