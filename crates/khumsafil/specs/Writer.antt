@@ -6,6 +6,8 @@ use Rattle.writer.specs.Writer.{Write, countOf, writeOf}
 use Rattle.writer.specs.declared.Counted.{Counted}
 use Rattle.writer.specs.declared.Label.{Label}
 use Rattle.writer.specs.declared.Written.{Written}
+use Rattle.feeding.specs.Feeding.{Feed, feedOf}
+use Rattle.feeding.specs.declared.Fed.{Fed}
 
 -- from bit 8 of the answer: how many sections
 abbrev pub countedCode : Counted → ℕ
@@ -28,3 +30,14 @@ writeOut w = out (writtenCode (w .said)) (w .out)
 
 unfoldable pub sectionLent : ℕ → ℕ → ℕ → List ℕ → ℕ → List ℕ → Out
 sectionLent table extension version body k bytes = writeOut (writeOf (labelOf table extension version) body k bytes)
+
+-- the file of the table that carries a body
+abbrev pub fedCode : Fed → ℕ
+fedCode (Fed.Bytes n) = sizeCode n
+fedCode (Fed.Refused n) = n
+
+abbrev pub feedOut : Feed → Out
+feedOut f = out (fedCode (f .said)) (f .out)
+
+unfoldable pub fileLent : ℕ → ℕ → ℕ → List ℕ → List ℕ → Out
+fileLent table extension version body bytes = feedOut (feedOf (labelOf table extension version) body bytes)

@@ -1,3 +1,5 @@
 pub mod Sections
 pub mod Undisturbed
 pub mod AnyOrder
+pub mod Among
+pub mod Files
