@@ -407,6 +407,19 @@ uint16_t khumsafil_writer_count(size_t length);
 uint32_t khumsafil_writer_section(uint8_t table, uint16_t extension, uint8_t version, const uint8_t *body,
                                   size_t body_length, uint8_t k, uint8_t *out, size_t out_length);
 
+/*
+ * Writes the file of the table that carries the body, with all its sections. Refuses by 40, 41, 15.
+ *
+ * body: read, and left as it is.
+ * out: its first bytes become the file, and those past it stay as they were; where the call is refused all do.
+ * KHUMSAFIL_LARGEST_FILE bytes are room for every file.
+ *
+ * The answer's low 8 bits are the number of refusal, or 0. KHUMSAFIL_WRITER_SIZE takes out of any other how many bytes the
+ * file is.
+ */
+uint32_t khumsafil_writer_file(uint8_t table, uint16_t extension, uint8_t version, const uint8_t *body,
+                               size_t body_length, uint8_t *out, size_t out_length);
+
 #define KHUMSAFIL_WRITER_REFUSAL(answer) ((uint8_t)(answer))
 #define KHUMSAFIL_WRITER_SECTIONS(answer) ((uint8_t)((answer) >> 8))
 #define KHUMSAFIL_WRITER_SIZE(answer) ((size_t)((answer) >> 8))

@@ -129,4 +129,13 @@ extern "C" {
         out: *mut u8,
         out_length: usize,
     ) -> u32;
+    pub fn khumsafil_writer_file(
+        table: u8,
+        extension: u16,
+        version: u8,
+        body: *const u8,
+        body_length: usize,
+        out: *mut u8,
+        out_length: usize,
+    ) -> u32;
 }

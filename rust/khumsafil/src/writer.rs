@@ -1,4 +1,4 @@
-//! The bench's section writer: the sections of a table that carries a body.
+//! The bench's section writer: the sections of a table that carries a body, and the file of them all.
 //!
 //! ```
 //! use khumsafil::writer::{self, Label};
@@ -51,6 +51,38 @@ pub fn section(label: Label, body: &[u8], k: u8, out: &mut [u8]) -> Result<usize
             body.as_ptr(),
             body.len(),
             k,
+            out.as_mut_ptr(),
+            out.len(),
+        )
+    };
+    shelf::answered(word).map(|size| size as usize)
+}
+
+/// Writes the shelf file of the table that carries the body, with all its sections, to the front of `out`, and gives its size.
+/// Bytes of `out` past it stay as they were. Refused: 40, 41, 15.
+///
+/// ```
+/// use khumsafil::writer::{self, Label};
+/// use khumsafil::{file, shelf};
+///
+/// let label = Label { table_id: 0xC9, extension: 0x1234, version: 3 };
+/// let mut out = [0; shelf::LARGEST_FILE];
+/// let size = writer::file(label, &[], &mut out)?;
+/// let mut text = [0; file::LARGEST_LIST];
+/// let listed = "table 201 key 4660 version 3 last 0\nsection 0 bytes 8\ncomplete\n";
+/// assert_eq!(file::list(&out[..size], &mut text)?, listed);
+/// # Ok::<(), khumsafil::Refusal>(())
+/// ```
+#[inline]
+pub fn file(label: Label, body: &[u8], out: &mut [u8]) -> Result<usize, Refusal> {
+    // SAFETY: pointers and lengths are those of slices, and the one that is written is not part of the other.
+    let word = unsafe {
+        boundary::khumsafil_writer_file(
+            label.table_id,
+            label.extension,
+            label.version,
+            body.as_ptr(),
+            body.len(),
             out.as_mut_ptr(),
             out.len(),
         )

@@ -1,9 +1,10 @@
 //! The bench's section writer: the library beside the independent program, and what is written offered to a shelf.
 
-use khumsafil::shelf::{Accepted, Key, Shelf, LARGEST_SECTION, STORE};
+use khumsafil::shelf::{Accepted, Key, Shelf, LARGEST_FILE, LARGEST_SECTION, STORE};
 use khumsafil::writer::{self as ours, Label, LARGEST_BODY};
 use khumsafil::{section, Refusal};
 use opinion::writer as theirs;
+use trial::files::Parts;
 use trial::random::Random;
 use trial::tally::Tally;
 
@@ -184,6 +185,89 @@ fn offers_began(seen: &[bool]) -> bool {
 fn shelf_copy(held: &Shelf, store: &[u8], key: Key, number: u8, out: &mut [u8]) -> usize {
     held.copy_section(store, key, number, out)
         .unwrap_or_else(|refusal| panic!("section {number}: {refusal}"))
+}
+
+/// The file of a body, with exact room, a byte less and a byte more, beside the file of the independent program's sections.
+#[test]
+fn files_of_bodies() {
+    let mut random = Random::new(SEED);
+    let mut store = vec![0; STORE];
+    let mut tally = Tally::default();
+    let mut loaded = 0u64;
+    for length in lengths() {
+        let body = random.bytes(length);
+        for label in [
+            Label {
+                version: random.byte() % 32,
+                ..label(&mut random)
+            },
+            Label {
+                version: 32,
+                ..label(&mut random)
+            },
+            label(&mut random),
+        ] {
+            let file = their_file(label, &body);
+            let size = file.as_ref().map_or(LARGEST_FILE, Vec::len);
+            for (kind, room) in [
+                ("exact", size),
+                ("one short", size - 1),
+                ("one longer", size + 1),
+                ("none", 0),
+            ] {
+                let mut out = vec![UNWRITTEN; room];
+                let answer = ours::file(label, &body, &mut out).map_err(Refusal::number);
+                let expected = match &file {
+                    Ok(file) if room < file.len() => Err(15),
+                    Ok(file) => Ok(file.len()),
+                    Err(number) => Err(*number),
+                };
+                assert_eq!(answer, expected, "{label:?}, {length} bytes, room {room}");
+                kept(answer, &out);
+                if let (Ok(size), Ok(file)) = (answer, &file) {
+                    assert!(out[..size] == file[..], "{label:?}, {length} bytes");
+                }
+                tally.note(kind, answer.err().unwrap_or(0));
+            }
+            if let Ok(file) = file {
+                let mut held = Shelf::begin(&mut store).expect("a store of the right size");
+                held.load(&mut store, &file).expect("a sound file");
+                let key = Key {
+                    table_id: label.table_id,
+                    extension: label.extension,
+                };
+                assert_eq!(held.complete(&store, key), Ok(true));
+                assert!(opinion::lister::list(&file).ends_with("\ncomplete\n"));
+                loaded += 1;
+            }
+        }
+    }
+    println!("{loaded} of the files were loaded and called complete");
+    assert!(loaded > 100);
+    tally.show(
+        &format!("files of bodies, seed {SEED:#018X}"),
+        &[0, 15, 40, 41],
+    );
+}
+
+/// The file of the independent program's sections, or its refusal.
+fn their_file(label: Label, body: &[u8]) -> Result<Vec<u8>, u8> {
+    let count = theirs::count(body.len())?;
+    let mut sections = Vec::new();
+    for k in 0..count {
+        let mut out = vec![0; LARGEST_SECTION];
+        let size = theirs::write(
+            label.table_id,
+            label.extension,
+            label.version,
+            body,
+            k,
+            &mut out,
+        )?;
+        out.truncate(size);
+        sections.push(out);
+    }
+    Ok(Parts::of(sections).bytes())
 }
 
 /// Every value of each field of a label stands where the reader finds it.
