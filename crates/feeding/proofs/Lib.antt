@@ -5,3 +5,4 @@ pub mod Filing
 pub mod Answers
 pub mod Unique
 pub mod Untouched
+pub mod ExactlyWhen

@@ -35,12 +35,21 @@ pub record Feed : Type 0 where
 abbrev pub feed : Fed → List ℕ → Feed
 feed said out = record { said = said; out = out }
 
--- order: 40, 41, then 15; output past the file stays as it was
-unfoldable pub feedOf : Label → List ℕ → List ℕ → Feed
-feedOf label body out =
-    first (λ n. feed (Fed.Refused n) out)
-    (40 if ltb most (length body)
+-- order: 40, 41, then 15
+abbrev pub unfed : Label → List ℕ → List ℕ → List Row
+unfed label body out =
+    40 if ltb most (length body)
     ∷ 41 if ltb 31 (label .version)
     ∷ 15 if ltb (length out) (length (feedFile label body))
-    ∷ [])
-    (feed (Fed.Bytes (length (feedFile label body))) (feedFile label body ++ drop (length (feedFile label body)) out))
+    ∷ []
+
+-- a refused call leaves the output as it was
+abbrev pub refuse : List ℕ → ℕ → Feed
+refuse out n = feed (Fed.Refused n) out
+
+-- a file at the front of the output; bytes past it stay as they were
+abbrev pub placed : List ℕ → List ℕ → Feed
+placed file out = feed (Fed.Bytes (length file)) (file ++ drop (length file) out)
+
+unfoldable pub feedOf : Label → List ℕ → List ℕ → Feed
+feedOf label body out = first (refuse out) (unfed label body out) (placed (feedFile label body) out)
