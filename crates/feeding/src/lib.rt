@@ -19,24 +19,14 @@ pub enum Fed {
     Refused(u8),
 }
 
-// A full section: its body, its bytes, and those that it takes in the file.
-const FULL: usize = 1016;
-
-const SECTION: u16 = 1024;
-
+// What a full section takes in the file, with its length.
 const ENTRY: usize = 1026;
 
-const HEADER: u16 = 8;
-
-// The form, which every file has; form and count take a byte each.
-const FORM: u8 = 1;
-
+// The form and the count take a byte each.
 const FRONT: usize = 2;
 
 // From this on a number takes two groups.
 const TWO_GROUPS: u16 = 128;
-
-const HIGHEST_VERSION: u8 = 31;
 
 fn wide(x: u16) -> usize
     ensures { λ r. ⌜ r ≡ x ⌝ }
@@ -49,12 +39,12 @@ fn size_at(length: usize, k: usize) -> u16
     requires { ⌜ (length ≤ most) × (k ≤ lastOf length) ⌝ }
     ensures { λ r. ⌜ (r ≡ sizeAt length k) × (r ≤ 1024) ⌝ }
 {
-    let start = FULL * k;
+    let start = writer::FULL * k;
     let left = length - start;
-    if left < FULL {
-        HEADER + (left % 65536) as u16
+    if left < writer::FULL {
+        file::SHORTEST + left as u16
     } else {
-        SECTION
+        file::LONGEST
     }
 }
 
@@ -108,7 +98,8 @@ fn write_file(label: Label, body: &[u8], count: u8, out: &mut [u8])
     requires { ⌜ fileSize (length (now body)) ≤ length (now out) ⌝ }
     ensures { λ _. ⌜ now (out .exit) ≡ feedFile label (now (body .entry)) ++ drop (fileSize (length (now (body .entry)))) (now (out .entry)) ⌝ }
 {
-    out[0] = FORM;
+    let form = file::FORM as u8;
+    out[0] = form;
     out[1] = count;
     let mut at = FRONT;
     let mut k: u8 = 0;
@@ -127,7 +118,7 @@ pub fn feed_file(label: Label, body: &[u8], out: &mut [u8]) -> Fed
     match counted {
         Counted::Refused(n) => Fed::Refused(n),
         Counted::Sections(count) => {
-            if HIGHEST_VERSION < label.version {
+            if writer::HIGHEST_VERSION < label.version {
                 return Fed::Refused(writer::VERSION_ABOVE_31);
             }
             let size = file_size(body.len(), count as usize - 1);

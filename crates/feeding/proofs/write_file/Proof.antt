@@ -13,17 +13,20 @@ use Rattle.feeding.proofs.write_file.Statement.{statement}
 use Rattle.feeding.proofs.write_file.Tie as tie
 
 abbrev Inv-loop : tie.InvT-loop
-Inv-loop label body count out₀ at₀ k₀ out at k =
+Inv-loop label body count out₀ form at₀ k₀ out at k =
     (k ≤ count)
     × (length out ≡ length out₀)
     × (at ≡ length (frontOf label body count k))
     × (out ≡ frontOf label body count k ++ drop (length (frontOf label body count k)) out₀)
 
 abbrev μ-loop : tie.MeasureT-loop
-μ-loop label body count out₀ at₀ k₀ out at k = count - k
+μ-loop label body count out₀ form at₀ k₀ out at k = count - k
 
 begun : (s : tie.Start Inv-loop μ-loop) → Begun (s .args .label) (s .args .body .now) (s .args .count) (s .args .out .now)
 begun s = record { fits = s .pre .0 .0; counted = s .pre .0 .2; room = s .pre .1 }
+
+cast-form : tie.Need-cast-form Inv-loop μ-loop
+cast-form c = search needs
 
 slice-write-out : tie.Need-slice-write-out Inv-loop μ-loop
 slice-write-out c = search needs
@@ -98,6 +101,7 @@ write-file-spec =
     (tie.spec
     Inv-loop
     μ-loop
+    cast-form
     slice-write-out
     slice-write-out-2
     loop-holds
