@@ -1,5 +1,6 @@
 /*
- * Khumsafil: table sections, the shelf and its files, descriptors, triggers and the clock of a television data receiver.
+ * Khumsafil: table sections, the shelf and its files, descriptors, triggers and the clock of a television data receiver,
+ * and the bench's section writer.
  *
  * Every function ends and answers, on any bytes. None allocates, keeps a pointer, or holds a state of its own,
  * so calls on different buffers may run at the same time.
@@ -21,8 +22,8 @@ extern "C" {
 #endif
 
 /*
- * The numbers of refusal. A refused call answers the number alone, and leaves every buffer as it was. All but
- * the last are document 01's; the last is the boundary's own.
+ * The numbers of refusal. A refused call answers the number alone, and leaves every buffer as it was. Those from 40 on
+ * are document 02's, the last is the boundary's own, and all others are document 01's.
  */
 #define KHUMSAFIL_REFUSED_PAYLOAD_SHORT 1                /* payload under 8 bytes */
 #define KHUMSAFIL_REFUSED_WRONG_INDICATOR 2              /* syntax indicator 1 or private indicator 0 */
@@ -56,6 +57,9 @@ extern "C" {
 #define KHUMSAFIL_REFUSED_CLOCK_ALREADY_HELD 33          /* that activation is held */
 #define KHUMSAFIL_REFUSED_CLOCK_FULL 34                  /* 32 held */
 #define KHUMSAFIL_REFUSED_CLOCK_SPOILED 35               /* clock record spoiled, or not 67 words */
+#define KHUMSAFIL_REFUSED_WRITER_BODY_TOO_LONG 40        /* body over 16,256 bytes */
+#define KHUMSAFIL_REFUSED_WRITER_VERSION_ABOVE_31 41     /* version above 31 */
+#define KHUMSAFIL_REFUSED_WRITER_K_ABOVE_LAST 42         /* section k above the last */
 #define KHUMSAFIL_REFUSED_NO_SUCH_ACTION 255             /* a number above 3, which is no action */
 
 /* The bytes of a section before its body. */
@@ -380,6 +384,47 @@ uint16_t khumsafil_application_state(const uint32_t *words, size_t words_length,
 #define KHUMSAFIL_CLOCK_REFUSAL(answer) ((uint8_t)(answer))
 #define KHUMSAFIL_CLOCK_VALUE(answer) ((uint8_t)((answer) >> 8))
 #define KHUMSAFIL_CLOCK_TIME(answer) ((uint32_t)((answer) >> 32))
+
+/* The most bytes of a body that a table carries: 16 bodies of 1,016. */
+#define KHUMSAFIL_LARGEST_BODY 16256
+
+/*
+ * How many sections a body of so many bytes makes, 1 to 16: as few as will do. Refuses by 40.
+ *
+ * The answer's low 8 bits are the number of refusal, or 0. KHUMSAFIL_WRITER_SECTIONS takes the count out of any other.
+ */
+uint16_t khumsafil_writer_count(size_t length);
+
+/*
+ * Writes section k, from 0 on, of the table that carries the body: each section's body full but the last. Refuses by 40,
+ * 41, 42, 15.
+ *
+ * body: read, and left as it is.
+ * out: its first bytes become the section, and those past it stay as they were; where the call is refused all do.
+ * KHUMSAFIL_LARGEST_SECTION bytes are room for every section.
+ *
+ * The answer's low 8 bits are the number of refusal, or 0. KHUMSAFIL_WRITER_SIZE takes out of any other how many bytes the
+ * section is.
+ */
+uint32_t khumsafil_writer_section(uint8_t table, uint16_t extension, uint8_t version, const uint8_t *body,
+                                  size_t body_length, uint8_t k, uint8_t *out, size_t out_length);
+
+/*
+ * Writes the file of the table that carries the body, with all its sections. Refuses by 40, 41, 15.
+ *
+ * body: read, and left as it is.
+ * out: its first bytes become the file, and those past it stay as they were; where the call is refused all do.
+ * KHUMSAFIL_LARGEST_FILE bytes are room for every file.
+ *
+ * The answer's low 8 bits are the number of refusal, or 0. KHUMSAFIL_WRITER_SIZE takes out of any other how many bytes the
+ * file is.
+ */
+uint32_t khumsafil_writer_file(uint8_t table, uint16_t extension, uint8_t version, const uint8_t *body,
+                               size_t body_length, uint8_t *out, size_t out_length);
+
+#define KHUMSAFIL_WRITER_REFUSAL(answer) ((uint8_t)(answer))
+#define KHUMSAFIL_WRITER_SECTIONS(answer) ((uint8_t)((answer) >> 8))
+#define KHUMSAFIL_WRITER_SIZE(answer) ((size_t)((answer) >> 8))
 
 #ifdef __cplusplus
 }

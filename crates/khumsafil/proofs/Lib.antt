@@ -4,3 +4,4 @@ pub mod Steps
 pub mod Places
 pub mod Calls
 pub mod Handed
+pub mod Written

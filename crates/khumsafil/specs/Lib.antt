@@ -3,3 +3,4 @@ pub mod Loop
 pub mod Trigger
 pub mod Clock
 pub mod Shelf
+pub mod Writer

@@ -5,3 +5,4 @@ mod loops;
 mod sections;
 mod shelves;
 mod triggers;
+mod writers;

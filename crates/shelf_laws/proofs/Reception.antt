@@ -1,7 +1,9 @@
 -- More reception takes nothing away.
 --   heard            a sound section of the table with that number stands in a log
 --   Fed              an undisturbed table is held with just the sections that were heard, or none was heard
+--   fed-step         one call that leaves the table undisturbed keeps it so
 --   fed-all          it is so after every history that leaves the table undisturbed
+--   offered-heard    a section that is offered in a history is heard in its log
 --   hands-out-too    what the first history hands out the second hands out, with the same bytes
 --   completes-too    and it calls the table complete if the first does
 use mathlib.Core.Path.{_≡_, refl, sym, ap, subst, _∙_}
@@ -70,7 +72,7 @@ module _ (key : Key) (payload : List ℕ) where
         its-key = same-key _ _ (and-right (eqb (numberOf (readOf payload)) 0) _ e);
       }
 
-  section-is : SectionOf key payload → isSection key payload ≡ true
+  pub section-is : SectionOf key payload → isSection key payload ≡ true
   section-is s = rw (s .sound) (ap (λ k. sameKey k key) (s .its-key) ∙ key-itself key)
 
 module _ (key : Key) where
@@ -193,7 +195,7 @@ module _ (key : Key) (v l : ℕ) (f : ℕ → List ℕ) where
     not-freed gone Released.Done u = by (sameKey gone key) (λ t. absurd (u (same-key gone key t) refl)) (λ t. rw t)
     not-freed gone (Released.Refused n) u = and-false (sameKey gone key)
 
-    fed-step : Fed s log → (c : Call) → Undisturbed key v l f (entry s c) → Fed (step s c) (entry s c ∷ log)
+    pub fed-step : Fed s log → (c : Call) → Undisturbed key v l f (entry s c) → Fed (step s c) (entry s c ∷ log)
     fed-step fed (Call.offer payload) u =
         by (isSection key payload)
         (λ t. fed-section payload (is-section key payload t) (u (is-section key payload t)) fed)
@@ -226,7 +228,7 @@ module _ (key : Key) where
   still-heard s log [] n t = t
   still-heard s log (c ∷ cs) n t = still-heard (step s c) (entry s c ∷ log) cs n (or-true (heardIn key (entry s c) n) (heard key log n) t)
 
-  offered-heard : (s : State) (log : List Entry) (cs : List Call) (payload : List ℕ) → SectionOf key payload → OfferedIn cs payload
+  pub offered-heard : (s : State) (log : List Entry) (cs : List Call) (payload : List ℕ) → SectionOf key payload → OfferedIn cs payload
       → heard key (logged s log cs) (sectionNumber payload) ≡ true
   offered-heard s log [] payload is m = absurd (List·Memᴰ·not-nil m)
   offered-heard s log (c ∷ cs) payload is m =

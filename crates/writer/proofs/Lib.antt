@@ -3,3 +3,4 @@ pub mod Agree
 pub mod Fewest
 pub mod Unique
 pub mod Untouched
+pub mod ExactlyWhen

@@ -59,9 +59,13 @@ abbrev pub writtenNo : Written → ℕ
 writtenNo (Written.Bytes n) = 0
 writtenNo (Written.Refused n) = n
 
+-- 40: body too long
+abbrev pub uncounted : ℕ → List Row
+uncounted n = 40 if ltb most n ∷ []
+
 -- how many sections a body of n bytes makes
 unfoldable pub countOf : ℕ → Counted
-countOf n = first Counted.Refused (40 if ltb most n ∷ []) (Counted.Sections (lastOf n + 1))
+countOf n = first Counted.Refused (uncounted n) (Counted.Sections (lastOf n + 1))
 
 -- what a call leaves: the answer and the output
 pub record Write : Type 0 where
@@ -71,13 +75,22 @@ pub record Write : Type 0 where
 abbrev pub write : Written → List ℕ → Write
 write said out = record { said = said; out = out }
 
--- order: 40, 41, 42, then 15; output past the section stays as it was
-unfoldable pub writeOf : Label → List ℕ → ℕ → List ℕ → Write
-writeOf label body k out =
-    first (λ n. write (Written.Refused n) out)
-    (40 if ltb most (length body)
+-- order: 40, 41 version above 31, 42 k above the last, then 15
+abbrev pub unwritten : Label → List ℕ → ℕ → List ℕ → List Row
+unwritten label body k out =
+    40 if ltb most (length body)
     ∷ 41 if ltb 31 (label .version)
     ∷ 42 if ltb (lastOf (length body)) k
     ∷ 15 if ltb (length out) (length (written label body k))
-    ∷ [])
-    (write (Written.Bytes (length (written label body k))) (written label body k ++ drop (length (written label body k)) out))
+    ∷ []
+
+-- a refused call leaves the output as it was
+abbrev pub refuse : List ℕ → ℕ → Write
+refuse out n = write (Written.Refused n) out
+
+-- a section at the front of the output; bytes past it stay as they were
+abbrev pub placed : List ℕ → List ℕ → Write
+placed section out = write (Written.Bytes (length section)) (section ++ drop (length section) out)
+
+unfoldable pub writeOf : Label → List ℕ → ℕ → List ℕ → Write
+writeOf label body k out = first (refuse out) (unwritten label body k out) (placed (written label body k) out)

@@ -29,18 +29,17 @@ pub const BODY_TOO_LONG: u8 = 40;
 
 pub const VERSION_ABOVE_31: u8 = 41;
 
-pub const NUMBER_ABOVE_LAST: u8 = 42;
+pub const K_ABOVE_LAST: u8 = 42;
 
 pub const OUTPUT_TOO_SMALL: u8 = 15;
 
 // The longest body of one section, and of a table.
-const FULL: usize = 1016;
+pub const FULL: usize = 1016;
 
-const MOST: usize = 16256;
+pub const MOST: usize = 16256;
 
-const HIGHEST_VERSION: u8 = 31;
+pub const HIGHEST_VERSION: u8 = 31;
 
-const HEADER: usize = 8;
 // The bytes that the section length counts before the body.
 const COUNTED: usize = 5;
 // Private indicator 1 with both reserved bits 1, and the two reserved bits before the version.
@@ -76,7 +75,8 @@ pub fn count_sections(length: usize) -> Counted
     }
     let last = last_of(length);
     let count = last + 1;
-    Counted::Sections((count % 256) as u8)
+    let sections = count as u8;
+    Counted::Sections(sections)
 }
 
 // The eight header bytes of section `k` with a body of `length` bytes, high bit first.
@@ -99,8 +99,8 @@ fn fill(label: Label, k: u8, last: u8, body: &[u8], out: &mut [u8])
     ensures { λ _. ⌜ now (out .exit) ≡ sectionOf label k last (now (body .entry)) ⌝ }
 {
     let head = header(label, k, last, body.len());
-    bytes::copy(&head, &mut out[..HEADER]);
-    bytes::copy(body, &mut out[HEADER..]);
+    bytes::copy(&head, &mut out[..section::HEADER]);
+    bytes::copy(body, &mut out[section::HEADER..]);
 }
 
 // Section k of the table that carries the body, written at the front of the output; bytes past it stay as they were.
@@ -116,15 +116,15 @@ pub fn write_section(label: Label, body: &[u8], k: u8, out: &mut [u8]) -> Writte
     let last = last_of(body.len());
     let number = k as usize;
     if last < number {
-        return Written::Refused(NUMBER_ABOVE_LAST);
+        return Written::Refused(K_ABOVE_LAST);
     }
     let start = FULL * number;
     let end = end_of(body.len(), start);
-    let size = HEADER + (end - start);
+    let size = section::HEADER + (end - start);
     if out.len() < size {
         return Written::Refused(OUTPUT_TOO_SMALL);
     }
-    let last_number = (last % 256) as u8;
+    let last_number = last as u8;
     fill(label, k, last_number, &body[start..end], &mut out[..size]);
     Written::Bytes(size)
 }

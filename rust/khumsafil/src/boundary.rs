@@ -117,4 +117,25 @@ extern "C" {
         words_length: usize,
         application: u8,
     ) -> u16;
+
+    pub fn khumsafil_writer_count(length: usize) -> u16;
+    pub fn khumsafil_writer_section(
+        table: u8,
+        extension: u16,
+        version: u8,
+        body: *const u8,
+        body_length: usize,
+        k: u8,
+        out: *mut u8,
+        out_length: usize,
+    ) -> u32;
+    pub fn khumsafil_writer_file(
+        table: u8,
+        extension: u16,
+        version: u8,
+        body: *const u8,
+        body_length: usize,
+        out: *mut u8,
+        out_length: usize,
+    ) -> u32;
 }

@@ -12,5 +12,6 @@ mod refusal;
 pub mod section;
 pub mod shelf;
 pub mod trigger;
+pub mod writer;
 
 pub use refusal::Refusal;

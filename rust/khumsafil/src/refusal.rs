@@ -2,8 +2,8 @@
 
 use std::fmt;
 
-/// Why a call was refused: a number of document 01's table, or 255, the boundary's own. Each has a name here, as
-/// in the C header.
+/// Why a call was refused: a number of document 01, from 40 on of document 02, or 255, the boundary's own. Each has a name
+/// here, as in the C header.
 #[derive(Clone, Copy, Debug, PartialEq, Eq, Hash, PartialOrd, Ord)]
 pub struct Refusal(u8);
 
@@ -58,6 +58,9 @@ refusals! {
     CLOCK_ALREADY_HELD = 33: "that activation is held";
     CLOCK_FULL = 34: "32 held";
     CLOCK_SPOILED = 35: "clock record spoiled, or not 67 words";
+    WRITER_BODY_TOO_LONG = 40: "body over 16,256 bytes";
+    WRITER_VERSION_ABOVE_31 = 41: "version above 31";
+    WRITER_K_ABOVE_LAST = 42: "section k above the last";
     NO_SUCH_ACTION = 255: "a number above 3, which is no action";
 }
 

@@ -162,6 +162,34 @@ static int answers_of_a_shelf(void) {
     return 0;
 }
 
+/* An empty body may be a null pointer. It makes one section, P1, and its file; the macros take the sizes out. */
+static int answers_of_a_writer(void) {
+    uint8_t section[sizeof p1 + 1], file[sizeof p1_file + 1];
+    uint32_t answer;
+    size_t i;
+    EXPECT(KHUMSAFIL_WRITER_SECTIONS(khumsafil_writer_count(0)) == 1);
+    EXPECT(KHUMSAFIL_WRITER_SECTIONS(khumsafil_writer_count(KHUMSAFIL_LARGEST_BODY)) == 16);
+    EXPECT(khumsafil_writer_count(KHUMSAFIL_LARGEST_BODY + 1) == KHUMSAFIL_REFUSED_WRITER_BODY_TOO_LONG);
+    EXPECT(khumsafil_writer_count(SIZE_MAX) == KHUMSAFIL_REFUSED_WRITER_BODY_TOO_LONG);
+    EXPECT(khumsafil_writer_section(0xC9, 0x1234, 32, NULL, 0, 1, NULL, 0) == KHUMSAFIL_REFUSED_WRITER_VERSION_ABOVE_31);
+    EXPECT(khumsafil_writer_section(0xC9, 0x1234, 31, NULL, 0, 1, NULL, 0) == KHUMSAFIL_REFUSED_WRITER_K_ABOVE_LAST);
+    EXPECT(khumsafil_writer_section(0xC9, 0x1234, 3, NULL, 0, 0, NULL, 0) == KHUMSAFIL_REFUSED_OUTPUT_TOO_SMALL);
+    EXPECT(khumsafil_writer_file(0xC9, 0x1234, 32, NULL, 0, NULL, 0) == KHUMSAFIL_REFUSED_WRITER_VERSION_ABOVE_31);
+    EXPECT(khumsafil_writer_file(0xC9, 0x1234, 3, NULL, 0, NULL, 0) == KHUMSAFIL_REFUSED_OUTPUT_TOO_SMALL);
+    section[sizeof p1] = file[sizeof p1_file] = 0xA5;
+    answer = khumsafil_writer_section(0xC9, 0x1234, 3, NULL, 0, 0, section, sizeof section);
+    EXPECT(KHUMSAFIL_WRITER_REFUSAL(answer) == 0 && KHUMSAFIL_WRITER_SIZE(answer) == sizeof p1);
+    for (i = 0; i < sizeof p1; i++)
+        EXPECT(section[i] == p1[i]);
+    answer = khumsafil_writer_file(0xC9, 0x1234, 3, NULL, 0, file, sizeof file);
+    EXPECT(KHUMSAFIL_WRITER_REFUSAL(answer) == 0 && KHUMSAFIL_WRITER_SIZE(answer) == sizeof p1_file);
+    for (i = 0; i < sizeof p1_file; i++)
+        EXPECT(file[i] == p1_file[i]);
+    EXPECT(section[sizeof p1] == 0xA5 && file[sizeof p1_file] == 0xA5);
+    return 0;
+}
+
 int main(void) {
-    return empty_buffers() || room_for_a_trigger() || no_such_action() || empty_shelf() || answers_of_a_shelf();
+    return empty_buffers() || room_for_a_trigger() || no_such_action() || empty_shelf() || answers_of_a_shelf() ||
+           answers_of_a_writer();
 }

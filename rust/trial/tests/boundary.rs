@@ -68,8 +68,7 @@ fn no_exported_function_asks() {
     }
 }
 
-/// The boundary's crate and those that it may call. A crate beside them, as one that a sender uses, may have a name of
-/// theirs for a number of its own.
+/// The boundary's crate and those that it may call. A crate beside them may have a name of theirs for a number of its own.
 fn reached() -> Vec<String> {
     let list = text(top("crates.txt"));
     let line = list
@@ -138,6 +137,7 @@ fn sizes_agree() {
         ("LARGEST_SECTION", khumsafil::shelf::LARGEST_SECTION),
         ("LARGEST_FILE", khumsafil::shelf::LARGEST_FILE),
         ("LARGEST_LIST", khumsafil::file::LARGEST_LIST),
+        ("LARGEST_BODY", khumsafil::writer::LARGEST_BODY),
         ("SHELF_BEGAN", Accepted::Began as usize),
         ("SHELF_BEGAN_AGAIN", Accepted::BeganAgain as usize),
         ("SHELF_ADDED", Accepted::Added as usize),

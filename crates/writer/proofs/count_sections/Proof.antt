@@ -2,9 +2,8 @@
 use borrow.Author.Needs.{needs}
 use native.Mathlib.Omega.{arith}
 use Rattle.base.proofs.Tests.{tests}
-use mathlib.Core.Path.{_≡_, ap}
+use mathlib.Core.Path.{_≡_}
 use borrow.Author.Tests.{le-ltb}
-use Rattle.writer.specs.declared.Counted.the-variants.{Sections}
 use Prim.Native.Nat.{_≤_}
 use Rattle.writer.specs.Writer.{most, lastOf, countOf}
 use Rattle.writer.proofs.Laws.{last-le}
@@ -24,8 +23,8 @@ last-of-requires c κs = search needs
 add-count : tie.Need-add-count
 add-count c = omega (arith, last-le (c .before .before .args .length) (search needs))
 
-cast-t6 : tie.Need-cast-t6
-cast-t6 c = search needs
+cast-sections : tie.Need-cast-sections
+cast-sections c = omega (arith, last-le (c .before .before .args .length) (search needs))
 
 returns-2 : tie.Need-returns-2
 unfolding countOf
@@ -33,7 +32,7 @@ returns-2 c =
     let n = c .before .before .args .length in
     let l : lastOf n ≤ 15 = last-le n (search needs) in
     let e : c .last-of .result ≡ lastOf n = c .last-of .ensures in
-    rw (le-ltb most n (search needs), e) (ap Sections (omega arith))
+    rw (le-ltb most n (search needs), e)
 
 pub count-sections-spec : {M : Type 1} → statement M
-count-sections-spec = tie.close (tie.spec returns last-of-requires add-count cast-t6 returns-2)
+count-sections-spec = tie.close (tie.spec returns last-of-requires add-count cast-sections returns-2)

@@ -1,7 +1,8 @@
+-- `writer::write_section` meets its promise: the section's bytes are cut out of the body and filled in.
 use borrow.Author.Needs.{needs}
 use mathlib.Core.Path.{_≡_, sym, ap, _∙_}
 use native.Mathlib.Omega.{arith}
-use Prim.Native.Nat.{ℕ, _≤_, _*_, _+_, _-_, _%_}
+use Prim.Native.Nat.{ℕ, _≤_, _*_, _+_, _-_}
 use lib.ListN.{length, take, drop, length-drop}
 use lib.Seq.{length-take-le}
 use Rattle.base.proofs.Tests.{tests}
@@ -69,7 +70,10 @@ returns-4 : tie.Need-returns-4
 returns-4 c = write-15 _ _ _ _ _ (search needs) (search needs) (known (c .before .before)) (sized (c .before)) (search needs)
 
 cast-last-number : tie.Need-cast-last-number
-cast-last-number c = search needs
+cast-last-number c =
+    let n = length (c .before .before .before .before .before .before .before .before .before .args .body .now) in
+    let l : lastOf (length (c .before .before .before .before .before .before .before .before .before .args .body .now)) ≤ 15 = last-le n (search needs) in
+    search needs
 
 sub-fill : tie.Need-sub-fill
 sub-fill c = ends (c .before) .0
@@ -102,11 +106,9 @@ returns-5 : tie.Need-returns-5
 unfolding written
 returns-5 c =
     let a = c .before .before .before .before .before .before .before .before .before .before .before .before .before .before .args in
-    let l : lastOf (length (a .body .now)) ≤ 15 = last-le _ (search needs) in
     let e : c .before .before .before .before .before .before .before .before .last-of .result ≡ lastOf (length (a .body .now)) = c .before .before .before .before .before .before .before .before .last-of .ensures in
-    let m : c .before .before .before .before .before .before .before .before .last-of .result % 256 ≡ lastOf (length (a .body .now)) = omega arith in
     write-done _ _ _ _ _ (search needs) (search needs) (known (c .before .before .before .before .before .before .before)) (sized (c .before .before .before .before .before .before)) (search needs) _
-    (c .before .before .fill .ensures ∙ rw (m, carried (c .before .before .before .before .before .before)))
+    (c .before .before .fill .ensures ∙ rw (e, carried (c .before .before .before .before .before .before)))
 
 pub write-section-spec : {M : Type 1} → statement M
 write-section-spec =

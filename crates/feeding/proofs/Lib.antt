@@ -1,0 +1,8 @@
+pub mod Laws
+pub mod Sizes
+pub mod Steps
+pub mod Filing
+pub mod Answers
+pub mod Unique
+pub mod Untouched
+pub mod ExactlyWhen

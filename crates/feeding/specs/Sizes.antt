@@ -1,0 +1,25 @@
+-- What the steps of feeding come to: how many bytes a section and the file take, from the body's length alone.
+use Prim.Native.Nat.{ℕ, _+_, _-_, _*_}
+use mathlib.Core.List.{List, [], _∷_, _++_}
+use lib.ListN.{length}
+use Rattle.number.specs.Number.{spelt}
+use Rattle.file.specs.Layout.{form, listed}
+use Rattle.writer.specs.Writer.{full, lastOf, endOf}
+use Rattle.writer.specs.declared.Label.{Label}
+use Rattle.feeding.specs.Feeding.{sectionsBelow}
+
+-- the bytes of section k of a body of n bytes
+abbrev pub sizeAt : ℕ → ℕ → ℕ
+sizeAt n k = 8 + (endOf n (full * k) - full * k)
+
+-- what a section of so many bytes takes in the file, with its length
+abbrev pub entrySize : ℕ → ℕ
+entrySize size = length (spelt size) + size
+
+-- the file of a body of n bytes: form and count, the full sections, and the last
+abbrev pub fileSize : ℕ → ℕ
+fileSize n = 2 + 1026 * lastOf n + entrySize (sizeAt n (lastOf n))
+
+-- the front of the file, up to its first k sections
+unfoldable pub frontOf : Label → List ℕ → ℕ → ℕ → List ℕ
+frontOf label body count k = spelt form ++ (spelt count ++ listed (sectionsBelow label body k))

@@ -1,0 +1,56 @@
+-- `khumsafil_writer_section` meets its promise by the writer's.
+use borrow.Author.Needs.{needs}
+use mathlib.Core.Path.{sym, ap, _∙_}
+use Rattle.khumsafil.specs.Writer.{writtenCode}
+use Rattle.khumsafil.proofs.Written.{write-told}
+use Rattle.khumsafil.proofs.writers.khumsafil_writer_section.Statement.{statement}
+use Rattle.khumsafil.proofs.writers.khumsafil_writer_section.Tie as tie
+
+label-of-requires : tie.Need-label-of-requires
+label-of-requires c κs = search needs
+
+write-section-requires : tie.Need-write-section-requires
+write-section-requires c κs = search needs
+
+enum-known-written : tie.Need-enum-known-written
+enum-known-written c = search needs
+
+size-code-requires : tie.Need-size-code-requires
+size-code-requires c κs = search needs
+
+enum-known-written-2 : tie.Need-enum-known-written-2
+enum-known-written-2 c = search needs
+
+cast-result : tie.Need-cast-result
+cast-result c = search needs
+
+same-length : tie.Need-same-length
+same-length c = search needs
+
+returns : tie.Need-returns
+returns c =
+    write-told _ _ _ _ _ _ _ _ _ _ (c .before .before .before .before .before .before .before .before .label-of .ensures) (c .before .before .before .before .before .before .write-section .ensures)
+    (c .size-code .ensures ∙ sym (ap writtenCode (c .before .before .written .given .1)))
+
+same-length-2 : tie.Need-same-length-2
+same-length-2 c = search needs
+
+returns-2 : tie.Need-returns-2
+returns-2 c =
+    write-told _ _ _ _ _ _ _ _ _ _ (c .before .before .before .before .before .before .before .label-of .ensures) (c .before .before .before .before .before .write-section .ensures)
+    (sym (ap writtenCode (c .before .written2 .given .1)))
+
+pub khumsafil-writer-section-spec : {M : Type 1} → statement M
+khumsafil-writer-section-spec =
+    tie.close
+    (tie.spec
+    label-of-requires
+    write-section-requires
+    enum-known-written
+    size-code-requires
+    enum-known-written-2
+    cast-result
+    same-length
+    returns
+    same-length-2
+    returns-2)

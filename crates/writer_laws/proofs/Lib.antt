@@ -1,0 +1,6 @@
+pub mod Sections
+pub mod Undisturbed
+pub mod AnyOrder
+pub mod Example
+pub mod Among
+pub mod Files

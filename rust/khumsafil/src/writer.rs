@@ -1,0 +1,91 @@
+//! The bench's section writer: the sections of a table that carries a body, and the file of them all.
+//!
+//! ```
+//! use khumsafil::writer::{self, Label};
+//! use khumsafil::{section, shelf};
+//!
+//! let label = Label { table_id: 0xC9, extension: 0x1234, version: 3 };
+//! let body = [7; 1_017];
+//! assert_eq!(writer::count(body.len())?, 2);
+//! let mut out = [0; shelf::LARGEST_SECTION];
+//! let size = writer::section(label, &body, 1, &mut out)?;
+//! assert_eq!(out[..size], [0xC9, 0x70, 0x06, 0x12, 0x34, 0xC7, 1, 1, 7]);
+//! assert_eq!(section::read(&out[..size])?.number, 1);
+//! # Ok::<(), khumsafil::Refusal>(())
+//! ```
+
+use crate::{boundary, shelf, Refusal};
+
+/// The most bytes of a body: 16 bodies of 1,016.
+pub const LARGEST_BODY: usize = 16_256;
+
+/// What every section of a table has.
+#[derive(Clone, Copy, Debug, PartialEq, Eq, Hash)]
+pub struct Label {
+    /// The table id.
+    pub table_id: u8,
+    /// The table id extension.
+    pub extension: u16,
+    /// The version, at most 31.
+    pub version: u8,
+}
+
+/// How many sections a body of so many bytes makes, 1 to 16: as few as will do. Refused: 40.
+#[inline]
+pub fn count(length: usize) -> Result<u8, Refusal> {
+    // SAFETY: the call takes a number and gives a number.
+    let word = unsafe { boundary::khumsafil_writer_count(length) };
+    shelf::answered(u32::from(word)).map(|count| count as u8)
+}
+
+/// Writes section `k` of the table that carries the body to the front of `out`, and gives its size. Bytes of `out` past it stay
+/// as they were. Refused: 40, 41, 42, 15.
+#[inline]
+pub fn section(label: Label, body: &[u8], k: u8, out: &mut [u8]) -> Result<usize, Refusal> {
+    // SAFETY: pointers and lengths are those of slices, and the one that is written is not part of the other.
+    let word = unsafe {
+        boundary::khumsafil_writer_section(
+            label.table_id,
+            label.extension,
+            label.version,
+            body.as_ptr(),
+            body.len(),
+            k,
+            out.as_mut_ptr(),
+            out.len(),
+        )
+    };
+    shelf::answered(word).map(|size| size as usize)
+}
+
+/// Writes the shelf file of the table that carries the body, with all its sections, to the front of `out`, and gives its size.
+/// Bytes of `out` past it stay as they were. Refused: 40, 41, 15.
+///
+/// ```
+/// use khumsafil::writer::{self, Label};
+/// use khumsafil::{file, shelf};
+///
+/// let label = Label { table_id: 0xC9, extension: 0x1234, version: 3 };
+/// let mut out = [0; shelf::LARGEST_FILE];
+/// let size = writer::file(label, &[], &mut out)?;
+/// let mut text = [0; file::LARGEST_LIST];
+/// let listed = "table 201 key 4660 version 3 last 0\nsection 0 bytes 8\ncomplete\n";
+/// assert_eq!(file::list(&out[..size], &mut text)?, listed);
+/// # Ok::<(), khumsafil::Refusal>(())
+/// ```
+#[inline]
+pub fn file(label: Label, body: &[u8], out: &mut [u8]) -> Result<usize, Refusal> {
+    // SAFETY: pointers and lengths are those of slices, and the one that is written is not part of the other.
+    let word = unsafe {
+        boundary::khumsafil_writer_file(
+            label.table_id,
+            label.extension,
+            label.version,
+            body.as_ptr(),
+            body.len(),
+            out.as_mut_ptr(),
+            out.len(),
+        )
+    };
+    shelf::answered(word).map(|size| size as usize)
+}

@@ -1,0 +1,291 @@
+//! The bench's section writer: the library beside the independent program, and what is written offered to a shelf.
+
+use khumsafil::shelf::{Accepted, Key, Shelf, LARGEST_FILE, LARGEST_SECTION, STORE};
+use khumsafil::writer::{self as ours, Label, LARGEST_BODY};
+use khumsafil::{section, Refusal};
+use opinion::writer as theirs;
+use trial::files::Parts;
+use trial::random::Random;
+use trial::tally::Tally;
+
+/// The seed of every random comparison here.
+const SEED: u64 = 0x4B68_756D_7361_0010;
+
+/// What the bytes of an output are before a call.
+const UNWRITTEN: u8 = 0xA5;
+
+/// In how many orders the sections of a body are offered.
+const ORDERS: usize = 6;
+
+/// Lengths of bodies: all small ones, and those around each multiple of a full body, up to one that is too long.
+fn lengths() -> Vec<usize> {
+    let around = (1..=16).flat_map(|n| n * theirs::BODY - 2..=n * theirs::BODY + 2);
+    let mut all: Vec<_> = (0..=40).chain(around).collect();
+    all.extend([16_300, 20_000, 40_000]);
+    all
+}
+
+/// A label that every other time has a version above 31.
+fn label(random: &mut Random) -> Label {
+    Label {
+        table_id: random.byte(),
+        extension: random.word() as u16,
+        version: random.byte() % 64,
+    }
+}
+
+/// Writes section `k` on both sides with so much room, compares answer and output, and gives what was answered.
+fn write(label: Label, body: &[u8], k: u8, room: usize) -> (Result<usize, u8>, Vec<u8>) {
+    let mut out = vec![UNWRITTEN; room];
+    let mut other = out.clone();
+    let answer = ours::section(label, body, k, &mut out).map_err(Refusal::number);
+    let Label {
+        table_id,
+        extension,
+        version,
+    } = label;
+    let expected = theirs::write(table_id, extension, version, body, k, &mut other);
+    let case = || format!("{label:?}, {} bytes, k {k}, room {room}", body.len());
+    assert_eq!(answer, expected, "{}", case());
+    assert!(out == other, "{}: output", case());
+    (answer, out)
+}
+
+/// A refused call writes nothing, and one that is answered nothing past the section.
+fn kept(answer: Result<usize, u8>, out: &[u8]) {
+    let from = answer.unwrap_or(0);
+    assert!(out[from..].iter().all(|b| *b == UNWRITTEN));
+}
+
+#[test]
+fn every_section_of_bodies() {
+    let mut random = Random::new(SEED);
+    let (mut counts, mut tally) = (Tally::default(), Tally::default());
+    for length in lengths() {
+        let count = ours::count(length).map_err(Refusal::number);
+        assert_eq!(count, theirs::count(length), "{length} bytes");
+        counts.note("count", count.err().unwrap_or(0));
+        let last = count.unwrap_or(16) - 1;
+        let body = random.bytes(length);
+        for label in [
+            label(&mut random),
+            label(&mut random),
+            Label {
+                version: 31,
+                ..label(&mut random)
+            },
+            Label {
+                version: 32,
+                ..label(&mut random)
+            },
+        ] {
+            for k in (0..=last + 1).chain([random.byte(), 255]) {
+                // The section's size where there is one; a room that would do where there is none.
+                let size = write(label, &body, k, LARGEST_SECTION)
+                    .0
+                    .unwrap_or(LARGEST_SECTION);
+                for (kind, room) in [
+                    ("exact", size),
+                    ("one short", size - 1),
+                    ("one longer", size + 1),
+                    ("none", 0),
+                ] {
+                    let (answer, out) = write(label, &body, k, room);
+                    kept(answer, &out);
+                    tally.note(kind, answer.err().unwrap_or(0));
+                }
+            }
+        }
+    }
+    for length in [LARGEST_BODY + 1, usize::MAX - 1, usize::MAX] {
+        assert_eq!(ours::count(length), Err(Refusal::WRITER_BODY_TOO_LONG));
+    }
+    counts.show("lengths of bodies", &[0, 40]);
+    tally.show(
+        &format!("sections written, seed {SEED:#018X}"),
+        &[0, 15, 40, 41, 42],
+    );
+}
+
+/// The sections of one body are read as they were written.
+fn read_back(label: Label, sections: &[Vec<u8>]) {
+    for (k, bytes) in sections.iter().enumerate() {
+        let read = section::read(bytes).expect("a sound section");
+        let fields = (read.table_id, read.extension, read.version);
+        assert_eq!(fields, (label.table_id, label.extension, label.version));
+        assert_eq!(
+            (usize::from(read.number), sections.len()),
+            (k, usize::from(read.last) + 1)
+        );
+        let full = k + 1 == sections.len() || read.body.len() == theirs::BODY;
+        assert!(full, "a body that is not full before the last");
+    }
+}
+
+#[test]
+fn offered_in_any_order() {
+    let mut random = Random::new(SEED);
+    let mut store = vec![0; STORE];
+    let (mut offers, mut repeats, mut tables) = (0u64, 0u64, 0u64);
+    for length in lengths().into_iter().filter(|n| *n <= LARGEST_BODY) {
+        let body = random.bytes(length);
+        let label = Label {
+            version: random.byte() % 32,
+            ..label(&mut random)
+        };
+        let key = Key {
+            table_id: label.table_id,
+            extension: label.extension,
+        };
+        let count = ours::count(length).expect("a body that is not too long");
+        let sections: Vec<_> = (0..count)
+            .map(|k| {
+                let (answer, mut out) = write(label, &body, k, LARGEST_SECTION);
+                out.truncate(answer.expect("a section"));
+                out
+            })
+            .collect();
+        read_back(label, &sections);
+        for _ in 0..ORDERS {
+            let mut held = Shelf::begin(&mut store).expect("a store of the right size");
+            let mut seen = vec![false; sections.len()];
+            while !seen.iter().all(|s| *s) {
+                let k = random.below(sections.len());
+                let expected = match (seen[k], offers_began(&seen)) {
+                    (true, _) => Accepted::Repeat,
+                    (false, true) => Accepted::Added,
+                    (false, false) => Accepted::Began,
+                };
+                assert_eq!(held.offer(&mut store, &sections[k]), Ok(expected));
+                seen[k] = true;
+                offers += 1;
+                repeats += u64::from(expected == Accepted::Repeat);
+                let whole = seen.iter().all(|s| *s);
+                assert_eq!(held.complete(&store, key), Ok(whole));
+            }
+            let mut joined = Vec::new();
+            for number in 0..count {
+                let mut out = [UNWRITTEN; LARGEST_SECTION];
+                let size = shelf_copy(&held, &store, key, number, &mut out);
+                joined.extend_from_slice(&out[section::HEADER..size]);
+            }
+            assert!(joined == body, "{length} bytes: the joined bodies");
+            tables += 1;
+        }
+    }
+    println!("{tables} tables complete after {offers} offers, {repeats} of them repeats, seed {SEED:#018X}");
+    assert!(tables > 500 && repeats > 1_000);
+}
+
+/// Whether a section of the table was offered yet.
+fn offers_began(seen: &[bool]) -> bool {
+    seen.iter().any(|s| *s)
+}
+
+fn shelf_copy(held: &Shelf, store: &[u8], key: Key, number: u8, out: &mut [u8]) -> usize {
+    held.copy_section(store, key, number, out)
+        .unwrap_or_else(|refusal| panic!("section {number}: {refusal}"))
+}
+
+/// The file of a body, with exact room, a byte less and a byte more, beside the file of the independent program's sections.
+#[test]
+fn files_of_bodies() {
+    let mut random = Random::new(SEED);
+    let mut store = vec![0; STORE];
+    let mut tally = Tally::default();
+    let mut loaded = 0u64;
+    for length in lengths() {
+        let body = random.bytes(length);
+        for label in [
+            Label {
+                version: random.byte() % 32,
+                ..label(&mut random)
+            },
+            Label {
+                version: 32,
+                ..label(&mut random)
+            },
+            label(&mut random),
+        ] {
+            let file = their_file(label, &body);
+            let size = file.as_ref().map_or(LARGEST_FILE, Vec::len);
+            for (kind, room) in [
+                ("exact", size),
+                ("one short", size - 1),
+                ("one longer", size + 1),
+                ("none", 0),
+            ] {
+                let mut out = vec![UNWRITTEN; room];
+                let answer = ours::file(label, &body, &mut out).map_err(Refusal::number);
+                let expected = match &file {
+                    Ok(file) if room < file.len() => Err(15),
+                    Ok(file) => Ok(file.len()),
+                    Err(number) => Err(*number),
+                };
+                assert_eq!(answer, expected, "{label:?}, {length} bytes, room {room}");
+                kept(answer, &out);
+                if let (Ok(size), Ok(file)) = (answer, &file) {
+                    assert!(out[..size] == file[..], "{label:?}, {length} bytes");
+                }
+                tally.note(kind, answer.err().unwrap_or(0));
+            }
+            if let Ok(file) = file {
+                let mut held = Shelf::begin(&mut store).expect("a store of the right size");
+                held.load(&mut store, &file).expect("a sound file");
+                let key = Key {
+                    table_id: label.table_id,
+                    extension: label.extension,
+                };
+                assert_eq!(held.complete(&store, key), Ok(true));
+                assert!(opinion::lister::list(&file).ends_with("\ncomplete\n"));
+                loaded += 1;
+            }
+        }
+    }
+    println!("{loaded} of the files were loaded and called complete");
+    assert!(loaded > 100);
+    tally.show(
+        &format!("files of bodies, seed {SEED:#018X}"),
+        &[0, 15, 40, 41],
+    );
+}
+
+/// The file of the independent program's sections, or its refusal.
+fn their_file(label: Label, body: &[u8]) -> Result<Vec<u8>, u8> {
+    let count = theirs::count(body.len())?;
+    let mut sections = Vec::new();
+    for k in 0..count {
+        let mut out = vec![0; LARGEST_SECTION];
+        let size = theirs::write(
+            label.table_id,
+            label.extension,
+            label.version,
+            body,
+            k,
+            &mut out,
+        )?;
+        out.truncate(size);
+        sections.push(out);
+    }
+    Ok(Parts::of(sections).bytes())
+}
+
+/// Every value of each field of a label stands where the reader finds it.
+#[test]
+fn every_label() {
+    let mut random = Random::new(SEED);
+    let body = random.bytes(1_017);
+    for number in 0..=u16::MAX {
+        let label = Label {
+            table_id: number as u8,
+            extension: number,
+            version: (number % 32) as u8,
+        };
+        let (answer, out) = write(label, &body, 1, 9);
+        assert_eq!(answer, Ok(9));
+        let read = section::read(&out).expect("a sound section");
+        assert_eq!((read.table_id, read.extension), (label.table_id, number));
+        assert_eq!((read.version, read.body), (label.version, &body[1_016..]));
+    }
+    println!("65536 labels");
+}
