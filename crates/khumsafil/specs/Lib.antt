@@ -1,6 +1,2 @@
-pub mod Section
-pub mod Loop
-pub mod Trigger
-pub mod Clock
 pub mod Shelf
 pub mod Writer

@@ -1,30 +1,6 @@
 // The clock and the applications. The host lends the record in 67 words and gets the next one back in them.
 ghost use mathlib.Core.Path.{_≡_};
-ghost use Rattle.khumsafil.specs.Clock.{freshCall, offerCall, moveCall, timeCall, stateCall};
-use activation::Activation;
-use clock::AskedState;
-use clock::AskedTime;
-use clock::Clock;
-use clock::Heard;
-use clock::Moved;
-
-// The words are no record.
-const NO_RECORD: u8 = 35;
-
-// A number that is no action: the boundary's own, since the layer's actions have no numbers.
-const NO_SUCH_ACTION: u16 = 255;
-
-const LAST_ACTION: u8 = 3;
-
-// What became of an activation, from bit 8 of the answer.
-const APPLIED: u16 = 256;
-
-const WAITING: u16 = 512;
-
-// What a field is multiplied by to begin at that bit of the answer.
-const BIT_8: u16 = 256;
-
-const BIT_32: u64 = 4294967296;
+ghost use Rattle.clock_answers.specs.Clock.{freshCall, offerCall, moveCall, timeCall, stateCall};
 
 // Makes the words a fresh clock.
 #[no_mangle]
@@ -32,11 +8,7 @@ pub extern "C" fn khumsafil_clock_fresh(words: &mut [u32]) -> u8
     ensures { λ r. ⌜ r ≡ freshCall (now (words .entry)) .answer ⌝ }
     ensures { λ _. ⌜ now (words .exit) ≡ freshCall (now (words .entry)) .words ⌝ }
 {
-    if words.len() != clock_words::WORDS {
-        return NO_RECORD;
-    }
-    clock_words::put(Clock::fresh(), words);
-    0
+    clock_answers::clock_fresh(words)
 }
 
 // Offers an activation to the clock.
@@ -51,22 +23,7 @@ pub extern "C" fn khumsafil_clock_offer(
     ensures { λ r. ⌜ r ≡ offerCall (now (words .entry)) application event action time .answer ⌝ }
     ensures { λ _. ⌜ now (words .exit) ≡ offerCall (now (words .entry)) application event action time .words ⌝ }
 {
-    if LAST_ACTION < action {
-        return NO_SUCH_ACTION;
-    }
-    let act = clock_words::action_of(action as u32);
-    let a = Activation {
-        application,
-        event,
-        action: act,
-        time,
-    };
-    let answer = clock_host::offer_lent(words, a);
-    match answer {
-        Heard::Refused(n) => n as u16,
-        Heard::Applied => APPLIED,
-        Heard::Waiting => WAITING,
-    }
+    clock_answers::clock_offer(words, application, event, action, time)
 }
 
 // Moves the clock.
@@ -75,20 +32,7 @@ pub extern "C" fn khumsafil_clock_move(words: &mut [u32], to: u32) -> u16
     ensures { λ r. ⌜ r ≡ moveCall (now (words .entry)) to .answer ⌝ }
     ensures { λ _. ⌜ now (words .exit) ≡ moveCall (now (words .entry)) to .words ⌝ }
 {
-    if words.len() != clock_words::WORDS {
-        return NO_RECORD as u16;
-    }
-    let clock = clock_words::record_in(words);
-    let advanced = clock.move_to(to);
-    let answer = advanced.answer;
-    let next = advanced.clock;
-    match answer {
-        Moved::Refused(n) => n as u16,
-        Moved::Applied(n) => {
-            clock_words::put(next, words);
-            n as u16 * BIT_8
-        }
-    }
+    clock_answers::clock_move(words, to)
 }
 
 // The clock's time.
@@ -96,15 +40,7 @@ pub extern "C" fn khumsafil_clock_move(words: &mut [u32], to: u32) -> u16
 pub extern "C" fn khumsafil_clock_time(words: &[u32]) -> u64
     ensures { λ r. ⌜ r ≡ timeCall (now (words .entry)) ⌝ }
 {
-    if words.len() != clock_words::WORDS {
-        return NO_RECORD as u64;
-    }
-    let clock = clock_words::record_in(words);
-    let asked = clock.time_now();
-    match asked {
-        AskedTime::At(t) => t as u64 * BIT_32,
-        AskedTime::Refused(n) => n as u64,
-    }
+    clock_answers::clock_time(words)
 }
 
 // The state of an application.
@@ -112,13 +48,5 @@ pub extern "C" fn khumsafil_clock_time(words: &[u32]) -> u64
 pub extern "C" fn khumsafil_application_state(words: &[u32], application: u8) -> u16
     ensures { λ r. ⌜ r ≡ stateCall (now (words .entry)) application ⌝ }
 {
-    if words.len() != clock_words::WORDS {
-        return NO_RECORD as u16;
-    }
-    let clock = clock_words::record_in(words);
-    let asked = clock.state_of(application);
-    match asked {
-        AskedState::In(s) => clock_words::state_number(s) as u16 * BIT_8,
-        AskedState::Refused(n) => n as u16,
-    }
+    clock_answers::application_state(words, application)
 }

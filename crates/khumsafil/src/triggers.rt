@@ -1,120 +1,8 @@
 // Triggers.
 ghost use mathlib.Core.Path.{_≡_};
-ghost use mathlib.Core.List.{_++_};
-ghost use Prim.Native.Nat.{_≤_, _<_};
-ghost use lib.ListN.{length, drop};
 ghost use Rattle.trigger.specs.Trigger.{readOf};
 ghost use Rattle.trigger.specs.Belongs.{belongsOf};
-ghost use Rattle.khumsafil.specs.Trigger.{aimOf, numbersOf, answerOf, fieldsOf, Narrow, NarrowTarget, NarrowTrigger, named};
-use trigger::Answer;
-use trigger::Extent;
-use trigger::Target;
-use trigger::Trigger;
-
-// The output is too small.
-const OUTPUT_TOO_SMALL: u8 = 15;
-
-// How many numbers a trigger is answered in.
-const NUMBERS: usize = 11;
-
-// Kinds of target. Those below the last are also the types that A/93 gives them.
-const NONE: u16 = 0;
-
-const MODULE: u16 = 1;
-
-const TAP: u16 = 2;
-
-const ABSOLUTE_URI: u16 = 3;
-
-const LID_URI: u16 = 4;
-
-const HTTP_URI: u16 = 5;
-
-const RESERVED: u16 = 6;
-
-// A target in numbers: its kind, its type, and up to three numbers of it.
-struct Aim {
-    kind: u16,
-    of: u16,
-    first: u16,
-    second: u16,
-    third: u16,
-}
-
-// A target that is bytes of the payload.
-fn bytes_aim(kind: u16, of: u16, bytes: Extent) -> Aim
-    requires { ⌜ Narrow bytes ⌝ }
-    ensures { λ r. ⌜ r ≡ Rattle.khumsafil.specs.Trigger.aim kind of (bytes .place) (bytes .length) 0 ⌝ }
-{
-    let first = bytes.place as u16;
-    let second = bytes.length as u16;
-    Aim {
-        kind,
-        of,
-        first,
-        second,
-        third: 0,
-    }
-}
-
-fn aim_of(target: Target) -> Aim
-    requires { ⌜ NarrowTarget target ⌝ }
-    ensures { λ r. ⌜ r ≡ aimOf target ⌝ }
-{
-    match target {
-        Target::None => Aim {
-            kind: NONE,
-            of: NONE,
-            first: 0,
-            second: 0,
-            third: 0,
-        },
-        Target::Module(m) => Aim {
-            kind: MODULE,
-            of: MODULE,
-            first: m.download,
-            second: m.group,
-            third: m.number,
-        },
-        Target::Tap(n) => Aim {
-            kind: TAP,
-            of: TAP,
-            first: n,
-            second: 0,
-            third: 0,
-        },
-        Target::AbsoluteUri(e) => bytes_aim(ABSOLUTE_URI, ABSOLUTE_URI, e),
-        Target::LidUri(e) => bytes_aim(LID_URI, LID_URI, e),
-        Target::HttpUri(e) => bytes_aim(HTTP_URI, HTTP_URI, e),
-        Target::Reserved(r) => {
-            let of = r.kind as u16;
-            let bytes = r.bytes;
-            bytes_aim(RESERVED, of, bytes)
-        }
-    }
-}
-
-// Puts a trigger's numbers at the front of the buffer.
-fn put(t: Trigger, fields: &mut [u16])
-    requires { ⌜ NarrowTrigger t × (11 ≤ length (now fields)) ⌝ }
-    ensures { λ _. ⌜ now (fields .exit) ≡ numbersOf t ++ drop 11 (now (fields .entry)) ⌝ }
-{
-    let target = t.target;
-    let id = t.id;
-    let user = t.user;
-    let aim = aim_of(target);
-    fields[0] = t.idlength;
-    fields[1] = t.description;
-    fields[2] = id.place as u16;
-    fields[3] = id.length as u16;
-    fields[4] = aim.kind;
-    fields[5] = aim.of;
-    fields[6] = aim.first;
-    fields[7] = aim.second;
-    fields[8] = aim.third;
-    fields[9] = user.place as u16;
-    fields[10] = user.length as u16;
-}
+ghost use Rattle.trigger_answers.specs.Trigger.{answerOf, fieldsOf, named};
 
 // Reads the payload as a trigger and puts its numbers at the front of the buffer, or answers the refusal.
 #[no_mangle]
@@ -122,17 +10,7 @@ pub extern "C" fn khumsafil_trigger_read(payload: &[u8], fields: &mut [u16]) -> 
     ensures { λ r. ⌜ r ≡ answerOf (readOf (now (payload .entry))) (now (fields .entry)) ⌝ }
     ensures { λ _. ⌜ now (fields .exit) ≡ fieldsOf (readOf (now (payload .entry))) (now (fields .entry)) ⌝ }
 {
-    let answer = trigger::read_trigger(payload);
-    match answer {
-        Answer::Refused(n) => n,
-        Answer::Trigger(t) => {
-            if fields.len() < NUMBERS {
-                return OUTPUT_TOO_SMALL;
-            }
-            put(t, fields);
-            0
-        }
-    }
+    trigger_answers::trigger_read(payload, fields)
 }
 
 // Whether a trigger, by the numbers of its application id, belongs to the application with an id.
@@ -146,20 +24,5 @@ pub extern "C" fn khumsafil_trigger_belongs(
 ) -> bool
     ensures { λ r. ⌜ r ≡ belongsOf (now (payload .entry)) (named idlength place size) (now (application .entry)) ⌝ }
 {
-    let id = Extent {
-        place: place as usize,
-        length: size as usize,
-    };
-    let user = Extent {
-        place: 0,
-        length: 0,
-    };
-    let trigger = Trigger {
-        idlength,
-        description: 0,
-        id,
-        target: Target::None,
-        user,
-    };
-    trigger::belongs(payload, trigger, application)
+    trigger_answers::trigger_belongs(payload, idlength, place, size, application)
 }

@@ -1,0 +1,45 @@
+-- A trigger's places and lengths fit 16 bits, since none has more than 4,096 bytes.
+--   narrow          of every trigger that is read
+--   by-its-numbers  whether a trigger belongs is told by the numbers of its application id alone
+use mathlib.Core.Path.{_≡_, refl}
+use mathlib.Core.Bool.{Bool}
+use mathlib.Core.List.{List}
+use Prim.Native.Nat.{ℕ, _+_, _<_, _≤_}
+use native.Mathlib.Omega.{arith}
+use lib.ListN.{length}
+use Rattle.base.specs.Octets.{Octets}
+use Rattle.trigger.specs.declared.Answer.{Answer}
+use Rattle.trigger.specs.declared.Extent.{Extent}
+use Rattle.trigger.specs.declared.Target.{Target}
+use Rattle.trigger.specs.declared.Trigger.{Trigger}
+use Rattle.trigger.specs.Trigger.{readOf}
+use Rattle.trigger.specs.Belongs.{belongsOf}
+use Rattle.trigger_laws.specs.Places.{TargetLies}
+use Rattle.trigger_laws.proofs.Places.{placed}
+use Rattle.trigger_laws.proofs.Clean.{reads-clean}
+use Rattle.trigger_answers.specs.Trigger.{NarrowTarget, NarrowTrigger, named}
+
+narrow-target : (from to : ℕ) (t : Target) → to ≤ 4096 → TargetLies from to t → NarrowTarget t
+narrow-target from to Target.None h l = tt
+narrow-target from to (Target.Module m) h l = tt
+narrow-target from to (Target.Tap n) h l = tt
+narrow-target from to (Target.AbsoluteUri e) h l = (omega arith, omega arith)
+narrow-target from to (Target.LidUri e) h l = (omega arith, omega arith)
+narrow-target from to (Target.HttpUri e) h l = (omega arith, omega arith)
+narrow-target from to (Target.Reserved r) h l = (omega arith, omega arith)
+
+pub narrow : (s : List ℕ) → Octets s → (t : Trigger) → readOf s ≡ Answer.Trigger t → NarrowTrigger t
+narrow s o t e =
+    let p = placed s o t e in
+    let small : length s ≤ 4096 = reads-clean s t e .0 .head .small in
+    let user : t .user .place + t .user .length ≡ length s = p .user in
+    let id : t .id .place + t .id .length ≤ t .user .place = p .id .1 in
+    record {
+      id = (omega arith, omega arith);
+      target = narrow-target (t .id .place + t .id .length) (t .user .place) (t .target) (omega arith) (p .target);
+      user = (omega arith, omega arith);
+    }
+
+pub by-its-numbers : (s id : List ℕ) (t : Trigger) → belongsOf s (named (t .idlength) (t .id .place) (t .id .length)) id ≡ belongsOf s t id
+unfolding belongsOf
+by-its-numbers s id t = refl
