@@ -13,7 +13,6 @@ use lib.ListN.{length, getD}
 use lib.Seq.{getD-take, getD-drop}
 use lib.Bits.{bitOr, bitXor}
 use borrow.Author.Tests.{eq-eqb, ne-eqb}
-use Rattle.base.specs.Choice.{if_then_else_}
 use Rattle.base.specs.Bytes.{byte, same}
 use Rattle.base.specs.Below.{every, lowest}
 use Rattle.base.proofs.Below.{every-next}
@@ -25,13 +24,13 @@ use Rattle.section.specs.Section.{readOf}
 use Rattle.section.specs.declared.Header.{Header}
 use Rattle.section.specs.declared.Reading.{Reading}
 use Rattle.section.specs.declared.Reading.the-variants as reading
-use Rattle.shelf.specs.Record.{placeAt, lengthAt, holds, hasKey, spoiledOf, placeOf, freeOf}
+use Rattle.shelf.specs.Record.{placeAt, lengthAt, hasKey, spoiledOf, placeOf, freeOf}
 use Rattle.shelf.specs.declared.Key.{Key}
 use Rattle.shelf.specs.declared.Place.{Place}
 use Rattle.shelf.specs.declared.Shelf.{Shelf}
-use Rattle.offer.specs.Offer.{After, keyOf, newOf, heldOf, soundOf, readingOf, offerOf}
+use Rattle.offer.specs.Offer.{keyOf, newOf, heldOf, soundOf, offerOf}
 use Rattle.offer.specs.declared.Offered.{Offered}
-use Rattle.shelf_words.specs.Words.{count, placeIn, shelfIn, shelfAt}
+use Rattle.shelf_words.specs.Words.{placeIn, shelfIn}
 use Rattle.offer_quick.specs.declared.Frequent.{Frequent}
 use Rattle.offer_quick.specs.declared.Frequent.the-variants.{Repeats, Adds, Other}
 use Rattle.offer_quick.specs.Frequent.{frequentAt, frequentBy, frequentOf}

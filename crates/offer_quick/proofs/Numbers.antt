@@ -6,8 +6,8 @@
 --   put-there, put-nowhere, put-no-place, put-no-section, put-after     what a length that is put leaves
 use mathlib.Core.Path.{_≡_, refl, sym, ap, subst, _∙_}
 use mathlib.Core.Bool.{Bool, true, false, not, _&&_}
-use mathlib.Core.Logic.{_⊎_, ⊎-elim, inl, inr}
-use mathlib.Core.List.{List, [], _∷_, _++_}
+use mathlib.Core.Logic.{_⊎_, ⊎-elim}
+use mathlib.Core.List.{List, _++_}
 use Prim.Native.Nat.{ℕ, zero, suc, _+_, _*_, _/_, _%_, _<_, _≤_}
 use native.Mathlib.Omega.{arith}
 use lib.Dec.{eqb, ltb}
@@ -17,8 +17,8 @@ use borrow.Author.Tests.{eq-eqb, ne-eqb, lt-ltb, le-ltb, ltb-true, ltb-false, eq
 use Rattle.base.specs.Choice.{if_then_else_}
 use Rattle.base.specs.Below.{some}
 use Rattle.base.proofs.Cases.{by, same-or, unlike}
-use Rattle.berth.specs.Berth.{places, sections}
-use Rattle.shelf.specs.Record.{fresh, noPlace, placeAt, withPlace, lengthAt, spoiledPlace, alike, spoiledOf, placeOf}
+use Rattle.berth.specs.Berth.{places}
+use Rattle.shelf.specs.Record.{fresh, noPlace, placeAt, lengthAt, spoiledPlace, spoiledOf, placeOf}
 use Rattle.shelf.specs.declared.Place.{Place}
 use Rattle.shelf.specs.declared.Shelf.{Shelf}
 use Rattle.section.specs.declared.Header.{Header}
