@@ -43,6 +43,9 @@ const BIT_26: u32 = 67108864;
 
 const BIT_27: u32 = 134217728;
 
+// What a time is multiplied by in a place's number, to stand above the application and the event.
+const TIME: u64 = 16777216;
+
 fn application_in(second: u32) -> u8
     ensures { λ r. ⌜ r ≡ heldIn 0 second .activation .application ⌝ }
 {
@@ -101,9 +104,9 @@ fn is_held(a: Activation, n: usize, words: &[u32]) -> bool
 fn code(time: u32, second: u32) -> u64
     ensures { λ r. ⌜ Coded (heldIn time second .activation) r ⌝ }
 {
-    let above = time as u64 * 16777216;
-    let below = (second % BIT_24) as u64;
-    above + below
+    let upper = time as u64 * TIME;
+    let lower = (second % BIT_24) as u64;
+    upper + lower
 }
 
 // Writes the number of each of the first n places.

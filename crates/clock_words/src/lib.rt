@@ -23,9 +23,6 @@ ghost use Rattle.clock_words.specs.Words.{stateNo, actionNo, appsIn, hel
 // How many words a record is.
 pub const WORDS: usize = 67;
 
-// The words before the first place.
-const HEAD: usize = 3;
-
 // What a field of a place's second word is multiplied by to begin at that bit.
 const BIT_16: u32 = 65536;
 

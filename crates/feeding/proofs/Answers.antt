@@ -24,8 +24,12 @@ module _ (n : ℕ) {r : Counted} (e : r ≡ countOf n) where
   unfolding countOf
   counted k q =
       by (ltb most n)
-      (λ t. let x : Counted.Refused 40 ≡ Counted.Sections k = sym (e ∙ rw t) ∙ q in absurd (let z : _≡_ {A = ℕ} 0 1 = cc in omega arith))
-      (λ t. let x : Counted.Sections (lastOf n + 1) ≡ Counted.Sections k = sym (e ∙ rw t) ∙ q in (ltb-false _ _ t, let y : lastOf n + 1 ≡ k = cc in sym y))
+      (λ t.
+      let x : Counted.Refused 40 ≡ Counted.Sections k = sym (e ∙ rw t) ∙ q in
+      absurd (let z : _≡_ {A = ℕ} 0 1 = cc in omega arith))
+      (λ t.
+      let x : Counted.Sections (lastOf n + 1) ≡ Counted.Sections k = sym (e ∙ rw t) ∙ q in
+      (ltb-false _ _ t, let y : lastOf n + 1 ≡ k = cc in sym y))
 
   pub count-fits : {k : ℕ} → r ≡ Counted.Sections k → n ≤ most
   count-fits {k} q = counted k q .0
@@ -37,8 +41,12 @@ module _ (n : ℕ) {r : Counted} (e : r ≡ countOf n) where
   unfolding countOf
   not-counted {k} q =
       by (ltb most n)
-      (λ t. let x : Counted.Refused 40 ≡ Counted.Refused k = sym (e ∙ rw t) ∙ q in (let y : 40 ≡ k = cc in sym y, ltb-true _ _ t))
-      (λ t. let x : Counted.Sections (lastOf n + 1) ≡ Counted.Refused k = sym (e ∙ rw t) ∙ q in absurd (let z : _≡_ {A = ℕ} 0 1 = cc in omega arith))
+      (λ t.
+      let x : Counted.Refused 40 ≡ Counted.Refused k = sym (e ∙ rw t) ∙ q in
+      (let y : 40 ≡ k = cc in sym y, ltb-true _ _ t))
+      (λ t.
+      let x : Counted.Sections (lastOf n + 1) ≡ Counted.Refused k = sym (e ∙ rw t) ∙ q in
+      absurd (let z : _≡_ {A = ℕ} 0 1 = cc in omega arith))
 
 module _ (label : Label) (body out : List ℕ) where
   pub feed-40 : {k : ℕ} → (k ≡ 40) × (most < length body) → feed (Fed.Refused k) out ≡ feedOf label body out

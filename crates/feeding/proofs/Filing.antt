@@ -49,7 +49,10 @@ module _ {label : Label} {body : List ℕ} {count : ℕ} {old : List ℕ} (o : B
   Written k out = out ≡ front k ++ drop (length (front k)) base
 
   few : count < 128
-  few = let l : lastOf (length body) ≤ 15 = last-le (length body) (o .fits) in let e : count ≡ lastOf (length body) + 1 = o .counted in omega arith
+  few =
+      let l : lastOf (length body) ≤ 15 = last-le (length body) (o .fits) in
+      let e : count ≡ lastOf (length body) + 1 = o .counted in
+      omega arith
 
   pub begins-at : 2 ≡ length (front 0)
   begins-at = sym (ap length (front-none label body count few))
@@ -96,7 +99,8 @@ module _ {label : Label} {body : List ℕ} {count : ℕ} {old : List ℕ} (o : B
     pub next-at : {more : ℕ} → more ≡ entrySize (sizeAt (length body) k) → at + more ≡ length (front (k + 1))
     next-at e =
         let s : length one ≡ entrySize (sizeAt (length body) k) = one-size in
-        let n : length (front (k + 1)) ≡ length (front k) + length one = ap length (front-next label body count k known) ∙ length-append (front k) one in
+        let n : length (front (k + 1)) ≡ length (front k) + length one =
+        ap length (front-next label body count k known) ∙ length-append (front k) one in
         omega arith
 
     pub next-front : {back : List ℕ} → back ≡ one ++ drop (entrySize (sizeAt (length body) k)) (midOf at (length out - at) out) →
@@ -106,9 +110,11 @@ module _ {label : Label} {body : List ℕ} {count : ℕ} {old : List ℕ} (o : B
         (e ∙ ap (λ m. one ++ drop m (midOf at (length out - at) out)) (sym one-size))
         ∙ ap (λ f. f ++ drop (length f) base) (sym (front-next label body count k known))
 
-  pub ends : {k : ℕ} {out : List ℕ} → k ≡ count → Written k out → out ≡ feedFile label body ++ drop (fileSize (length body)) old
+  pub ends : {k : ℕ} {out : List ℕ} → k ≡ count → Written k out →
+      out ≡ feedFile label body ++ drop (fileSize (length body)) old
   ends {k} {out} e so =
-      let f : front k ≡ feedFile label body = ap front (e ∙ o .counted) ∙ ap (λ c. frontOf label body c (lastOf (length body) + 1)) (o .counted) ∙ sym (file-front label body) in
+      let f : front k ≡ feedFile label body =
+      ap front (e ∙ o .counted) ∙ ap (λ c. frontOf label body c (lastOf (length body) + 1)) (o .counted) ∙ sym (file-front label body) in
       let s : length (feedFile label body) ≡ fileSize (length body) = file-size label body (o .fits) in
       so
       ∙ ap (λ l. l ++ drop (length l) base) f

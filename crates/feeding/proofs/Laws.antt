@@ -14,8 +14,7 @@ use borrow.Rule.Slice.PartMut.{midOf, putMid}
 use Rattle.number.specs.Number.{spelt, Writing, writing, writtenOf}
 use Rattle.number.specs.declared.Written.{Written}
 use Rattle.file.specs.Layout.{listed}
-use Rattle.writer.specs.Writer as writer
-use Rattle.writer.specs.Writer.{most, lastOf, written, Write, write, writeOf}
+use Rattle.writer.specs.Writer.{most, lastOf, written, Write, write, placed, writeOf}
 use Rattle.writer.specs.declared.Label.{Label}
 use Rattle.writer.specs.declared.Written as wrote
 use Rattle.writer.proofs.Laws.{write-done}
@@ -32,7 +31,8 @@ module _ (done one old out back : List ℕ) (at : ℕ) (place : at ≡ length do
   pub lent-rest : midOf at (length out - at) out ≡ drop (length done) old
   lent-rest =
       ap (take (length out - at)) front-drop
-      ∙ take-all (length out - at) (drop (length done) old) (rw length-drop (let e : length out ≡ length old = front-length in omega arith))
+      ∙ take-all (length out - at) (drop (length done) old)
+      (rw length-drop (let e : length out ≡ length old = front-length in omega arith))
 
   pub lent-room : length one ≤ length (midOf at (length out - at) out)
   lent-room = rw (lent-rest, length-drop) (omega arith)
@@ -46,7 +46,8 @@ module _ (done one old out back : List ℕ) (at : ℕ) (place : at ≡ length do
       rw (first, none, append-nil, e, lent-rest, drop-drop, length-append, append-assoc)
 
 -- a number that fits
-module _ (n : ℕ) (rest back : List ℕ) (r : Written) (room : length (spelt n) ≤ length rest) (e : writing r back ≡ writtenOf n rest) where
+module _ (n : ℕ) (rest back : List ℕ) (r : Written) (room : length (spelt n) ≤ length rest)
+    (e : writing r back ≡ writtenOf n rest) where
   put : writing r back ≡ writing (Written.Bytes (length (spelt n))) (spelt n ++ drop (length (spelt n)) rest)
   unfolding writtenOf
   put = e ∙ rw (le-ltb (length rest) (length (spelt n)) room)
@@ -58,10 +59,12 @@ module _ (n : ℕ) (rest back : List ℕ) (r : Written) (room : length (spelt n)
   spelt-at = ap (λ (w : Writing). w .out) put
 
 -- a section that fits
-module _ (label : Label) (body : List ℕ) (k : ℕ) (fits : length body ≤ most) (five : label .version ≤ 31) (known : k ≤ lastOf (length body))
-    (rest back : List ℕ) (r : wrote.Written) (room : length (written label body k) ≤ length rest) (e : write r back ≡ writeOf label body k rest) where
-  put-section : write r back ≡ write (wrote.Written.Bytes (length (written label body k))) (written label body k ++ drop (length (written label body k)) rest)
-  put-section = e ∙ sym (write-done label body rest k (length (written label body k)) fits five known refl room (written label body k) refl)
+module _ (label : Label) (body : List ℕ) (k : ℕ) (fits : length body ≤ most) (five : label .version ≤ 31)
+    (known : k ≤ lastOf (length body)) (rest back : List ℕ) (r : wrote.Written) (room : length (written label body k) ≤ length rest)
+    (e : write r back ≡ writeOf label body k rest) where
+  put-section : write r back ≡ placed (written label body k) rest
+  put-section =
+      e ∙ sym (write-done label body rest k (length (written label body k)) fits five known refl room (written label body k) refl)
 
   pub section-count : r ≡ wrote.Written.Bytes (length (written label body k))
   section-count = ap (λ (w : Write). w .said) put-section

@@ -8,6 +8,6 @@ use Rattle.feeding.specs.declared.Fed.{Fed}
 use Rattle.writer.specs.declared.Label.{Label}
 
 -- an answer with the output that it leaves
-pub feed-unique : (label : Label) (body old : List ℕ) (x y : Fed) (out out′ : List ℕ) → feed x out ≡ feedOf label body old → feed y out′ ≡ feedOf label body old →
-    feed x out ≡ feed y out′
+pub feed-unique : (label : Label) (body old : List ℕ) (x y : Fed) (out out′ : List ℕ)
+    → feed x out ≡ feedOf label body old → feed y out′ ≡ feedOf label body old → feed x out ≡ feed y out′
 feed-unique label body old x y out out′ p q = p ∙ sym q

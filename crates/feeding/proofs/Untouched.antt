@@ -7,7 +7,8 @@ use Rattle.base.proofs.Tables.{among}
 use Rattle.writer.specs.declared.Label.{Label}
 use Rattle.feeding.specs.Feeding.{feedFile, numberOf, Feed, unfed, refuse, placed, feedOf}
 
-pub feed-untouched : (label : Label) (body out : List ℕ) → 0 < numberOf (feedOf label body out .said) → feedOf label body out .out ≡ out
+pub feed-untouched : (label : Label) (body out : List ℕ)
+    → 0 < numberOf (feedOf label body out .said) → feedOf label body out .out ≡ out
 unfolding feedOf
 feed-untouched label body out =
     among (refuse out)

@@ -4,7 +4,7 @@ use mathlib.Core.List.{List, [], _∷_, _++_}
 use lib.ListN.{length}
 use Rattle.number.specs.Number.{spelt}
 use Rattle.file.specs.Layout.{form, listed}
-use Rattle.writer.specs.Writer.{full, lastOf, endOf}
+use Rattle.writer.specs.Writer.{full, lastOf, endOf, written}
 use Rattle.writer.specs.declared.Label.{Label}
 use Rattle.feeding.specs.Feeding.{sectionsBelow}
 
@@ -15,6 +15,10 @@ sizeAt n k = 8 + (endOf n (full * k) - full * k)
 -- what a section of so many bytes takes in the file, with its length
 abbrev pub entrySize : ℕ → ℕ
 entrySize size = length (spelt size) + size
+
+-- section k in the file, with its length
+abbrev pub entryAt : Label → List ℕ → ℕ → List ℕ
+entryAt label body k = spelt (sizeAt (length body) k) ++ written label body k
 
 -- the file of a body of n bytes: form and count, the full sections, and the last
 abbrev pub fileSize : ℕ → ℕ

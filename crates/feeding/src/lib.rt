@@ -1,13 +1,11 @@
 // A bench's table as a shelf file (document 02, request 1): the file of the sections that carry a body.
 ghost use mathlib.Core.Path.{_≡_};
-ghost use mathlib.Core.List.{[], _∷_, _++_};
+ghost use mathlib.Core.List.{_++_};
 ghost use Prim.Native.Nat.{_+_, _≤_};
 ghost use lib.ListN.{length, drop};
-ghost use Rattle.number.specs.Number.{spelt};
-ghost use Rattle.file.specs.Layout.{listed};
-ghost use Rattle.writer.specs.Writer.{most, lastOf, written};
+ghost use Rattle.writer.specs.Writer.{most, lastOf};
 ghost use Rattle.feeding.specs.Feeding.{feedFile, feed, feedOf};
-ghost use Rattle.feeding.specs.Sizes.{sizeAt, entrySize, fileSize};
+ghost use Rattle.feeding.specs.Sizes.{sizeAt, entrySize, entryAt, fileSize};
 use writer::Counted;
 use writer::Label;
 use writer::Written;
@@ -66,7 +64,7 @@ fn write_one(label: Label, body: &[u8], k: u8, rest: &mut [u8]) -> usize
     requires { ⌜ (length (now body) ≤ most) × (label .version ≤ 31) × (k ≤ lastOf (length (now body))) ⌝ }
     requires { ⌜ entrySize (sizeAt (length (now body)) k) ≤ length (now rest) ⌝ }
     ensures { λ r. ⌜ r ≡ entrySize (sizeAt (length (now (body .entry))) k) ⌝ }
-    ensures { λ _. ⌜ now (rest .exit) ≡ (spelt (sizeAt (length (now (body .entry))) k) ++ written label (now (body .entry)) k) ++ drop (entrySize (sizeAt (length (now (body .entry))) k)) (now (rest .entry)) ⌝ }
+    ensures { λ _. ⌜ now (rest .exit) ≡ entryAt label (now (body .entry)) k ++ drop (entrySize (sizeAt (length (now (body .entry))) k)) (now (rest .entry)) ⌝ }
 {
     let size = size_at(body.len(), k as usize);
     let spelled = number::write_number(size, rest);

@@ -1,19 +1,18 @@
 -- The frequent steps, case by case as the code comes to them.
---   place-at, key-here, places-here                          a place of the record is the place of the numbers
+--   place-at, key-here, places-here                         a place of the record is the place of the numbers
 --   compared, compared-end, stood                            the bytes that stand in a berth, compared
 --   other-version, other-last, adds, other-size, repeats     a held key
 --   other-store, spoiled-record, not-read, not-held, found   an offer
 use mathlib.Core.Path.{_≡_, refl, sym, ap, _∙_}
 use mathlib.Core.Bool.{Bool, true, false, not, _&&_}
 use mathlib.Core.List.{List}
-use Prim.Native.Nat.{ℕ, zero, suc, _+_, _*_, _<_, _≤_}
+use Prim.Native.Nat.{ℕ, zero, suc, _+_, _*_, _/_, _%_, _<_, _≤_}
 use native.Mathlib.Omega.{arith}
 use lib.Dec.{eqb}
-use lib.ListN.{length}
+use lib.ListN.{length, getD}
 use lib.Seq.{getD-take, getD-drop}
 use lib.Bits.{bitOr, bitXor}
 use borrow.Author.Tests.{eq-eqb, ne-eqb}
-use Rattle.base.specs.Choice.{if_then_else_}
 use Rattle.base.specs.Bytes.{byte, same}
 use Rattle.base.specs.Below.{every, lowest}
 use Rattle.base.proofs.Below.{every-next}
@@ -25,13 +24,13 @@ use Rattle.section.specs.Section.{readOf}
 use Rattle.section.specs.declared.Header.{Header}
 use Rattle.section.specs.declared.Reading.{Reading}
 use Rattle.section.specs.declared.Reading.the-variants as reading
-use Rattle.shelf.specs.Record.{placeAt, lengthAt, holds, hasKey, spoiledOf, placeOf, freeOf}
+use Rattle.shelf.specs.Record.{placeAt, lengthAt, hasKey, spoiledOf, placeOf, freeOf}
 use Rattle.shelf.specs.declared.Key.{Key}
 use Rattle.shelf.specs.declared.Place.{Place}
 use Rattle.shelf.specs.declared.Shelf.{Shelf}
-use Rattle.offer.specs.Offer.{After, keyOf, newOf, heldOf, soundOf, readingOf, offerOf}
+use Rattle.offer.specs.Offer.{keyOf, newOf, heldOf, soundOf, offerOf}
 use Rattle.offer.specs.declared.Offered.{Offered}
-use Rattle.shelf_words.specs.Words.{count, placeIn, shelfIn, shelfAt}
+use Rattle.shelf_words.specs.Words.{placeIn, shelfIn}
 use Rattle.offer_quick.specs.declared.Frequent.{Frequent}
 use Rattle.offer_quick.specs.declared.Frequent.the-variants.{Repeats, Adds, Other}
 use Rattle.offer_quick.specs.Frequent.{frequentAt, frequentBy, frequentOf}
@@ -43,6 +42,27 @@ place-at words (suc zero) h = refl
 place-at words (suc (suc zero)) h = refl
 place-at words (suc (suc (suc zero))) h = refl
 place-at words (suc (suc (suc (suc p)))) h = absurd (omega arith)
+
+-- the three tests of a key, in another order than the definition's
+pub key-here :
+    (words : List ℕ)
+    (p : ℕ)
+    (key : Key)
+    → (eqb (getD words (19 * p + 1) 0) (key .extension) && eqb (getD words (19 * p) 0 % 256) (key .table)) && not (eqb (getD words (19 * p + 2) 0 / 256) 0)
+    ≡ hasKey (placeIn words p) key
+unfolding hasKey placeIn
+key-here words p key =
+    turned (eqb (getD words (19 * p + 1) 0) (key .extension)) (eqb (getD words (19 * p) 0 % 256) (key .table)) (not (eqb (getD words (19 * p + 2) 0 / 256) 0))
+  where
+    turned : (a b c : Bool) → (a && b) && c ≡ c && (b && a)
+    turned true true true = refl
+    turned true true false = refl
+    turned true false true = refl
+    turned true false false = refl
+    turned false true true = refl
+    turned false true false = refl
+    turned false false true = refl
+    turned false false false = refl
 
 lowest-same : (f g : ℕ → Bool) (n : ℕ) → ((k : ℕ) → k < n → f k ≡ g k) → lowest n f ≡ lowest n g
 unfolding lowest

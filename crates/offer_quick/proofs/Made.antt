@@ -1,15 +1,14 @@
 -- What an offer leaves where it comes to one of the frequent steps.
 --   repeat-made     a repeat leaves the store, and so does the answer
 --   add-made        a section that is added: its length in the record, its bytes in its berth, and these are in range
-use mathlib.Core.Path.{_≡_, refl, sym, ap, subst, _∙_}
-use mathlib.Core.Bool.{Bool, true, false, not}
+use mathlib.Core.Path.{_≡_, refl, subst}
+use mathlib.Core.Bool.{false, not}
 use mathlib.Core.List.{List}
 use Prim.Native.Nat.{ℕ, _<_, _≤_}
 use native.Mathlib.Omega.{arith}
 use lib.Dec.{eqb}
 use lib.ListN.{length}
-use borrow.Author.Tests.{eqb-true, eqb-false, not-false}
-use Rattle.base.specs.Choice.{if_then_else_}
+use borrow.Author.Tests.{eqb-true, not-false}
 use Rattle.base.specs.Bytes.{same}
 use Rattle.base.proofs.Cases.{either}
 use Rattle.berth.specs.Berth.{berthSize, places, sections, storeSize, put, standing}

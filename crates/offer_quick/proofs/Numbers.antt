@@ -2,22 +2,23 @@
 --   no-record, counted      any other count of numbers than 76 is a spoiled record
 --   its-shelf, in-shelf, sound-in, most-in   76 numbers are a record; where it is not spoiled, its lengths
 --   flag-off, flag-on       whether a place is taken, as a number
+--   chosen-new, chosen-old, upTo, none-yet, one-more, all-written    sixteen numbers are written, one of them anew
 --   put-there, put-nowhere, put-no-place, put-no-section, put-after     what a length that is put leaves
 use mathlib.Core.Path.{_≡_, refl, sym, ap, subst, _∙_}
 use mathlib.Core.Bool.{Bool, true, false, not, _&&_}
-use mathlib.Core.Logic.{_⊎_, ⊎-elim, inl, inr}
-use mathlib.Core.List.{List, [], _∷_, _++_}
+use mathlib.Core.Logic.{_⊎_, ⊎-elim}
+use mathlib.Core.List.{List, _++_}
 use Prim.Native.Nat.{ℕ, zero, suc, _+_, _*_, _/_, _%_, _<_, _≤_}
 use native.Mathlib.Omega.{arith}
 use lib.Dec.{eqb, ltb}
 use lib.ListN.{length, getD, set, drop, length-set, length-append, length-drop, List·getD-append}
-use lib.Seq.{getD-take, getD-drop, getD-set-same, getD-set-other, getD-append-add, ext-getD, length-take-le}
+use lib.Seq.{getD-take, getD-drop, getD-set-same, getD-set-other, set-getD, getD-append-add, ext-getD, length-take-le}
 use borrow.Author.Tests.{eq-eqb, ne-eqb, lt-ltb, le-ltb, ltb-true, ltb-false, eqb-true}
 use Rattle.base.specs.Choice.{if_then_else_}
 use Rattle.base.specs.Below.{some}
 use Rattle.base.proofs.Cases.{by, same-or, unlike}
-use Rattle.berth.specs.Berth.{places, sections}
-use Rattle.shelf.specs.Record.{fresh, noPlace, placeAt, withPlace, lengthAt, spoiledPlace, alike, spoiledOf, placeOf}
+use Rattle.berth.specs.Berth.{places}
+use Rattle.shelf.specs.Record.{fresh, noPlace, placeAt, lengthAt, spoiledPlace, spoiledOf, placeOf}
 use Rattle.shelf.specs.declared.Place.{Place}
 use Rattle.shelf.specs.declared.Shelf.{Shelf}
 use Rattle.section.specs.declared.Header.{Header}
@@ -61,6 +62,41 @@ pub most-in : (words store payload : List ℕ) (h : Header) {p : ℕ} → spoile
     → lengthAt (placeIn words p) n ≤ 1024
 most-in words store payload h {p} s e l n m =
     subst (λ x. lengthAt x n ≤ 1024) (place-at words p l) (held-most (shelfIn words) store payload h e (sound-in words s) l n m)
+
+pub chosen-new : (i n size there : ℕ) → i ≡ n → size ≡ (if eqb i n then size else there)
+chosen-new i n size there e = rw (eq-eqb i n e)
+
+pub chosen-old : (i n size there : ℕ) → (i ≡ n → ⊥) → there ≡ (if eqb i n then size else there)
+chosen-old i n size there d = rw (ne-eqb i n d)
+
+-- the numbers after the first i of sixteen are written, one of them with another length
+abbrev pub upTo : List ℕ → ℕ → ℕ → ℕ → ℕ → List ℕ
+upTo w at n size i = if ltb n i then set w (at + n) size else w
+
+module _ (w : List ℕ) (at n size : ℕ) where
+  pub none-yet : w ≡ upTo w at n size 0
+  none-yet = rw (le-ltb n 0 (omega arith))
+
+  pub one-more : {r : ℕ} (v : List ℕ) (i : ℕ) → v ≡ upTo w at n size i → r ≡ (if eqb i n then size else getD v (at + i) 0)
+      → set v (at + i) r ≡ upTo w at n size (i + 1)
+  one-more {r} v i e f =
+      ⊎-elim
+      (λ (q : i ≡ n).
+      let a : v ≡ w = e ∙ rw (le-ltb n i (omega arith)) in
+      let b : r ≡ size = f ∙ rw (eq-eqb i n q) in
+      rw (lt-ltb n (i + 1) (omega arith), a, b, q))
+      (λ d.
+      let b : r ≡ getD v (at + i) 0 = f ∙ rw (ne-eqb i n d) in
+      ap (set v (at + i)) b
+      ∙ set-getD v (at + i) 0
+      ∙ e
+      ∙ by (ltb n i)
+      (λ t. rw (t, lt-ltb n (i + 1) (let u : n < i = ltb-true _ _ t in omega arith)))
+      (λ t. rw (t, le-ltb n (i + 1) (let u : i ≤ n = ltb-false _ _ t in omega (arith, d)))))
+      (same-or i n)
+
+  pub all-written : (v : List ℕ) (i : ℕ) → n < 16 → i ≡ 16 → v ≡ upTo w at n size i → v ≡ set w (at + n) size
+  all-written v i h q e = e ∙ rw (lt-ltb n i (omega arith))
 
 -- number j of the numbers of place q, told of the numbers that the place was read from
 element :
@@ -290,11 +326,13 @@ module _ (w : List ℕ) (n76 : length w ≡ 76) where
         → b ≡ tidied a 1
         → c ≡ tidied b 2
         → d ≡ tidied c 3
-        → set d (19 * p + 3 + n) size ≡ lengthPut w p n size
+        → {x : List ℕ}
+        → x ≡ set d (19 * p + 3 + n) size
+        → x ≡ lengthPut w p n size
     unfolding lengthPut layers wordsAfter
-    put-there a b c d e f g h =
+    put-there a b c d e f g h i =
         let all : d ≡ layers w 4 = h ∙ ap (λ x. tidied x 3) (g ∙ ap (λ x. tidied x 2) (f ∙ ap (λ x. tidied x 1) e)) in
-        rw (eq-eqb (length w) 76 n76, lt-ltb p 4 l, lt-ltb n 16 m) (ap (λ x. set x (19 * p + 3 + n) size) all ∙ written)
+        rw (eq-eqb (length w) 76 n76, lt-ltb p 4 l, lt-ltb n 16 m) (i ∙ ap (λ x. set x (19 * p + 3 + n) size) all ∙ written)
 
 module _ (w : List ℕ) (p n size : ℕ) where
   pub put-nowhere : (length w ≡ 76 → ⊥) → w ≡ lengthPut w p n size

@@ -7,7 +7,8 @@ ghost use mathlib.Core.Path.{_≡_};
 ghost use mathlib.Core.Bool.{not};
 ghost use Prim.Native.Nat.{_+_, _/_, _<_, _≤_};
 ghost use lib.Dec.{eqb};
-ghost use lib.ListN.{length};
+ghost use lib.ListN.{length, set};
+ghost use Rattle.base.specs.Choice.{if_then_else_};
 ghost use Rattle.base.specs.Below.{every};
 ghost use Rattle.base.specs.Bytes.{byte};
 ghost use Rattle.berth.specs.Berth.{berthSize, places, sections, storeSize};
@@ -30,14 +31,14 @@ const PLACE: usize = 19;
 
 const HEAD: usize = 3;
 
-// Whether place p is taken and has that key.
+// Whether place p is taken and has that key. The extension is asked first: it tells most tables apart.
 fn has_key(words: &[u16], p: usize, key: Key) -> bool
     requires { ⌜ (p < places) × (length (now words) ≡ count) ⌝ }
     ensures { λ r. ⌜ r ≡ hasKey (placeIn (now (words .entry)) p) key ⌝ }
 {
     let at = PLACE * p;
     let table = key.table as u16;
-    (words[at + 2] / 256 != 0) & ((words[at] % 256 == table) & (words[at + 1] == key.extension))
+    ((words[at + 1] == key.extension) & (words[at] % 256 == table)) & (words[at + 2] / 256 != 0)
 }
 
 // The place of a key, or 4 where it is not held.
@@ -146,6 +147,28 @@ fn tidy(words: &mut [u16], p: usize)
     words[at] = third % 256 + above;
 }
 
+// At number n the new length, and at any other the one that is there.
+fn chosen(i: usize, n: usize, size: u16, there: u16) -> u16
+    ensures { λ r. ⌜ r ≡ (if eqb i n then size else there) ⌝ }
+{
+    if i == n { size } else { there }
+}
+
+// Puts a length at number n of the sixteen from a place of the numbers on. All sixteen are written: the next check reads them many
+// at a time, and would wait for one that was written by itself.
+fn put_among(words: &mut [u16], at: usize, n: usize, size: u16)
+    requires { ⌜ (at + sections ≤ length (now words)) × (n < sections) ⌝ }
+    ensures { λ _. ⌜ now (words .exit) ≡ set (now (words .entry)) (at + n) size ⌝ }
+{
+    let mut i: usize = 0;
+    while i < berth::SECTIONS {
+        let there = words[at + i];
+        let next = chosen(i, n, size, there);
+        words[at + i] = next;
+        i += 1;
+    }
+}
+
 // Puts the length of section n of place p. What names no section of a record of 76 numbers changes nothing.
 pub fn put_length(words: &mut [u16], p: usize, n: usize, size: u16)
     ensures { λ _. ⌜ now (words .exit) ≡ lengthPut (now (words .entry)) p n size ⌝ }
@@ -164,5 +187,5 @@ pub fn put_length(words: &mut [u16], p: usize, n: usize, size: u16)
     tidy(words, 2);
     tidy(words, 3);
     let lengths = PLACE * p + HEAD;
-    words[lengths + n] = size;
+    put_among(words, lengths, n, size);
 }

@@ -35,7 +35,7 @@ use Rattle.ask.specs.Ask as Ask
 use Rattle.ask.specs.declared.Copied.{Copied}
 use Rattle.ask.specs.declared.Whole.{Whole}
 use Rattle.ask.specs.declared.Missing.{Missing}
-use Rattle.shelf_host.specs.Lent.{Lent, lent, beginLent, offered, offerLent, released, releaseLent, loaded, loadLent, Out, out, copiedCode, copyOut, copyLent, savedCode, saveOut, saveLent, listedCode, listOut, listLent, wholeCode, wholeLent, missingCode, missingLent}
+use Rattle.shelf_host.specs.Lent.{Lent, lent, beginLent, offered, offerLent, released, releaseLent, loaded, loadLent, out, copiedCode, copyOut, copyLent, savedCode, saveOut, saveLent, listedCode, listOut, listLent, wholeCode, wholeLent, missingCode, missingLent}
 
 module _ (w st : List ℕ) (sh : Shelf) (read : sh ≡ shelfAt w) where
   pub offer-told : (p : List ℕ) (a : Offer.After) (said : Offered) (l : Lent) → a ≡ Offer.offerOf sh st p → a .said ≡ said → l ≡ offered w a said → l ≡ offerLent w st p

@@ -2,16 +2,16 @@
 --   none-of-five           what was gathered is 0: all of it is
 --   low-none               what is passed over
 --   Seen, seen-none, seen-more, seen-all      what is known after the first i numbers of a place
-use mathlib.Core.Path.{_≡_, refl, sym, ap, _∙_}
-use mathlib.Core.Bool.{Bool, true, false, _||_}
+use mathlib.Core.Path.{_≡_, sym, _∙_}
+use mathlib.Core.Bool.{false, _||_}
 use mathlib.Core.Logic.{_⊎_, ⊎-elim, inl, inr}
-use mathlib.Core.List.{List, [], _∷_}
+use mathlib.Core.List.{List}
 use Prim.Native.Nat.{ℕ, _+_, _<_, _≤_}
 use native.Mathlib.Omega.{arith}
-use lib.Dec.{eqb, ltb}
+use lib.Dec.{ltb}
 use lib.ListN.{getD}
 use lib.Bits.{bitOr, and-le-l, and-le-r, or-add-and}
-use borrow.Author.Tests.{eqb-true, ltb-true, ltb-false}
+use borrow.Author.Tests.{ltb-true, ltb-false}
 use Rattle.base.proofs.Cases.{by, same-or, or-left, or-right}
 use Rattle.shelf.proofs.Gather.{numbers, numbers-at}
 use Rattle.shelf_quick.specs.Quick.{FineLengths}

@@ -14,11 +14,11 @@ use native.Mathlib.Omega.{arith}
 use lib.Dec.{eqb, ltb}
 use lib.ListN.{length, getD}
 use lib.Seq.{getD-drop, getD-take}
-use borrow.Author.Tests.{eq-eqb, ne-eqb, eqb-true, eqb-false, lt-ltb, le-ltb, ltb-true}
+use borrow.Author.Tests.{eq-eqb, ne-eqb, eqb-true, eqb-false, le-ltb, ltb-true}
 use Rattle.base.specs.Below.{some}
 use Rattle.base.proofs.Below.{some-all}
 use Rattle.base.proofs.Cases.{by, unlike, and-left, and-right, or-left, or-right}
-use Rattle.shelf.specs.Record.{lengthAt, holds, sameKey, wrongAt, alike, spoiledOf}
+use Rattle.shelf.specs.Record.{lengthAt, holds, wrongAt, alike, spoiledOf}
 use Rattle.shelf.specs.Parts.{Named, headSpoiled, nothingHeld, orFour, wrongInOne}
 use Rattle.shelf.specs.declared.Place.{Place}
 use Rattle.shelf.proofs.Four.{spoiled-parts}

@@ -7,7 +7,8 @@ use Rattle.base.proofs.Tables.{among}
 use Rattle.writer.specs.Writer.{written, writtenNo, Write, unwritten, refuse, placed, writeOf}
 use Rattle.writer.specs.declared.Label.{Label}
 
-pub write-untouched : (label : Label) (body : List ℕ) (k : ℕ) (out : List ℕ) → 0 < writtenNo (writeOf label body k out .said) → writeOf label body k out .out ≡ out
+pub write-untouched : (label : Label) (body : List ℕ) (k : ℕ) (out : List ℕ)
+    → 0 < writtenNo (writeOf label body k out .said) → writeOf label body k out .out ≡ out
 unfolding writeOf
 write-untouched label body k out =
     among (refuse out)

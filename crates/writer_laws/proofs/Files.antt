@@ -48,7 +48,9 @@ module _ (label : Label) (body : List ℕ) where
   unfolding sectionsFrom
   from-more k zero = ap (λ m. written label body m ∷ []) (let e : k ≡ k + 0 = omega arith in e)
   from-more k (suc n) =
-      ap (λ l. written label body k ∷ l) (from-more (k + 1) n ∙ ap (λ m. sectionsFrom (k + 1) n ++ (written label body m ∷ [])) (let e : k + 1 + n ≡ k + suc n = omega arith in e))
+      let e : k + 1 + n ≡ k + suc n = omega arith in
+      ap (λ l. written label body k ∷ l)
+      (from-more (k + 1) n ∙ ap (λ m. sectionsFrom (k + 1) n ++ (written label body m ∷ [])) e)
 
   below-from : (n : ℕ) → sectionsBelow label body n ≡ sectionsFrom 0 n
   unfolding sectionsBelow sectionsFrom
@@ -63,7 +65,9 @@ module _ (label : Label) (body : List ℕ) where
   in-sections zero k l = absurd (omega arith)
   in-sections (suc n) k l =
       ⊎-elim
-      (λ e. subst (λ m. List·Memᴰ (written label body k) (sectionsBelow label body n ++ (written label body m ∷ []))) e (mem-last (sectionsBelow label body n)))
+      (λ e.
+      subst (λ m. List·Memᴰ (written label body k) (sectionsBelow label body n ++ (written label body m ∷ []))) e
+      (mem-last (sectionsBelow label body n)))
       (λ ne. mem-front (sectionsBelow label body n) (written label body n ∷ []) (in-sections n k (omega arith)))
       (same-or k n)
 
@@ -85,7 +89,8 @@ module _ (label : Label) (body : List ℕ) where
           eq-eqb last last refl,
         )
 
-    rising : (first : Header) → first ≡ headerAt 0 → (n k lowest : ℕ) → k + n ≤ last + 1 → lowest ≤ k → Rising first lowest (sectionsFrom k n)
+    rising : (first : Header) → first ≡ headerAt 0 → (n k lowest : ℕ) → k + n ≤ last + 1 → lowest ≤ k
+        → Rising first lowest (sectionsFrom k n)
     unfolding sectionsFrom
     rising first is zero k lowest l h = tt
     rising first is (suc n) k lowest l h =
@@ -102,8 +107,10 @@ module _ (label : Label) (body : List ℕ) where
     unfolding sectionsFrom
     sound-from =
         let few : last ≤ 15 = last-le (length body) fits in
-        let size : length (sectionsFrom 0 (suc last)) ≡ suc last = sym (ap length (below-from (suc last))) ∙ sections-count label body (suc last) in
-        (omega arith, rising (headerOf (written label body 0)) (its-header label body five fits 0 (omega arith)) (suc last) 0 0 (omega arith) (omega arith))
+        let size : length (sectionsFrom 0 (suc last)) ≡ suc last =
+        sym (ap length (below-from (suc last))) ∙ sections-count label body (suc last) in
+        let first : headerOf (written label body 0) ≡ headerAt 0 = its-header label body five fits 0 (omega arith) in
+        (omega arith, rising (headerOf (written label body 0)) first (suc last) 0 0 (omega arith) (omega arith))
 
     all-from : sectionsOf label body ≡ sectionsFrom 0 (suc last)
     all-from = ap (sectionsBelow label body) (let e : last + 1 ≡ suc last = omega arith in e) ∙ below-from (suc last)
@@ -131,7 +138,9 @@ module _ (label : Label) (body : List ℕ) where
 
     section-in : (k : ℕ) → k ≤ last → (n : ℕ) × (holds lengths n ≡ true) × (written label body k ≡ bytesAt n)
     unfolding foundIn
-    section-in k l = mem-chosen (holds lengths) bytesAt 16 (subst (List·Memᴰ (written label body k)) (sym holds-sections) (in-sections (last + 1) k (omega arith)))
+    section-in k l =
+        mem-chosen (holds lengths) bytesAt 16
+        (subst (List·Memᴰ (written label body k)) (sym holds-sections) (in-sections (last + 1) k (omega arith)))
 
     its-length : (k : ℕ) → k ≤ last → getD lengths k 0 ≡ length (written label body k)
     its-length k l = go (section-in k l)

@@ -1,5 +1,5 @@
--- Document 02, request 1: "Offered to a fresh shelf in any order, the sections make a complete table whose joined bodies are the
--- given body." The histories that this speaks of, and the joined bodies. `afterAll` and its like are those of demand 3.
+-- Document 02, request 1: offered to a fresh shelf in any order, the sections make a complete table whose joined bodies are
+-- the given body. The histories that this speaks of, and the joined bodies. `afterAll` and its like are those of demand 3.
 use Prim.Native.Nat.{ℕ, zero, suc, _≤_}
 use mathlib.Core.List.{List, [], _∷_, _++_, List·Memᴰ}
 use lib.ListN.{take, drop}

@@ -18,10 +18,16 @@ add-result-2 : tie.Need-add-result-2
 add-result-2 c = search needs
 
 returns : tie.Need-returns
-returns c = let e : entrySize (c .before .before .args .size) ≡ 1 + c .before .before .args .size = one-group _ (search needs) in omega arith
+returns c =
+    let size = c .before .before .args .size in
+    let e : entrySize size ≡ 1 + size = one-group size (search needs) in
+    omega arith
 
 returns-2 : tie.Need-returns-2
-returns-2 c = let e : entrySize (c .before .before .args .size) ≡ 2 + c .before .before .args .size = two-groups _ (search needs) (search needs) in omega arith
+returns-2 c =
+    let size = c .before .before .args .size in
+    let e : entrySize size ≡ 2 + size = two-groups size (search needs) (search needs) in
+    omega arith
 
 pub entry-size-spec : {M : Type 1} → statement M
 entry-size-spec = tie.close (tie.spec wide-requires add-result add-result-2 returns returns-2)

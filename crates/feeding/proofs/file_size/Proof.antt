@@ -11,7 +11,8 @@ use Rattle.feeding.proofs.file_size.Statement.{statement}
 use Rattle.feeding.proofs.file_size.Tie as tie
 
 -- what the last section takes, as it was added up
-entry : (c : tie.After-entry-size) → c .entry-size .result ≡ entrySize (sizeAt (c .before .before .args .length) (lastOf (c .before .before .args .length)))
+entry : (c : tie.After-entry-size)
+    → c .entry-size .result ≡ entrySize (sizeAt (c .before .before .args .length) (lastOf (c .before .before .args .length)))
 entry c =
     c .entry-size .ensures
     ∙ ap entrySize (c .before .size-at .ensures .0 ∙ ap (sizeAt (c .before .before .args .length)) (c .before .before .pre .1))
@@ -23,16 +24,22 @@ entry-size-requires : tie.Need-entry-size-requires
 entry-size-requires c κs = search needs
 
 mul-result : tie.Need-mul-result
-mul-result c = let l : lastOf (c .before .before .args .length) ≤ 15 = last-le (c .before .before .args .length) (search needs) in search needs
+mul-result c =
+    let n = c .before .before .args .length in
+    let l : lastOf n ≤ 15 = last-le n (search needs) in
+    search needs
 
 add-result : tie.Need-add-result
-add-result c = let l : lastOf (c .before .before .args .length) ≤ 15 = last-le (c .before .before .args .length) (search needs) in search needs
+add-result c =
+    let n = c .before .before .args .length in
+    let l : lastOf n ≤ 15 = last-le n (search needs) in
+    search needs
 
 add-result-2 : tie.Need-add-result-2
 add-result-2 c =
     let n = c .before .before .args .length in
-    let l : lastOf (c .before .before .args .length) ≤ 15 = last-le (c .before .before .args .length) (search needs) in
-    let m : entrySize (sizeAt (c .before .before .args .length) (lastOf (c .before .before .args .length))) ≤ 1026 = entry-small n (lastOf n) (omega arith) in
+    let l : lastOf n ≤ 15 = last-le n (search needs) in
+    let m : entrySize (sizeAt n (lastOf n)) ≤ 1026 = entry-small n (lastOf n) (omega arith) in
     let e = entry c in
     search needs
 

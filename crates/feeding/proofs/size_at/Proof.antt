@@ -23,12 +23,14 @@ add-result c = search needs
 
 returns : tie.Need-returns
 returns c =
-    let e : endOf (c .before .args .length) (full * c .before .args .k) ≡ c .before .args .length = end-part (c .before .args .length) (c .before .args .k) (search needs) in
+    let a = c .before .args in
+    let e : endOf (a .length) (full * a .k) ≡ a .length = end-part (a .length) (a .k) (search needs) in
     (omega arith, omega arith)
 
 returns-2 : tie.Need-returns-2
 returns-2 c =
-    let e : endOf (c .before .args .length) (full * c .before .args .k) ≡ full * c .before .args .k + full = end-full (c .before .args .length) (c .before .args .k) (search needs) in
+    let a = c .before .args in
+    let e : endOf (a .length) (full * a .k) ≡ full * a .k + full = end-full (a .length) (a .k) (search needs) in
     (omega arith, omega arith)
 
 pub size-at-spec : {M : Type 1} → statement M

@@ -23,11 +23,18 @@ enum-known-spelled c = search needs
 
 sub-write-section : tie.Need-sub-write-section
 sub-write-section c =
-    starts-inside (room (c .before .before .before .before .before .before .before .before .before .before)) (c .before .before .before .before .before .before .before .size-at .ensures .0) (c .before .before .before .before .before .write-number .ensures) (c .before .spelled .given .1)
+    let number = c .before .before .before .before .before in
+    let size = number .before .before in
+    let r = room (size .before .before .before) in
+    let inside = starts-inside r (size .size-at .ensures .0) (number .write-number .ensures) (c .before .spelled .given .1) in
+    inside
 
 part-write-section-start : tie.Need-part-write-section-start
 part-write-section-start c =
-    let inside = starts-inside (room (c .before .before .before .before .before .before .before .before .before .before)) (c .before .before .before .before .before .before .before .size-at .ensures .0) (c .before .before .before .before .before .write-number .ensures) (c .before .spelled .given .1) in
+    let number = c .before .before .before .before .before in
+    let size = number .before .before in
+    let r = room (size .before .before .before) in
+    let inside = starts-inside r (size .size-at .ensures .0) (number .write-number .ensures) (c .before .spelled .given .1) in
     search (needs, inside)
 
 part-write-section-end : tie.Need-part-write-section-end
@@ -44,8 +51,15 @@ enum-known-section c = search needs
 
 add-result : tie.Need-add-result
 add-result c =
-    let r = room (c .before .before .before .before .before .before .before .before .before .before .before .before .before .before .before .before .before) in
-    let z = counts r (c .before .before .before .before .before .before .before .before .before .before .before .before .before .before .size-at .ensures .0) (c .before .before .before .before .before .before .before .before .before .before .before .before .write-number .ensures) (c .before .before .before .before .before .before .before .before .spelled .given .1) (c .before .before .before .before .before .write-section .ensures) (c .before .section .given .1) in
+    let r = room (c .before .before .before .before .before .before .before .before
+    .before .before .before .before .before .before .before .before .before) in
+    let z =
+    counts r
+    (c .before .before .before .before .before .before .before .before .before .before .before .before .before .before .size-at .ensures .0)
+    (c .before .before .before .before .before .before .before .before .before .before .before .before .write-number .ensures)
+    (c .before .before .before .before .before .before .before .before .spelled .given .1)
+    (c .before .before .before .before .before .write-section .ensures)
+    (c .before .section .given .1) in
     let l = r .room in
     search needs
 
@@ -53,25 +67,42 @@ same-length : tie.Need-same-length
 same-length c = search needs
 
 returns : tie.Need-returns
-returns c = absurd (not-unspelt (room (c .before .before .before .before .before .before .before .before .before)) (c .before .before .before .before .before .before .size-at .ensures .0) (c .before .before .before .before .write-number .ensures) (c .enum-told .given .1))
+returns c =
+    let number = c .before .before .before .before in
+    let size = number .before .before in
+    let r = room (size .before .before .before) in
+    absurd (not-unspelt r (size .size-at .ensures .0) (number .write-number .ensures) (c .enum-told .given .1))
 
 same-length-2 : tie.Need-same-length-2
 same-length-2 c = search needs
 
 returns-2 : tie.Need-returns-2
-returns-2 c = absurd (not-unwritten (room (c .before .before .before .before .before .before .before .before .before .before .before .before .before .before .before .before)) (c .before .before .before .before .before .before .before .before .before .before .before .before .before .size-at .ensures .0) (c .before .before .before .before .before .before .before .before .before .before .before .write-number .ensures) (c .before .before .before .before .before .before .before .spelled .given .1) (c .before .before .before .before .write-section .ensures) (c .enum-told2 .given .1))
+returns-2 c =
+    let put = c .before .before .before .before in
+    let told = put .before .before in
+    let number = told .before .before .before .before .before in
+    let size = number .before .before in
+    let r = room (size .before .before .before) in
+    let spelled = number .write-number .ensures in
+    let start = told .before .spelled .given .1 in
+    let section = put .write-section .ensures in
+    absurd (not-unwritten r (size .size-at .ensures .0) spelled start section (c .enum-told2 .given .1))
 
 same-length-3 : tie.Need-same-length-3
 same-length-3 c = search needs
 
 returns-3 : tie.Need-returns-3
 returns-3 c =
-    let r = room (c .before .before .before .before .before .before .before .before .before .before .before .before .before .before .before .before .before) in
-    let size = c .before .before .before .before .before .before .before .before .before .before .before .before .before .before .size-at .ensures .0 in
-    let number = c .before .before .before .before .before .before .before .before .before .before .before .before .write-number .ensures in
-    let start = c .before .before .before .before .before .before .before .before .spelled .given .1 in
-    let section = c .before .before .before .before .before .write-section .ensures in
-    (counts r size number start section (c .before .section .given .1), one-written r size number start section)
+    let put = c .before .before .before .before .before in
+    let told = put .before .before in
+    let number = told .before .before .before .before .before in
+    let size = number .before .before in
+    let r = room (size .before .before .before) in
+    let spelled = number .write-number .ensures in
+    let start = told .before .spelled .given .1 in
+    let section = put .write-section .ensures in
+    let is = size .size-at .ensures .0 in
+    (counts r is spelled start section (c .before .section .given .1), one-written r is spelled start section)
 
 pub write-one-spec : {M : Type 1} → statement M
 write-one-spec =

@@ -1,8 +1,6 @@
 -- `offer_quick::has_key` meets its promise: the same tests on the same numbers.
-use mathlib.Core.Path.{refl}
 use borrow.Author.Needs.{needs}
-use Rattle.shelf_words.specs.Words.{placeIn}
-use Rattle.shelf.specs.Record.{hasKey}
+use Rattle.offer_quick.proofs.Held.{key-here}
 use Rattle.offer_quick.proofs.has_key.Statement.{statement}
 use Rattle.offer_quick.proofs.has_key.Tie as tie
 
@@ -37,8 +35,7 @@ shared-slice-read-result-3 : tie.Need-shared-slice-read-result-3
 shared-slice-read-result-3 c = search needs
 
 returns : tie.Need-returns
-unfolding hasKey placeIn
-returns c = refl
+returns c = key-here _ _ _
 
 pub has-key-spec : {M : Type 1} → statement M
 has-key-spec =

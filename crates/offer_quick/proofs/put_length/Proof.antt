@@ -1,6 +1,4 @@
 -- `offer_quick::put_length` meets its promise: the four places are tidied, and then the length is written.
-use mathlib.Core.Path.{_∙_}
-use lib.ListN.{length-set}
 use borrow.Author.Needs.{needs}
 use Rattle.offer_quick.proofs.Numbers.{put-there, put-nowhere, put-no-place, put-no-section}
 use Rattle.offer_quick.proofs.put_length.Statement.{statement}
@@ -33,21 +31,15 @@ mul-lengths c = search needs
 add-lengths : tie.Need-add-lengths
 add-lengths c = search needs
 
-add-words : tie.Need-add-words
-add-words c = search needs
-
-mul-words : tie.Need-mul-words
-mul-words c = search needs
-
-slice-write-words : tie.Need-slice-write-words
-slice-write-words c = search needs
+put-among-requires : tie.Need-put-among-requires
+put-among-requires c κs = search needs
 
 same-length : tie.Need-same-length
-same-length c = simp length-set (c .before .before .tidy4 .kept .0 ∙ c .before .before .before .before .before .before .tidy3 .kept .0 ∙ c .before .before .before .before .before .before .before .before .before .before .tidy2 .kept .0 ∙ c .before .before .before .before .before .before .before .before .before .before .before .before .before .before .tidy .kept .0)
+same-length c = search needs
 
 returns-4 : tie.Need-returns-4
 returns-4 c =
-    let a = c .before .before .before .before .before .before .before .before .before .before .before .before .before .before .before .before .before .before .before .before .args in
+    let a = c .before .before .before .before .before .before .before .before .before .before .before .before .before .before .before .before .before .before .before .before .before .before .before .before .args in
     put-there
     (a .words .now)
     (search needs)
@@ -60,10 +52,11 @@ returns-4 c =
     _
     _
     _
-    (c .before .before .before .before .before .before .before .before .before .before .before .before .before .before .tidy .ensures)
-    (c .before .before .before .before .before .before .before .before .before .before .tidy2 .ensures)
-    (c .before .before .before .before .before .before .tidy3 .ensures)
-    (c .before .before .tidy4 .ensures)
+    (c .before .before .before .before .before .before .before .before .before .before .before .before .before .before .before .before .before .before .tidy .ensures)
+    (c .before .before .before .before .before .before .before .before .before .before .before .before .before .before .tidy2 .ensures)
+    (c .before .before .before .before .before .before .before .before .before .before .tidy3 .ensures)
+    (c .before .before .before .before .before .before .tidy4 .ensures)
+    (c .before .before .put-among .ensures)
 
 pub put-length-spec : {M : Type 1} → statement M
 put-length-spec =
@@ -78,8 +71,6 @@ put-length-spec =
     tidy-requires-4
     mul-lengths
     add-lengths
-    add-words
-    mul-words
-    slice-write-words
+    put-among-requires
     same-length
     returns-4)

@@ -29,7 +29,8 @@ same-length c = search needs
 
 returns : tie.Need-returns
 returns c =
-    feed-told _ _ _ _ _ _ _ _ _ (c .before .before .before .before .before .before .before .before .label-of .ensures) (c .before .before .before .before .before .before .feed-file .ensures)
+    let k = c .before .before .before .before .before .before in
+    feed-told _ _ _ _ _ _ _ _ _ (k .before .before .label-of .ensures) (k .feed-file .ensures)
     (c .size-code .ensures ∙ sym (ap fedCode (c .before .before .fed .given .1)))
 
 same-length-2 : tie.Need-same-length-2
@@ -37,7 +38,8 @@ same-length-2 c = search needs
 
 returns-2 : tie.Need-returns-2
 returns-2 c =
-    feed-told _ _ _ _ _ _ _ _ _ (c .before .before .before .before .before .before .before .label-of .ensures) (c .before .before .before .before .before .feed-file .ensures)
+    let k = c .before .before .before .before .before in
+    feed-told _ _ _ _ _ _ _ _ _ (k .before .before .label-of .ensures) (k .feed-file .ensures)
     (sym (ap fedCode (c .before .fed2 .given .1)))
 
 pub khumsafil-writer-file-spec : {M : Type 1} → statement M

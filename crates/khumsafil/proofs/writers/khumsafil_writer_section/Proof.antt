@@ -29,7 +29,8 @@ same-length c = search needs
 
 returns : tie.Need-returns
 returns c =
-    write-told _ _ _ _ _ _ _ _ _ _ (c .before .before .before .before .before .before .before .before .label-of .ensures) (c .before .before .before .before .before .before .write-section .ensures)
+    let k = c .before .before .before .before .before .before in
+    write-told _ _ _ _ _ _ _ _ _ _ (k .before .before .label-of .ensures) (k .write-section .ensures)
     (c .size-code .ensures ∙ sym (ap writtenCode (c .before .before .written .given .1)))
 
 same-length-2 : tie.Need-same-length-2
@@ -37,7 +38,8 @@ same-length-2 c = search needs
 
 returns-2 : tie.Need-returns-2
 returns-2 c =
-    write-told _ _ _ _ _ _ _ _ _ _ (c .before .before .before .before .before .before .before .label-of .ensures) (c .before .before .before .before .before .write-section .ensures)
+    let k = c .before .before .before .before .before in
+    write-told _ _ _ _ _ _ _ _ _ _ (k .before .before .label-of .ensures) (k .write-section .ensures)
     (sym (ap writtenCode (c .before .written2 .given .1)))
 
 pub khumsafil-writer-section-spec : {M : Type 1} → statement M
