@@ -95,8 +95,9 @@ uint64_t khumsafil_section_read(const uint8_t *payload, size_t payload_length);
  *   19p + 3   and the fifteen after it: the length of each section, 0 where it is not held
  *
  * Section n of place p stands in the store from byte 1024 (16p + n) on. The numbers of a place that is not taken are
- * disregarded. So every value of the numbers is some record; a spoiled one is refused by 18. Promises over a history
- * presume that the host lends numbers and store back as they were left.
+ * disregarded. So every value of the numbers is some record; a spoiled one is refused by 18. After a call that wrote the
+ * numbers, those bits from 8 up are 1 for each place that is taken. Promises over a history presume that the host lends
+ * numbers and store back as they were left.
  */
 #define KHUMSAFIL_SHELF_RECORD 76
 #define KHUMSAFIL_STORE 65536
@@ -295,8 +296,8 @@ uint8_t khumsafil_trigger_read(const uint8_t *payload, size_t payload_length, ui
 
 /*
  * Whether a trigger belongs to the application with an id: by the trigger's id length as read, and by the place
- * and the number of its id's bytes. Any numbers may be given: an id that does not lie in the payload is no
- * application's.
+ * and the number of its id's bytes. Any numbers may be given: a trigger whose id length is 0 is every
+ * application's, and an id that does not lie in the payload is none's.
  *
  * payload: what the trigger was read from; read, and left as it is.
  * application: the application's id, which may be empty; read, and left as it is.
@@ -313,7 +314,7 @@ bool khumsafil_trigger_belongs(const uint8_t *payload, size_t payload_length, ui
  *   words 3 + 2i, 4 + 2i  place i: the time, and then from bit 0 the event, from bit 16 the application, from
  *                         bit 24 the action, at bit 26 whether it was applied
  *
- * All other bits, and places past those held, are disregarded, and are 0 after a call that was not refused. So
+ * All other bits, and places past those held, are disregarded, and are 0 after a call that wrote the words. So
  * every value of the words is some record; a spoiled one is refused by 35. Promises over a history presume that
  * the host lends the words back as they were left.
  */

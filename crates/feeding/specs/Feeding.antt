@@ -1,4 +1,5 @@
--- Document 02, request 1, and document 01, "The shelf file": the file of the table that carries a body, for a bench.
+-- The file of the table that carries a body, for the bench's program: the sections of document 02, request 1, in the layout of
+-- document 01, "The shelf file". The refusals are the request's, without a k.
 use Prim.Native.Nat.{ℕ, zero, suc, _+_}
 use mathlib.Core.List.{List, [], _∷_, _++_}
 use lib.Dec.{ltb}

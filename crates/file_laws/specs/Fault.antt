@@ -1,4 +1,4 @@
--- Document 01's faults of a file, each with the place where it is: the rows of 11 and 12, and "a fault inside a section gives that
+-- Document 01's faults of a file, each told by how the file is made up before it: the rows of 11 and 12, and "a fault inside a section gives that
 -- section's own number, 2 to 8". "Loading reads left to right and the first fault from the left gives the answer."
 use Prim.Native.Nat.{ℕ, _<_, _≤_}
 use mathlib.Core.Path.{_≡_}
@@ -16,7 +16,8 @@ abbrev pub Good : List (List ℕ) → Type 0
 Good [] = Unit {0}
 Good (s ∷ ss) = Rising (headerOf s) 0 (s ∷ ss)
 
--- the file begins without a fault: form 1, a count n of 1 to 16 and these sections; the rest follows
+-- the file begins without a fault: form 1, a count n of 1 to 16 and these sections, which each use below holds to the count; the
+-- rest follows
 pub record Begins (file : List ℕ) (n : ℕ) (ss : List (List ℕ)) (rest : List ℕ) : Type 0 where
   pub some : fewest ≤ n
   pub few : n ≤ most

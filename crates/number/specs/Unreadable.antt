@@ -19,7 +19,7 @@ pub record Groups (s more : List ℕ) (last : ℕ) : Type 0 where
   pub go-on : Continued more
   pub ends : last < 128
 
--- cut off: the file ends before a last group
+-- cut off: the file ends before a last group, or before any
 abbrev pub CutOff : List ℕ → Type 0
 CutOff s = Continued s
 

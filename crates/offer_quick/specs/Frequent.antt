@@ -59,5 +59,6 @@ lengthPut words p n size =
 abbrev pub marked : ℕ → ℕ
 marked third = third % 256 + over (not (eqb (third / 256) 0))
 
+-- the numbers with place p's last and mark as they are put
 unfoldable pub tidied : List ℕ → ℕ → List ℕ
 tidied words p = set words (perPlace * p + 2) (marked (getD words (perPlace * p + 2) 0))

@@ -1,4 +1,5 @@
--- What the pass over a record's numbers shows of each place, whether it is taken or not.
+-- What the pass over a record's numbers shows of each place, whether it is taken or not. Enough for a record that is not spoiled,
+-- and not the words of 18 themselves.
 use Prim.Native.Nat.{ℕ, _+_, _*_, _%_, _<_, _≤_}
 use mathlib.Core.Path.{_≡_}
 use mathlib.Core.Bool.{Bool, _||_}
@@ -9,12 +10,12 @@ use Rattle.berth.specs.Berth.{sections, berthSize}
 use Rattle.shelf.specs.Record.{alike}
 use Rattle.shelf.specs.declared.Place.{Place}
 
--- the place from a number on has a version of at most 31, and a last of at most 15
+-- the place whose numbers start at `at` has a version of at most 31, and a last of at most 15
 pub record FineHead (words : List ℕ) (at : ℕ) : Type 0 where
   pub version : getD words at 0 < 8192
   pub last : getD words (at + 2) 0 % 256 < 16
 
--- each of the sixteen sections from a number on is not held, or is not above last and has a length from 8 to 1,024
+-- each of the sixteen sections whose lengths start at `at` is not held, or is not above last and has a length from 8 to 1,024
 abbrev pub FineLengths : List ℕ → ℕ → ℕ → Type 0
 FineLengths words at last =
     (n : ℕ)

@@ -17,11 +17,12 @@ full = 1016
 abbrev pub most : ℕ
 most = 16 * full
 
--- the last section number: each body full but the last; an empty body gives one section
+-- the last section number, with as few sections as will do: each body full but the last. An empty body gives one section,
+-- since 0 - 1 is 0 here; that no fewer will do is a law (proofs/Fewest.antt)
 unfoldable pub lastOf : ℕ → ℕ
 lastOf n = (n - 1) / full
 
--- where a body ends that starts at a place of n bytes
+-- of n bytes, where the body of a section ends that starts at a place
 abbrev pub endOf : ℕ → ℕ → ℕ
 endOf n start = if ltb (n - start) full then n else start + full
 
@@ -63,7 +64,7 @@ writtenNo (Written.Refused n) = n
 abbrev pub uncounted : ℕ → List Row
 uncounted n = 40 if ltb most n ∷ []
 
--- how many sections a body of n bytes makes
+-- how many sections a body of n bytes makes: an answer of its own, so that a bench can loop
 unfoldable pub countOf : ℕ → Counted
 countOf n = first Counted.Refused (uncounted n) (Counted.Sections (lastOf n + 1))
 
