@@ -94,6 +94,14 @@ fn the_sample_lists_files() {
     }
 }
 
+/// The example goes round, and says what the one in Rust says.
+#[test]
+fn the_sample_goes_round() {
+    let sample = compile("round", top("samples/round.c"));
+    let said = fs::read_to_string(top("samples/round.txt")).expect("samples/round.txt");
+    assert_eq!(run(&sample, &[]), said);
+}
+
 /// What a host in C may do that one in Rust cannot: no buffer and a null pointer for it, fewer numbers than a trigger
 /// has, a number that is no action.
 #[test]
