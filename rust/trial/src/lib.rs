@@ -3,9 +3,11 @@
 
 #![forbid(unsafe_code)]
 
+pub mod beside;
 pub mod clocks;
 pub mod declarations;
 pub mod files;
+pub mod inputs;
 pub mod loops;
 pub mod random;
 pub mod sections;

@@ -6,7 +6,7 @@ use std::process::{Command, Stdio};
 use trial::files::{damaged, Parts, KINDS};
 use trial::random::Random;
 use trial::sections::Fields;
-use trial::tally::Tally;
+use trial::tally::{share, Tally};
 use trial::top;
 
 /// The seed of every random comparison here.
@@ -34,7 +34,7 @@ fn random_files() {
     let mut random = Random::new(SEED);
     let mut tally = Tally::default();
     for kind in KINDS {
-        for _ in 0..EACH {
+        for _ in 0..share(EACH) {
             let fields = Fields::random(&mut random);
             let parts = Parts::random(&mut random, fields);
             let bytes = damaged(&mut random, kind, parts);
