@@ -1,11 +1,12 @@
 /*
- * Which edges of the library some inputs reach: runs each file that is named through the fuzzer's entry, and prints a
- * line for each edge: the address of its function, its own address, and 1 where it was reached. It stands where the
- * fuzzer's own runtime does, and takes the library's counters from the compiler's calls at the start.
+ * Which edges of the library some inputs reach: runs each file that a line of standard input names through the fuzzer's
+ * entry, and prints a line for each edge: the address of its function, its own address, and 1 where it was reached. It
+ * stands where the fuzzer's own runtime does, and takes the library's counters from the compiler's calls at the start.
  */
 #include <stdint.h>
 #include <stdio.h>
 #include <stdlib.h>
+#include <string.h>
 
 int LLVMFuzzerTestOneInput(const uint8_t *bytes, size_t size);
 
@@ -14,15 +15,13 @@ struct edge {
     uintptr_t at, flags;
 };
 
-static const uint8_t *counters, *counters_end;
+static uint8_t *counters, *counters_end;
 static const struct edge *edges, *edges_end;
 
 /* The compiler counts the depth of the stack in this one. */
 __thread uintptr_t __sancov_lowest_stack = UINTPTR_MAX;
 
-void __sanitizer_cov_8bit_counters_init(const uint8_t *from, const uint8_t *to) {
-    counters = from, counters_end = to;
-}
+void __sanitizer_cov_8bit_counters_init(uint8_t *from, uint8_t *to) { counters = from, counters_end = to; }
 
 void __sanitizer_cov_pcs_init(const struct edge *from, const struct edge *to) { edges = from, edges_end = to; }
 
@@ -43,34 +42,40 @@ void __sanitizer_cov_trace_div8(uint64_t by) { (void)by; }
 void __sanitizer_cov_trace_gep(uintptr_t at) { (void)at; }
 void __sanitizer_cov_trace_pc_indir(uintptr_t to) { (void)to; }
 
-int main(int count, char **names) {
-    static uint8_t room[1 << 20];
+int main(void) {
+    static uint8_t room[1 << 20], reached[1 << 16];
+    static char name[4096];
+    const size_t all = (size_t)(edges_end - edges);
     uintptr_t function = 0;
-    size_t i, all;
-    for (i = 1; i < (size_t)count; i++) {
-        FILE *file = fopen(names[i], "rb");
+    size_t i, at;
+    if (all == 0 || all > sizeof reached || all != (size_t)(counters_end - counters))
+        return fprintf(stderr, "the library has no counters\n"), 1;
+    while (fgets(name, sizeof name, stdin) != NULL) {
+        FILE *file;
         uint8_t *bytes;
         size_t size;
+        name[strcspn(name, "\n")] = 0;
+        file = fopen(name, "rb");
         if (file == NULL)
-            return perror(names[i]), 1;
+            return perror(name), 1;
         size = fread(room, 1, sizeof room, file);
         fclose(file);
         /* In a buffer of its own, as the fuzzer hands it over. */
         bytes = malloc(size + 1);
         if (bytes == NULL)
             return 1;
-        for (all = 0; all < size; all++)
-            bytes[all] = room[all];
+        for (at = 0; at < size; at++)
+            bytes[at] = room[at];
         LLVMFuzzerTestOneInput(bytes, size);
         free(bytes);
+        /* A counter has eight bits and would come round to 0 over many inputs. */
+        for (at = 0; at < all; at++)
+            reached[at] |= counters[at] != 0, counters[at] = 0;
     }
-    all = (size_t)(edges_end - edges);
-    if (all == 0 || all != (size_t)(counters_end - counters))
-        return fprintf(stderr, "the library has no counters\n"), 1;
     for (i = 0; i < all; i++) {
         if (edges[i].flags & 1)
             function = edges[i].at;
-        printf("%#lx %#lx %d\n", (unsigned long)function, (unsigned long)edges[i].at, counters[i] != 0);
+        printf("%#lx %#lx %d\n", (unsigned long)function, (unsigned long)edges[i].at, reached[i]);
     }
     return 0;
 }

@@ -43,7 +43,7 @@ fn call(feed: &mut Feed, both: &Both, saved: &[Vec<u8>]) -> Call {
         14 => {
             let fields = feed.fields();
             let mut payload = feed.section(fields);
-            let at = usize::from(feed.half());
+            let at = usize::from(feed.byte());
             let change = feed.byte();
             match payload.get_mut(at) {
                 Some(byte) => *byte ^= change,
