@@ -2,10 +2,11 @@
 
 use std::fs;
 use std::io::Write;
-use std::path::PathBuf;
+use std::path::{Path, PathBuf};
 use std::process::{Command, Stdio};
 use trial::random::Random;
 use trial::sections::{self, KINDS};
+use trial::tally::share;
 use trial::top;
 
 /// Compiles a C program against the header and the library, and gives the path of the executable.
@@ -35,8 +36,8 @@ fn compile(name: &str, source: PathBuf) -> PathBuf {
 }
 
 /// What the program writes when it is given that input.
-fn run(program: &PathBuf, input: &[u8]) -> String {
-    let mut child = Command::new(program)
+fn run(program: &Path, input: &[u8]) -> String {
+    let mut child = trial::program(program)
         .stdin(Stdio::piped())
         .stdout(Stdio::piped())
         .spawn()
@@ -77,7 +78,7 @@ fn the_sample_lists_files() {
     let sample = compile("shelf", top("samples/shelf.c"));
     let mut random = Random::new(0x4B68_756D_7361_0009);
     for kind in trial::files::KINDS {
-        for _ in 0..8 {
+        for _ in 0..share(8) {
             let fields = sections::Fields::random(&mut random);
             let parts = trial::files::Parts::random(&mut random, fields);
             let file = trial::files::damaged(&mut random, kind, parts);
@@ -118,7 +119,7 @@ fn the_sample_reads_triggers() {
     let sample = compile("trigger", top("samples/trigger.c"));
     let mut random = Random::new(0x4B68_756D_7361_0007);
     for kind in trial::triggers::KINDS {
-        for _ in 0..8 {
+        for _ in 0..share(8) {
             let payload = trial::triggers::payload(&mut random, kind);
             assert_eq!(
                 run(&sample, &payload),
