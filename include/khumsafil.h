@@ -5,10 +5,31 @@
  * Every function ends and answers, on any bytes. None allocates, keeps a pointer, or holds a state of its own,
  * so calls on different buffers may run at the same time.
  *
- * A buffer is a pointer and, as the next parameter, the number of its elements. A null pointer with length 0 is
- * an empty buffer, and nothing is read or written through it. A pointer with a greater length must have that
- * many elements behind it; the library cannot test that, and never touches one beyond. A buffer that a call
- * writes shares no byte with another buffer of that call; the library cannot test that either.
+ * A buffer is a pointer and, as the next parameter, the number of its elements.
+ *
+ * What a host may get wrong, and what happens then. A refused call writes nothing.
+ *
+ *   a null pointer with length 0     is an empty buffer; nothing is read or written through it
+ *   a store of another size          17, one byte shorter or longer too; before all else
+ *   a shelf record of another size   18, after 17
+ *   a clock record of another size   35
+ *   a record that was written on     18 or 35 where it is spoiled; otherwise it is taken for what it says
+ *   a store that was written on      taken as it stands: a repeat is compared with it, and copies and files have
+ *                                    what stands there; whether a table is whole is told by the record alone
+ *   too little room for an answer    15, after the refusals of what is read
+ *   an action above 3                255, before all else
+ *   any key, number, application,
+ *   place or length as a number      refused, or answered as the function says
+ *   two buffers that are only read   may share bytes, or be one
+ *
+ * What C lets a host do and the library cannot see. No promise holds then, and any byte of the program may be lost:
+ *
+ *   a pointer, null or not, with fewer elements behind it than its length says, or not aligned for them
+ *   a buffer that the call writes and that shares a byte with another buffer of that call, also where the call is
+ *   refused or writes nothing, as with a payload that stands in the store
+ *   two calls at the same time on one buffer that either of them writes
+ *
+ * Of a buffer that is as long as was said, no element beyond it is touched.
  */
 #ifndef KHUMSAFIL_H
 #define KHUMSAFIL_H
@@ -61,6 +82,18 @@ extern "C" {
 #define KHUMSAFIL_REFUSED_WRITER_VERSION_ABOVE_31 41     /* version above 31 */
 #define KHUMSAFIL_REFUSED_WRITER_K_ABOVE_LAST 42         /* section k above the last */
 #define KHUMSAFIL_REFUSED_NO_SUCH_ACTION 255             /* a number above 3, which is no action */
+
+/*
+ * What the host lends, and the largest of what it receives:
+ *
+ *   a shelf      KHUMSAFIL_SHELF_RECORD numbers and KHUMSAFIL_STORE bytes, and neither more nor fewer
+ *   a clock      KHUMSAFIL_CLOCK_WORDS words, and neither more nor fewer
+ *   a trigger    room for KHUMSAFIL_TRIGGER_FIELDS numbers at least
+ *   a section    room for KHUMSAFIL_LARGEST_SECTION bytes is enough, for a file KHUMSAFIL_LARGEST_FILE, for a file's
+ *                list KHUMSAFIL_LARGEST_LIST
+ *   a datagram   one byte more than KHUMSAFIL_LARGEST_SECTION or KHUMSAFIL_LARGEST_TRIGGER, so that a longer one is
+ *                refused and not clipped
+ */
 
 /* The bytes of a section before its body. */
 #define KHUMSAFIL_SECTION_HEADER 8
@@ -283,6 +316,9 @@ bool khumsafil_descriptor_is_trigger_tap(const uint8_t *bytes, size_t bytes_leng
 #define KHUMSAFIL_TARGET_LID_URI 4
 #define KHUMSAFIL_TARGET_HTTP_URI 5
 #define KHUMSAFIL_TARGET_RESERVED 6
+
+/* The most bytes of a trigger. */
+#define KHUMSAFIL_LARGEST_TRIGGER 4096
 
 /*
  * Reads the payload as a trigger. Answers 0, or the number of refusal: 26, then field by field 20 to 25, and then

@@ -5,7 +5,7 @@
 
 int main(void) {
     /* One byte more than the longest section, so that a longer payload is refused and not clipped. */
-    static uint8_t payload[1025];
+    static uint8_t payload[KHUMSAFIL_LARGEST_SECTION + 1];
     size_t length = fread(payload, 1, sizeof payload, stdin);
     uint64_t answer = khumsafil_section_read(payload, length);
     if (KHUMSAFIL_SECTION_REFUSAL(answer) != 0) {

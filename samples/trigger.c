@@ -5,7 +5,7 @@
 
 int main(void) {
     /* One byte more than the longest trigger, so that a longer one is refused and not clipped. */
-    static uint8_t payload[4097];
+    static uint8_t payload[KHUMSAFIL_LARGEST_TRIGGER + 1];
     uint16_t t[KHUMSAFIL_TRIGGER_FIELDS];
     size_t length = fread(payload, 1, sizeof payload, stdin);
     uint8_t refusal = khumsafil_trigger_read(payload, length, t, KHUMSAFIL_TRIGGER_FIELDS);

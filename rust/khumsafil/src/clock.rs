@@ -83,15 +83,27 @@ pub fn fresh(words: &mut [u32]) -> Result<(), Refusal> {
 /// Offers an activation. Refused: 35, 30, 32, 33, 34.
 #[inline]
 pub fn offer(words: &mut [u32], a: Activation) -> Result<Heard, Refusal> {
+    offer_by_number(words, a.application, a.event, a.action as u8, a.time)
+}
+
+/// Offers an activation whose action is a number as it was received. Refused: 255 for one above 3, and as [`offer`].
+#[inline]
+pub fn offer_by_number(
+    words: &mut [u32],
+    application: u8,
+    event: u16,
+    action: u8,
+    time: u32,
+) -> Result<Heard, Refusal> {
     // SAFETY: the pointer and the length are those of a slice.
     let word = unsafe {
         boundary::khumsafil_clock_offer(
             words.as_mut_ptr(),
             words.len(),
-            a.application,
-            a.event,
-            a.action as u8,
-            a.time,
+            application,
+            event,
+            action,
+            time,
         )
     };
     answered(word).map(|heard| match heard {

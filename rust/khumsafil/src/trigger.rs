@@ -48,8 +48,30 @@ pub struct Trigger<'a> {
     pub user: &'a [u8],
 }
 
+/// The most bytes of a trigger.
+pub const LARGEST: usize = 4_096;
+
 /// How many numbers a trigger is answered in.
 pub const FIELDS: usize = 11;
+
+/// Reads the payload as a trigger into the first [`FIELDS`] numbers of `out`, in the header's order. Refused: 26, 20 to
+/// 25, and 15 where `out` has room for fewer.
+#[inline]
+pub fn fields(payload: &[u8], out: &mut [u16]) -> Result<(), Refusal> {
+    // SAFETY: pointers and lengths are those of slices, and the one that is written is not part of the other.
+    let number = unsafe {
+        boundary::khumsafil_trigger_read(
+            payload.as_ptr(),
+            payload.len(),
+            out.as_mut_ptr(),
+            out.len(),
+        )
+    };
+    match number {
+        0 => Ok(()),
+        number => Err(Refusal::of(number)),
+    }
+}
 
 /// Reads the payload as a trigger, or says by which of the numbers 20 to 26 it is refused.
 ///
@@ -64,21 +86,10 @@ pub const FIELDS: usize = 11;
 /// ```
 #[inline]
 pub fn read(payload: &[u8]) -> Result<Trigger<'_>, Refusal> {
-    let mut fields = [0; FIELDS];
-    // SAFETY: pointers and lengths are those of a slice and of an array that is not part of it.
-    let number = unsafe {
-        boundary::khumsafil_trigger_read(
-            payload.as_ptr(),
-            payload.len(),
-            fields.as_mut_ptr(),
-            FIELDS,
-        )
-    };
-    if number != 0 {
-        return Err(Refusal::of(number));
-    }
+    let mut read = [0; FIELDS];
+    fields(payload, &mut read)?;
     let [id_length, description, id, id_bytes, kind, of, first, second, third, user, user_bytes] =
-        fields;
+        read;
     let part = |place: u16, length: u16| {
         let place = usize::from(place);
         payload

@@ -3,9 +3,11 @@
 
 #![forbid(unsafe_code)]
 
+pub mod beside;
 pub mod clocks;
 pub mod declarations;
 pub mod files;
+pub mod inputs;
 pub mod loops;
 pub mod random;
 pub mod sections;
@@ -13,7 +15,20 @@ pub mod shelf;
 pub mod tally;
 pub mod triggers;
 
-use std::path::PathBuf;
+use std::path::{Path, PathBuf};
+use std::process::Command;
+
+/// A program to be run, under the checker whose words the environment variable `KHUMSAFIL_UNDER` has.
+pub fn program(path: &Path) -> Command {
+    let under = std::env::var("KHUMSAFIL_UNDER").unwrap_or_default();
+    let mut words = under.split_whitespace();
+    let Some(checker) = words.next() else {
+        return Command::new(path);
+    };
+    let mut command = Command::new(checker);
+    command.args(words).arg(path);
+    command
+}
 
 /// A path below the repository's top.
 pub fn top(path: &str) -> PathBuf {

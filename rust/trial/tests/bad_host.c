@@ -124,6 +124,148 @@ static int empty_shelf(void) {
     return 0;
 }
 
+/* One more than is ever lent, so that too much can be. */
+static uint16_t numbers[KHUMSAFIL_SHELF_RECORD + 1];
+static uint8_t bytes[KHUMSAFIL_STORE + 1];
+static uint32_t words[KHUMSAFIL_CLOCK_WORDS + 1];
+
+/* The number by which each call of a shelf refuses that record and store, where all agree; 0 where any does not. */
+static uint32_t refused_by_all(size_t n, size_t s) {
+    const uint32_t by = khumsafil_shelf_begin(numbers, n, bytes, s);
+    const int same = khumsafil_shelf_offer(numbers, n, bytes, s, p1, sizeof p1) == by &&
+                     khumsafil_shelf_complete(numbers, n, bytes, s, 0xC9, 0x1234) == by &&
+                     khumsafil_shelf_lowest_missing(numbers, n, bytes, s, 0xC9, 0x1234) == by &&
+                     khumsafil_shelf_copy_section(numbers, n, bytes, s, 0xC9, 0x1234, 0, out, sizeof out) == by &&
+                     khumsafil_shelf_release(numbers, n, bytes, s, 0xC9, 0x1234) == by &&
+                     khumsafil_shelf_save(numbers, n, bytes, s, 0xC9, 0x1234, out, sizeof out) == by &&
+                     khumsafil_shelf_load(numbers, n, bytes, s, p1_file, sizeof p1_file) == by;
+    return same ? by : 0;
+}
+
+/* A store one byte shorter or longer is 17, a record one number shorter or longer 18, and nothing is written. */
+static int sizes_of_a_shelf(void) {
+    const size_t n = KHUMSAFIL_SHELF_RECORD, s = KHUMSAFIL_STORE;
+    size_t by, i;
+    for (i = 0; i <= n; i++)
+        numbers[i] = 0x0101;
+    for (i = 0; i <= s; i++)
+        bytes[i] = 0xA5;
+    for (i = 0; i < sizeof out; i++)
+        out[i] = 0xA5;
+    for (by = 0; by < 3; by++) {
+        EXPECT(refused_by_all(n - 1 + by, s - 1) == KHUMSAFIL_REFUSED_STORE_SIZE);
+        EXPECT(refused_by_all(n - 1 + by, s + 1) == KHUMSAFIL_REFUSED_STORE_SIZE);
+        EXPECT(refused_by_all(n - 1 + by, 0) == KHUMSAFIL_REFUSED_STORE_SIZE);
+    }
+    EXPECT(refused_by_all(n - 1, s) == KHUMSAFIL_REFUSED_SHELF_SPOILED);
+    EXPECT(refused_by_all(n + 1, s) == KHUMSAFIL_REFUSED_SHELF_SPOILED);
+    EXPECT(refused_by_all(0, s) == KHUMSAFIL_REFUSED_SHELF_SPOILED);
+    for (i = 0; i <= n; i++)
+        EXPECT(numbers[i] == 0x0101);
+    for (i = 0; i <= s; i++)
+        EXPECT(bytes[i] == 0xA5);
+    for (i = 0; i < sizeof out; i++)
+        EXPECT(out[i] == 0xA5);
+    /* Of the size that the header says, both are taken, and the element behind them stays. */
+    EXPECT(khumsafil_shelf_begin(numbers, n, bytes, s) == 0);
+    EXPECT(numbers[n] == 0x0101 && bytes[s] == 0xA5);
+    return 0;
+}
+
+/* A clock one word shorter or longer is 35, and nothing is written. */
+static int sizes_of_a_clock(void) {
+    size_t n, i;
+    for (i = 0; i <= KHUMSAFIL_CLOCK_WORDS; i++)
+        words[i] = 0;
+    for (n = KHUMSAFIL_CLOCK_WORDS - 1; n <= KHUMSAFIL_CLOCK_WORDS + 1; n += 2) {
+        EXPECT(khumsafil_clock_fresh(words, n) == KHUMSAFIL_REFUSED_CLOCK_SPOILED);
+        EXPECT(khumsafil_clock_offer(words, n, 0, 0, 1, 0) == KHUMSAFIL_REFUSED_CLOCK_SPOILED);
+        EXPECT(khumsafil_clock_move(words, n, 1) == KHUMSAFIL_REFUSED_CLOCK_SPOILED);
+        EXPECT(khumsafil_clock_time(words, n) == KHUMSAFIL_REFUSED_CLOCK_SPOILED);
+        EXPECT(khumsafil_application_state(words, n, 0) == KHUMSAFIL_REFUSED_CLOCK_SPOILED);
+    }
+    for (i = 0; i <= KHUMSAFIL_CLOCK_WORDS; i++)
+        EXPECT(words[i] == 0);
+    words[KHUMSAFIL_CLOCK_WORDS] = 0x0101;
+    EXPECT(khumsafil_clock_fresh(words, KHUMSAFIL_CLOCK_WORDS) == 0);
+    EXPECT(KHUMSAFIL_CLOCK_REFUSAL(khumsafil_clock_offer(words, KHUMSAFIL_CLOCK_WORDS, 0, 0, 1, 0)) == 0);
+    EXPECT(words[KHUMSAFIL_CLOCK_WORDS] == 0x0101);
+    return 0;
+}
+
+/* The largest section, trigger, file and list are as large as the header says: a byte less room is 15, and a byte more
+   of a section or a trigger is refused. */
+static int the_largest(void) {
+    static uint8_t datagram[KHUMSAFIL_LARGEST_TRIGGER + 1], text[KHUMSAFIL_LARGEST_LIST];
+    const size_t n = KHUMSAFIL_SHELF_RECORD, s = KHUMSAFIL_STORE;
+    uint16_t fields[KHUMSAFIL_TRIGGER_FIELDS];
+    uint32_t answer;
+    unsigned number;
+    EXPECT(khumsafil_shelf_begin(record, n, store, s) == 0);
+    /* Table 255, key 65535, version 31, sixteen sections of the largest size. */
+    datagram[0] = datagram[3] = datagram[4] = datagram[5] = 0xFF, datagram[7] = 15;
+    datagram[1] = 0x70 | (KHUMSAFIL_LARGEST_SECTION - 3) >> 8, datagram[2] = (uint8_t)(KHUMSAFIL_LARGEST_SECTION - 3);
+    for (number = 0; number < 16; number++) {
+        datagram[6] = (uint8_t)number;
+        EXPECT(KHUMSAFIL_SECTION_REFUSAL(khumsafil_section_read(datagram, KHUMSAFIL_LARGEST_SECTION)) == 0);
+        answer = khumsafil_shelf_offer(record, n, store, s, datagram, KHUMSAFIL_LARGEST_SECTION);
+        EXPECT(KHUMSAFIL_SHELF_REFUSAL(answer) == 0);
+    }
+    answer = khumsafil_shelf_copy_section(record, n, store, s, 0xFF, 0xFFFF, 15, out, KHUMSAFIL_LARGEST_SECTION - 1);
+    EXPECT(answer == KHUMSAFIL_REFUSED_OUTPUT_TOO_SMALL);
+    answer = khumsafil_shelf_copy_section(record, n, store, s, 0xFF, 0xFFFF, 15, out, KHUMSAFIL_LARGEST_SECTION);
+    EXPECT(KHUMSAFIL_SHELF_REFUSAL(answer) == 0 && KHUMSAFIL_SHELF_SIZE(answer) == KHUMSAFIL_LARGEST_SECTION);
+    answer = khumsafil_shelf_save(record, n, store, s, 0xFF, 0xFFFF, out, KHUMSAFIL_LARGEST_FILE - 1);
+    EXPECT(answer == KHUMSAFIL_REFUSED_OUTPUT_TOO_SMALL);
+    answer = khumsafil_shelf_save(record, n, store, s, 0xFF, 0xFFFF, out, KHUMSAFIL_LARGEST_FILE);
+    EXPECT(KHUMSAFIL_SHELF_REFUSAL(answer) == 0 && KHUMSAFIL_SHELF_SIZE(answer) == KHUMSAFIL_LARGEST_FILE);
+    answer = khumsafil_file_list(out, KHUMSAFIL_LARGEST_FILE, text, KHUMSAFIL_LARGEST_LIST - 1);
+    EXPECT(answer == KHUMSAFIL_REFUSED_OUTPUT_TOO_SMALL);
+    answer = khumsafil_file_list(out, KHUMSAFIL_LARGEST_FILE, text, KHUMSAFIL_LARGEST_LIST);
+    EXPECT(KHUMSAFIL_SHELF_REFUSAL(answer) == 0 && KHUMSAFIL_SHELF_SIZE(answer) == KHUMSAFIL_LARGEST_LIST);
+    /* A section one byte longer says so in its length field. */
+    datagram[2]++;
+    EXPECT(khumsafil_section_read(datagram, KHUMSAFIL_LARGEST_SECTION + 1) == KHUMSAFIL_REFUSED_LENGTH_OUT_OF_RANGE);
+    /* No id and no target; the rest is user data. */
+    datagram[0] = datagram[1] = datagram[2] = datagram[3] = datagram[4] = datagram[5] = 0;
+    datagram[6] = (KHUMSAFIL_LARGEST_TRIGGER - 8) >> 8, datagram[7] = (uint8_t)(KHUMSAFIL_LARGEST_TRIGGER - 8);
+    EXPECT(khumsafil_trigger_read(datagram, KHUMSAFIL_LARGEST_TRIGGER, fields, KHUMSAFIL_TRIGGER_FIELDS) == 0);
+    datagram[7]++;
+    EXPECT(khumsafil_trigger_read(datagram, KHUMSAFIL_LARGEST_TRIGGER + 1, fields, KHUMSAFIL_TRIGGER_FIELDS) ==
+           KHUMSAFIL_REFUSED_TRIGGER_TOO_LONG);
+    return 0;
+}
+
+/* Buffers that are only read may share bytes, or be one. */
+static int shared_to_be_read(void) {
+    const uint8_t with_id[] = {0x00, 0x00, 0x04, 0x00, 0x01, 0x41, 0x42, 0x00, 0x00, 0x00, 0x00, 0x00};
+    EXPECT(khumsafil_trigger_belongs(with_id, sizeof with_id, 4, 5, 2, with_id + 5, 2));
+    EXPECT(!khumsafil_trigger_belongs(with_id, sizeof with_id, 4, 5, 2, with_id + 6, 2));
+    EXPECT(khumsafil_trigger_belongs(with_id, sizeof with_id, 4, 0, sizeof with_id, with_id, sizeof with_id));
+    return 0;
+}
+
+/* What a host wrote on a store is taken as it stands; what it wrote on a record is refused where that is spoiled. */
+static int written_on(void) {
+    const size_t n = KHUMSAFIL_SHELF_RECORD, s = KHUMSAFIL_STORE;
+    EXPECT(khumsafil_shelf_begin(record, n, store, s) == 0);
+    EXPECT(KHUMSAFIL_SHELF_VALUE(khumsafil_shelf_offer(record, n, store, s, p1, sizeof p1)) == KHUMSAFIL_SHELF_BEGAN);
+    store[7] = 9;
+    EXPECT(khumsafil_shelf_offer(record, n, store, s, p1, sizeof p1) == KHUMSAFIL_REFUSED_DIFFERS);
+    EXPECT(KHUMSAFIL_SHELF_VALUE(khumsafil_shelf_complete(record, n, store, s, 0xC9, 0x1234)) ==
+           KHUMSAFIL_SHELF_COMPLETE);
+    EXPECT(KHUMSAFIL_SHELF_SIZE(khumsafil_shelf_copy_section(record, n, store, s, 0xC9, 0x1234, 0, out, 8)) == 8);
+    EXPECT(out[7] == 9);
+    record[3] = 7;
+    EXPECT(khumsafil_shelf_complete(record, n, store, s, 0xC9, 0x1234) == KHUMSAFIL_REFUSED_SHELF_SPOILED);
+    EXPECT(khumsafil_shelf_release(record, n, store, s, 0xC9, 0x1234) == KHUMSAFIL_REFUSED_SHELF_SPOILED);
+    EXPECT(khumsafil_clock_fresh(words, KHUMSAFIL_CLOCK_WORDS) == 0);
+    words[2] = 33;
+    EXPECT(khumsafil_clock_move(words, KHUMSAFIL_CLOCK_WORDS, 1) == KHUMSAFIL_REFUSED_CLOCK_SPOILED);
+    EXPECT(words[0] == 0 && words[2] == 33);
+    return 0;
+}
+
 /* The macros take out of the answers what the header says. */
 static int answers_of_a_shelf(void) {
     const size_t n = KHUMSAFIL_SHELF_RECORD, s = KHUMSAFIL_STORE;
@@ -190,6 +332,7 @@ static int answers_of_a_writer(void) {
 }
 
 int main(void) {
-    return empty_buffers() || room_for_a_trigger() || no_such_action() || empty_shelf() || answers_of_a_shelf() ||
+    return empty_buffers() || room_for_a_trigger() || no_such_action() || empty_shelf() || sizes_of_a_shelf() ||
+           sizes_of_a_clock() || the_largest() || shared_to_be_read() || written_on() || answers_of_a_shelf() ||
            answers_of_a_writer();
 }

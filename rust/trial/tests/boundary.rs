@@ -132,6 +132,7 @@ fn sizes_agree() {
         ("SECTION_HEADER", khumsafil::section::HEADER),
         ("DESCRIPTOR_HEAD", khumsafil::descriptor::HEAD),
         ("TRIGGER_FIELDS", khumsafil::trigger::FIELDS),
+        ("LARGEST_TRIGGER", khumsafil::trigger::LARGEST),
         ("SHELF_RECORD", khumsafil::shelf::RECORD),
         ("STORE", khumsafil::shelf::STORE),
         ("LARGEST_SECTION", khumsafil::shelf::LARGEST_SECTION),

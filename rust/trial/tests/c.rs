@@ -2,10 +2,11 @@
 
 use std::fs;
 use std::io::Write;
-use std::path::PathBuf;
+use std::path::{Path, PathBuf};
 use std::process::{Command, Stdio};
 use trial::random::Random;
 use trial::sections::{self, KINDS};
+use trial::tally::share;
 use trial::top;
 
 /// Compiles a C program against the header and the library, and gives the path of the executable.
@@ -35,8 +36,8 @@ fn compile(name: &str, source: PathBuf) -> PathBuf {
 }
 
 /// What the program writes when it is given that input.
-fn run(program: &PathBuf, input: &[u8]) -> String {
-    let mut child = Command::new(program)
+fn run(program: &Path, input: &[u8]) -> String {
+    let mut child = trial::program(program)
         .stdin(Stdio::piped())
         .stdout(Stdio::piped())
         .spawn()
@@ -77,7 +78,7 @@ fn the_sample_lists_files() {
     let sample = compile("shelf", top("samples/shelf.c"));
     let mut random = Random::new(0x4B68_756D_7361_0009);
     for kind in trial::files::KINDS {
-        for _ in 0..8 {
+        for _ in 0..share(8) {
             let fields = sections::Fields::random(&mut random);
             let parts = trial::files::Parts::random(&mut random, fields);
             let file = trial::files::damaged(&mut random, kind, parts);
@@ -92,6 +93,14 @@ fn the_sample_lists_files() {
         let file = fs::read(top(&format!("samples/{name}.shelf"))).expect(name);
         assert_eq!(run(&sample, &file), opinion::lister::list(&file), "{name}");
     }
+}
+
+/// The example goes round, and says what the one in Rust says.
+#[test]
+fn the_sample_goes_round() {
+    let sample = compile("round", top("samples/round.c"));
+    let said = fs::read_to_string(top("samples/round.txt")).expect("samples/round.txt");
+    assert_eq!(run(&sample, &[]), said);
 }
 
 /// What a host in C may do that one in Rust cannot: no buffer and a null pointer for it, fewer numbers than a trigger
@@ -110,7 +119,7 @@ fn the_sample_reads_triggers() {
     let sample = compile("trigger", top("samples/trigger.c"));
     let mut random = Random::new(0x4B68_756D_7361_0007);
     for kind in trial::triggers::KINDS {
-        for _ in 0..8 {
+        for _ in 0..share(8) {
             let payload = trial::triggers::payload(&mut random, kind);
             assert_eq!(
                 run(&sample, &payload),

@@ -1,13 +1,13 @@
 //! Files: the library's list beside the independent program's.
 
-use khumsafil::file::{self, LARGEST_LIST};
+use khumsafil::file::LARGEST_LIST;
 use khumsafil::shelf::LARGEST_FILE;
-use khumsafil::Refusal;
 use opinion::lister;
+use trial::beside::files::list;
 use trial::files::{damaged, Parts, KINDS};
 use trial::random::Random;
 use trial::sections::{section, Fields};
-use trial::tally::Tally;
+use trial::tally::{common, share, Tally};
 
 /// The seed of every random comparison here.
 const SEED: u64 = 0x4B68_756D_7361_0008;
@@ -15,35 +15,18 @@ const SEED: u64 = 0x4B68_756D_7361_0008;
 /// Files of each kind.
 const EACH: usize = 30_000;
 
-/// Lists a file with exact room, with a byte less and with more, and gives its number of refusal, or 0.
-fn list(random: &mut Random, bytes: &[u8]) -> u8 {
-    let text = lister::list(bytes);
-    let size = text.len();
-    assert!(size <= LARGEST_LIST, "{text}");
-    let mut out = vec![0xA5; size];
-    assert_eq!(file::list(bytes, &mut out), Ok(&text[..]), "{bytes:?}");
-    let mut out = vec![0xA5; size - 1 - random.below(2) * random.below(size)];
-    let answer = file::list(bytes, &mut out);
-    assert_eq!(answer, Err(Refusal::OUTPUT_TOO_SMALL), "{bytes:?}");
-    assert!(out.iter().all(|b| *b == 0xA5), "a refused call wrote");
-    let mut out = [0xA5; LARGEST_LIST + 10];
-    assert_eq!(file::list(bytes, &mut out), Ok(&text[..]), "{bytes:?}");
-    assert!(out[size..].iter().all(|b| *b == 0xA5), "past the text");
-    let number = text.strip_prefix("refused ").map(str::trim_end);
-    number.map_or(0, |n| n.parse().expect("a number"))
-}
-
 #[test]
 fn random_files() {
     let mut random = Random::new(SEED);
     let mut tally = Tally::default();
     let (mut complete, mut missing) = (0u64, 0u64);
     for kind in KINDS {
-        for _ in 0..EACH {
+        for _ in 0..share(EACH) {
             let fields = Fields::random(&mut random);
             let parts = Parts::random(&mut random, fields);
             let bytes = damaged(&mut random, kind, parts);
-            let answer = list(&mut random, &bytes);
+            let less = random.below(2) * random.below(LARGEST_LIST);
+            let answer = list(&bytes, less);
             tally.note(kind, answer);
             if kind == "sound" {
                 assert_eq!(answer, 0);
@@ -54,7 +37,7 @@ fn random_files() {
         }
     }
     println!("of the sound files {complete} hold a complete table, {missing} do not");
-    assert!(complete > 1_000 && missing > 1_000);
+    common(complete.min(missing), 1_000);
     tally.show(
         &format!("files, seed {SEED:#018X}"),
         &[0, 2, 3, 4, 5, 6, 7, 8, 11, 12],
@@ -82,14 +65,14 @@ fn a_small_file() {
         },
     );
     let bytes = Parts::of(vec![first, second]).bytes();
-    assert_eq!(list(&mut random, &bytes), 0);
+    assert_eq!(list(&bytes, 0), 0);
     let mut tried = 0;
     for cut in 0..bytes.len() {
-        assert_ne!(list(&mut random, &bytes[..cut]), 0);
+        assert_ne!(list(&bytes[..cut], 0), 0);
         for value in 0..=255 {
             let mut other = bytes.clone();
             other[cut] = value;
-            list(&mut random, &other);
+            list(&other, 0);
             tried += 1;
         }
     }
@@ -111,9 +94,9 @@ fn the_largest_file() {
     let mut bytes = Parts::of(all.collect()).bytes();
     assert_eq!(bytes.len(), LARGEST_FILE);
     assert_eq!(lister::list(&bytes).len(), LARGEST_LIST);
-    assert_eq!(list(&mut random, &bytes), 0);
+    assert_eq!(list(&bytes, 0), 0);
     for _ in 0..3 {
         bytes.push(0);
-        assert_eq!(list(&mut random, &bytes), 12);
+        assert_eq!(list(&bytes, 0), 12);
     }
 }

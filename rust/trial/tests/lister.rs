@@ -2,12 +2,12 @@
 
 use opinion::lister;
 use std::io::Write;
-use std::process::{Command, Stdio};
+use std::process::Stdio;
 use trial::files::{damaged, Parts, KINDS};
 use trial::random::Random;
 use trial::sections::Fields;
-use trial::tally::Tally;
-use trial::top;
+use trial::tally::{share, Tally};
+use trial::{program, top};
 
 /// The seed of every random comparison here.
 const SEED: u64 = 0x4B68_756D_7361_0009;
@@ -17,7 +17,7 @@ const EACH: usize = 250;
 
 /// What the lister prints of an input. It may stop reading before the input ends, so a broken pipe is no fault.
 fn printed(input: &[u8]) -> String {
-    let mut child = Command::new(top("target/native/lister"))
+    let mut child = program(&top("target/native/lister"))
         .stdin(Stdio::piped())
         .stdout(Stdio::piped())
         .spawn()
@@ -34,7 +34,7 @@ fn random_files() {
     let mut random = Random::new(SEED);
     let mut tally = Tally::default();
     for kind in KINDS {
-        for _ in 0..EACH {
+        for _ in 0..share(EACH) {
             let fields = Fields::random(&mut random);
             let parts = Parts::random(&mut random, fields);
             let bytes = damaged(&mut random, kind, parts);

@@ -1,10 +1,10 @@
 //! Descriptor loops: the library beside the independent program.
 
-use khumsafil::descriptor::{self, Step};
-use opinion::descriptors as theirs;
+use khumsafil::descriptor;
+use trial::beside::loops::{step, walk};
 use trial::loops::{self, KINDS};
 use trial::random::Random;
-use trial::tally::Tally;
+use trial::tally::{common, share, Tally};
 
 /// The seed of every random comparison here.
 const SEED: u64 = 0x4B68_756D_7361_0004;
@@ -12,62 +12,13 @@ const SEED: u64 = 0x4B68_756D_7361_0004;
 /// How often each kind is drawn.
 const ROUNDS: usize = 160_000;
 
-/// Asks both for a step at a place, fails where they differ, and gives the number and the next place.
-fn step(bytes: &[u8], at: usize) -> (u8, Option<usize>) {
-    let marked = descriptor::is_trigger_tap(bytes, at);
-    assert_eq!(
-        marked,
-        theirs::is_trigger_tap(bytes, at),
-        "{at} of {bytes:02X?}"
-    );
-    match (descriptor::step(bytes, at), theirs::step(bytes, at)) {
-        (Err(refusal), Err(number)) if refusal.number() == number => (number, None),
-        (Ok(Step::Over), Ok(theirs::Step::Over)) => (0, None),
-        (
-            Ok(Step::Descriptor(ours)),
-            Ok(theirs::Step::Descriptor {
-                tag,
-                start,
-                length,
-                next,
-            }),
-        ) => {
-            assert_eq!((ours.tag, ours.next), (tag, next), "{at} of {bytes:02X?}");
-            let view = theirs::view(bytes, at);
-            assert_eq!(
-                view.as_ptr_range(),
-                bytes[start..start + length].as_ptr_range()
-            );
-            assert_eq!(
-                ours.content.as_ptr_range(),
-                view.as_ptr_range(),
-                "{at} of {bytes:02X?}"
-            );
-            (0, Some(next))
-        }
-        (ours, theirs) => panic!("{ours:?} is not {theirs:?} at {at} of {bytes:02X?}"),
-    }
-}
-
-/// Walks the loop by both, and gives the number that the walk ended with.
-fn walk(bytes: &[u8], steps: &mut u64) -> u8 {
-    let mut at = 0;
-    loop {
-        *steps += 1;
-        match step(bytes, at) {
-            (number, None) => return number,
-            (_, Some(next)) => at = next,
-        }
-    }
-}
-
 #[test]
 fn random_loops() {
     let mut random = Random::new(SEED);
     let mut tally = Tally::default();
     let mut steps = 0;
     for kind in KINDS {
-        for _ in 0..ROUNDS {
+        for _ in 0..share(ROUNDS) {
             let bytes = loops::make(&mut random, kind);
             tally.note(kind, walk(&bytes, &mut steps));
             let size = bytes.len();
@@ -77,13 +28,13 @@ fn random_loops() {
         }
     }
     // Every place at which a sound loop can be cut.
-    for _ in 0..4_000 {
+    for _ in 0..share(4_000) {
         let bytes = loops::sound(&mut random, 6);
         for size in 0..=bytes.len() {
             tally.note("cut at every place", walk(&bytes[..size], &mut steps));
         }
     }
-    assert!(tally.total() >= 1_000_000);
+    common(tally.total(), 1_000_000);
     println!("{steps} steps of walks");
     tally.show(&format!("loops, seed {SEED:#018X}"), &[0, 19]);
 }

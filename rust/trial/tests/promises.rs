@@ -127,10 +127,7 @@ fn every_name_of_the_page_is_in_the_tree() {
     let names = names(&root);
     let page = fs::read_to_string(root.join("docs/PROMISES.md")).unwrap();
     let spans = spans(&page);
-    let lost: Vec<&String> = spans
-        .iter()
-        .filter(|s| !known(s, &root, &names))
-        .collect();
+    let lost: Vec<&String> = spans.iter().filter(|s| !known(s, &root, &names)).collect();
     println!("docs/PROMISES.md names {} things", spans.len());
     assert!(spans.len() > 50, "the page names hardly anything");
     assert!(lost.is_empty(), "not in the tree: {lost:?}");

@@ -1,8 +1,9 @@
 //! Sections: the library beside the independent program.
 
+use trial::beside::sections::compare;
 use trial::random::Random;
 use trial::sections::{self, KINDS, LONGEST};
-use trial::tally::Tally;
+use trial::tally::{common, one_in, share, Tally};
 
 /// The seed of every random comparison here.
 const SEED: u64 = 0x4B68_756D_7361_0001;
@@ -13,43 +14,19 @@ const ROUNDS: usize = 120;
 /// The numbers that a reading can give, 0 for a sound section.
 const ANSWERS: [u8; 9] = [0, 1, 2, 3, 4, 5, 6, 7, 8];
 
-/// Reads the payload by both, fails where they differ, and gives the number that both gave.
-fn compare(payload: &[u8]) -> u8 {
-    let ours = khumsafil::section::read(payload);
-    let theirs = opinion::section::read(payload);
-    match (ours, theirs) {
-        (Err(refusal), Err(number)) if refusal.number() == number => number,
-        (Ok(a), Ok(b)) => {
-            assert_eq!(
-                (a.table_id, a.extension, a.version, a.number, a.last),
-                (b.table_id, b.extension, b.version, b.number, b.last),
-                "fields of {payload:02X?}"
-            );
-            let body = &payload[b.body_start..b.body_start + b.body_length];
-            assert_eq!(
-                a.body.as_ptr_range(),
-                body.as_ptr_range(),
-                "body of {payload:02X?}"
-            );
-            0
-        }
-        _ => panic!("{ours:?} is not {theirs:?}: {payload:02X?}"),
-    }
-}
-
 #[test]
 fn random_payloads() {
     let mut random = Random::new(SEED);
     let mut tally = Tally::default();
     for size in 0..=LONGEST {
         for kind in KINDS {
-            for _ in 0..ROUNDS {
+            for _ in 0..share(ROUNDS) {
                 let payload = sections::payload(&mut random, kind, size);
                 tally.note(kind, compare(&payload));
             }
         }
     }
-    assert!(tally.total() >= 1_000_000);
+    common(tally.total(), 1_000_000);
     tally.show(
         &format!("sections, seed {SEED:#018X}, sizes 0 to {LONGEST}"),
         &ANSWERS,
@@ -70,7 +47,7 @@ fn every_pair_of_bytes() {
             ("bytes 1 and 5", 1, 5),
         ] {
             let mut payload = sound.clone();
-            for pair in 0..=u16::MAX {
+            for pair in (0..=u16::MAX).step_by(one_in()) {
                 payload[i] = (pair >> 8) as u8;
                 payload[j] = pair as u8;
                 tally.note(kind, compare(&payload));
@@ -81,11 +58,6 @@ fn every_pair_of_bytes() {
         "sections, every pair of two header bytes",
         &[0, 2, 3, 4, 5, 6, 7, 8],
     );
-}
-
-/// The number that both readers give.
-fn number(bytes: &[u8]) -> u8 {
-    compare(bytes)
 }
 
 const P1: [u8; 8] = [0xC9, 0x70, 0x05, 0x12, 0x34, 0xC7, 0x00, 0x00];
@@ -104,40 +76,40 @@ fn examples_p1_to_p8() {
         ),
         (0xC9, 0x1234, 3, 0, 0, 0)
     );
-    assert_eq!(number(&P1), 0);
-    assert_eq!(number(&P1[..7]), 1, "P2");
+    assert_eq!(compare(&P1), 0);
+    assert_eq!(compare(&P1[..7]), 1, "P2");
     assert_eq!(
-        number(&[0xC9, 0x70, 0x06, 0x12, 0x34, 0xC7, 0x00, 0x00]),
+        compare(&[0xC9, 0x70, 0x06, 0x12, 0x34, 0xC7, 0x00, 0x00]),
         4,
         "P3"
     );
     assert_eq!(
-        number(&[0xC9, 0x70, 0x05, 0x12, 0x34, 0xC7, 0x00, 0x00, 0x00]),
+        compare(&[0xC9, 0x70, 0x05, 0x12, 0x34, 0xC7, 0x00, 0x00, 0x00]),
         5,
         "P4"
     );
     assert_eq!(
-        number(&[0xC9, 0xF0, 0x05, 0x12, 0x34, 0xC7, 0x00, 0x00]),
+        compare(&[0xC9, 0xF0, 0x05, 0x12, 0x34, 0xC7, 0x00, 0x00]),
         2,
         "P5"
     );
     assert_eq!(
-        number(&[0xC9, 0x70, 0x05, 0x12, 0x34, 0xC6, 0x00, 0x00]),
+        compare(&[0xC9, 0x70, 0x05, 0x12, 0x34, 0xC6, 0x00, 0x00]),
         8,
         "P6"
     );
     assert_eq!(
-        number(&[0xC9, 0x70, 0x05, 0x12, 0x34, 0xC7, 0x01, 0x00]),
+        compare(&[0xC9, 0x70, 0x05, 0x12, 0x34, 0xC7, 0x01, 0x00]),
         6,
         "P7"
     );
     assert_eq!(
-        number(&[0xC9, 0x70, 0x05, 0x12, 0x34, 0xC7, 0x00, 0x10]),
+        compare(&[0xC9, 0x70, 0x05, 0x12, 0x34, 0xC7, 0x00, 0x10]),
         7,
         "P8"
     );
     assert_eq!(
-        number(&[0xC9, 0x70, 0x05, 0x12, 0x34, 0xC7, 0x00, 0x0F]),
+        compare(&[0xC9, 0x70, 0x05, 0x12, 0x34, 0xC7, 0x00, 0x0F]),
         0,
         "P8 with 0F"
     );
@@ -147,11 +119,11 @@ fn examples_p1_to_p8() {
 fn examples_on_length() {
     let mut longest = vec![0x5A; 1_024];
     longest[..8].copy_from_slice(&[0xC9, 0x73, 0xFD, 0x12, 0x34, 0xC7, 0x00, 0x00]);
-    assert_eq!(number(&longest), 0, "1,021 with 1,024 bytes");
+    assert_eq!(compare(&longest), 0, "1,021 with 1,024 bytes");
     longest[2] = 0xFE;
-    assert_eq!(number(&longest), 3, "1,022 with 1,024 bytes");
+    assert_eq!(compare(&longest), 3, "1,022 with 1,024 bytes");
     longest.push(0);
-    assert_eq!(number(&longest), 3, "1,022 with 1,025 bytes");
+    assert_eq!(compare(&longest), 3, "1,022 with 1,025 bytes");
 }
 
 /// Readings that are easy to get wrong.
@@ -161,7 +133,7 @@ fn order_of_refusals() {
         let mut payload = P1;
         payload[i] = a;
         payload[j] = b;
-        number(&payload)
+        compare(&payload)
     };
     assert_eq!(with(6, 17, 7, 16), 6, "number 17 under last 16");
     assert_eq!(with(6, 3, 7, 16), 7, "number 3 under last 16");
@@ -172,5 +144,5 @@ fn order_of_refusals() {
         "the other indicator before the length"
     );
     assert_eq!(with(5, 0xC6, 7, 0x10), 7, "current/next last of all");
-    assert_eq!(number(&[]), 1, "no payload");
+    assert_eq!(compare(&[]), 1, "no payload");
 }

@@ -2,8 +2,9 @@
 
 use khumsafil::trigger::{self, Target};
 use opinion::trigger as theirs;
+use trial::beside::triggers::{belongs, compare};
 use trial::random::Random;
-use trial::tally::Tally;
+use trial::tally::{common, share, Tally};
 use trial::triggers::{self, KINDS};
 
 /// The seed of every random comparison here.
@@ -15,94 +16,19 @@ const LONG_ROUNDS: usize = 24_000;
 
 const ANSWERS: [u8; 8] = [0, 20, 21, 22, 23, 24, 25, 26];
 
-/// Whether two are one part of the payload.
-fn same(ours: &[u8], payload: &[u8], start: usize, length: usize) -> bool {
-    ours.as_ptr_range() == payload[start..start + length].as_ptr_range()
-}
-
-/// The kind of target, 0 to 6, if both found the same.
-fn target(ours: Target, other: theirs::Target, payload: &[u8]) -> Option<u8> {
-    use theirs::Target as T;
-    match (ours, other) {
-        (Target::None, T::None) => Some(0),
-        (
-            Target::Module {
-                download: a,
-                group: b,
-                module: c,
-            },
-            T::Module {
-                download,
-                group,
-                module,
-            },
-        ) if (a, b, c) == (download, group, module) => Some(1),
-        (Target::Tap(a), T::Tap(b)) if a == b => Some(2),
-        (Target::AbsoluteUri(a), T::AbsoluteUri { start, length })
-            if same(a, payload, start, length) =>
-        {
-            Some(3)
-        }
-        (Target::LidUri(a), T::LidUri { start, length }) if same(a, payload, start, length) => {
-            Some(4)
-        }
-        (Target::HttpUri(a), T::HttpUri { start, length }) if same(a, payload, start, length) => {
-            Some(5)
-        }
-        (
-            Target::Reserved { kind: k, bytes },
-            T::Reserved {
-                kind,
-                start,
-                length,
-            },
-        ) if k == kind && same(bytes, payload, start, length) => Some(6),
-        _ => None,
-    }
-}
-
-/// Reads the payload by both, fails where they differ, and gives the number that both gave.
-fn compare(payload: &[u8], targets: &mut Tally) -> u8 {
-    match (trigger::read(payload), theirs::read(payload)) {
-        (Err(refusal), Err(number)) if refusal.number() == number => number,
-        (Ok(a), Ok(b)) => {
-            assert_eq!(
-                (a.id_length, a.description),
-                (b.id_length, b.description),
-                "{payload:02X?}"
-            );
-            assert!(
-                same(a.id, payload, b.id_start, b.id_bytes),
-                "id of {payload:02X?}"
-            );
-            assert!(
-                same(a.user, payload, b.user_start, b.user_length),
-                "user data of {payload:02X?}"
-            );
-            let kind = target(a.target, b.target, payload);
-            targets.note(
-                "target",
-                kind.unwrap_or_else(|| panic!("target of {payload:02X?}")),
-            );
-            0
-        }
-        (ours, theirs) => panic!("{ours:?} is not {theirs:?}: {payload:02X?}"),
-    }
-}
-
 #[test]
 fn random_triggers() {
     let mut random = Random::new(SEED);
     let (mut tally, mut targets) = (Tally::default(), Tally::default());
     for kind in KINDS {
         let rounds = if kind == "long" { LONG_ROUNDS } else { ROUNDS };
-        for _ in 0..rounds {
+        for _ in 0..share(rounds) {
             let payload = triggers::payload(&mut random, kind);
             tally.note(kind, compare(&payload, &mut targets));
         }
     }
     // Every place at which a trigger can be cut, and each length field off by one in it.
-    for _ in 0..6_000 {
+    for _ in 0..share(6_000) {
         let parts = triggers::sound(&mut random);
         let payload = parts.bytes();
         for size in 0..=payload.len() {
@@ -119,7 +45,7 @@ fn random_triggers() {
             }
         }
     }
-    assert!(tally.total() >= 1_000_000);
+    common(tally.total(), 1_000_000);
     tally.show(&format!("triggers, seed {SEED:#018X}"), &ANSWERS);
     targets.show("kinds of target", &[0, 1, 2, 3, 4, 5, 6]);
 }
@@ -154,7 +80,7 @@ fn every_type_and_length() {
 fn belonging() {
     let mut random = Random::new(SEED);
     let mut counts = [0u64; 2];
-    for _ in 0..300_000 {
+    for _ in 0..share(300_000) {
         let payload = triggers::payload(&mut random, "sound");
         let Ok(mut other) = theirs::read(&payload) else {
             panic!("a sound trigger: {payload:02X?}")
@@ -173,9 +99,9 @@ fn belonging() {
             3 => id.clear(),
             _ => {}
         }
-        let belongs = theirs::belongs(&payload, &other, &id);
-        assert_eq!(ours.belongs_to(&id), belongs, "{payload:02X?}, {id:02X?}");
-        counts[usize::from(belongs)] += 1;
+        let its = theirs::belongs(&payload, &other, &id);
+        assert_eq!(ours.belongs_to(&id), its, "{payload:02X?}, {id:02X?}");
+        counts[usize::from(its)] += 1;
         if random.once_in(2) {
             other.id_length = random.pick(&[0, 1, 2, 65_535]);
             other.id_start = random.pick(&[0, 3, 5, payload.len(), 65_535]);
@@ -183,13 +109,11 @@ fn belonging() {
         }
         let at = |n: usize| n as u16;
         let (place, size) = (at(other.id_start), at(other.id_bytes));
-        let given = trigger::belongs(&payload, other.id_length, place, size, &id);
-        let belongs = theirs::belongs(&payload, &other, &id);
-        assert_eq!(given, belongs, "{other:?} of {payload:02X?}, {id:02X?}");
-        counts[usize::from(belongs)] += 1;
+        let given = belongs(&payload, other.id_length, place, size, &id);
+        counts[usize::from(given)] += 1;
     }
     println!("belonging: {} not, {} do", counts[0], counts[1]);
-    assert!(counts.iter().all(|n| *n > 10_000));
+    counts.iter().for_each(|n| common(*n, 10_000));
 }
 
 #[test]

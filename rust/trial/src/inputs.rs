@@ -1,0 +1,79 @@
+//! Bytes as inputs: what the fuzzer, and the replay of what it found, hand to both. Every list of bytes is an input of
+//! each target, and most of them are a long history or a nearly sound file.
+
+mod clock;
+mod feed;
+mod file;
+mod shelf;
+
+use crate::beside;
+use crate::tally::Tally;
+use feed::Feed;
+
+/// A target's name and what it does with bytes.
+pub type Target = (&'static str, fn(&[u8]));
+
+/// What can be tried.
+pub const TARGETS: [Target; 6] = [
+    ("sections", sections),
+    ("loops", loops),
+    ("triggers", triggers),
+    ("files", file::files),
+    ("shelf", shelf::shelf),
+    ("clock", clock::clock),
+];
+
+/// The target of that name.
+pub fn target(name: &str) -> Option<fn(&[u8])> {
+    let found = TARGETS.iter().find(|(known, _)| *known == name);
+    found.map(|(_, run)| *run)
+}
+
+/// A payload; where the first byte is odd, with the length that it has in its length field.
+fn sections(bytes: &[u8]) {
+    let mut feed = Feed::new(bytes);
+    let mended = feed.byte() & 1 == 1;
+    let mut payload = feed.rest();
+    if mended {
+        feed::put_length(&mut payload);
+    }
+    beside::sections::compare(&payload);
+}
+
+/// A loop that is walked, and a place in it or past it that is asked.
+fn loops(bytes: &[u8]) {
+    let mut feed = Feed::new(bytes);
+    let at = match feed.half() {
+        0xFFFF => usize::MAX,
+        at => at.into(),
+    };
+    let bytes = feed.rest();
+    beside::loops::walk(&bytes, &mut 0);
+    beside::loops::step(&bytes, at);
+}
+
+/// A payload that is read with room for so many numbers, and an application that it may belong to.
+fn triggers(bytes: &[u8]) {
+    let mut feed = Feed::new(bytes);
+    let how = feed.byte();
+    let room = usize::from(feed.byte() % 16);
+    let (idlength, place, size) = (feed.half(), feed.half(), feed.half());
+    let payload = feed.rest();
+    beside::triggers::compare(&payload, &mut Tally::default());
+    beside::triggers::fields(&payload, room);
+    let from = usize::from(place).min(payload.len());
+    let to = from + usize::from(size).min(payload.len() - from);
+    let mut application = payload[from..to].to_vec();
+    match how % 4 {
+        0 => application.push(how),
+        1 => {
+            application.pop();
+        }
+        _ => {}
+    }
+    beside::triggers::belongs(&payload, idlength, place, size, &application);
+    if let Ok(read) = opinion::trigger::read(&payload) {
+        let (start, bytes) = (read.id_start as u16, read.id_bytes as u16);
+        beside::triggers::belongs(&payload, read.id_length, start, bytes, &application);
+    }
+}
