@@ -8,6 +8,9 @@ use clock::Clock;
 use clock::Heard;
 use clock::Moved;
 
+// What a call answers that was done and has nothing else to tell.
+const DONE: u8 = 0;
+
 // The words are no record.
 const NO_RECORD: u8 = 35;
 
@@ -35,7 +38,7 @@ pub fn clock_fresh(words: &mut [u32]) -> u8
         return NO_RECORD;
     }
     clock_words::put(Clock::fresh(), words);
-    0
+    DONE
 }
 
 // Offers an activation to the clock.

@@ -26,6 +26,9 @@ ghost use Rattle.shelf_host.specs.Lent.{
   listLent,
 };
 
+// What a call answers that was done and has nothing else to tell.
+const DONE: u8 = 0;
+
 const BEGAN: u16 = 256;
 
 const BEGAN_AGAIN: u16 = 512;
@@ -158,7 +161,7 @@ pub fn release_lent(words: &mut [u16], store: &mut [u8], key: Key) -> u8
         Released::Refused(n) => n,
         Released::Done => {
             shelf_words::put_shelf(words, next);
-            0
+            DONE
         }
     }
 }
@@ -175,7 +178,7 @@ pub fn load_lent(words: &mut [u16], store: &mut [u8], file: &[u8]) -> u8
         Loaded::Refused(n) => n,
         Loaded::Done => {
             shelf_words::put_shelf(words, next);
-            0
+            DONE
         }
     }
 }
@@ -216,5 +219,5 @@ pub fn begin_lent(words: &mut [u16], store: &mut [u8]) -> u8
     let begun = begin::begin_shelf(store);
     let next = begun.shelf;
     shelf_words::put_shelf(words, next);
-    0
+    DONE
 }

@@ -189,8 +189,8 @@ fn target_fault(payload: &[u8], at: usize) -> u8
     }
     let kind = payload[at];
     let length = wide(word_at(payload, at + 1));
-    let wrong = is_wrong_length(kind, length);
     let end = at + TARGET_HEAD + length;
+    let wrong = is_wrong_length(kind, length);
     if wrong {
         return WRONG_TARGET_LENGTH;
     }

@@ -87,9 +87,9 @@ target-fault-spec =
     add-word-at
     word-at-requires
     wide-requires
-    is-wrong-length-requires
     add-end
     add-end-2
+    is-wrong-length-requires
     returns-2
     returns-3
     is-uri-requires

@@ -11,7 +11,7 @@ pub fn table() -> Table {
     let mut table = Table::new(
         "Loops, triggers and the clock",
         "A walk is of 41 descriptors or about as many. A call on a clock is timed with the copying of its record.\n\
-         The library's record is 67 words , the other's a structure and a list.",
+         The library's record is 67 words, the other's a structure and a list.",
     );
     table.row("walk of a 1,000-byte loop", walks);
     table.row("trigger of 64 bytes", triggers);
