@@ -4,11 +4,13 @@
 mod clock;
 mod feed;
 mod file;
+mod seeds;
 mod shelf;
 
 use crate::beside;
 use crate::tally::Tally;
 use feed::Feed;
+pub use seeds::seeds;
 
 /// A target's name and what it does with bytes.
 pub type Target = (&'static str, fn(&[u8]));

@@ -1,7 +1,7 @@
-//! The inputs that the fuzzer found worth keeping, each once more through the same entry.
+//! The inputs that the fuzzer started from and those that it found worth keeping, each once more through the same entry.
 
 use std::fs;
-use trial::inputs::TARGETS;
+use trial::inputs::{seeds, TARGETS};
 use trial::top;
 
 #[test]
@@ -16,7 +16,12 @@ fn every_input_again() {
             inputs += 1;
             bytes += input.len();
         }
-        println!("{name}: {inputs} inputs of {bytes} bytes");
+        let seeds = seeds(name);
+        seeds.iter().for_each(|seed| run(seed));
+        println!(
+            "{name}: {inputs} inputs of {bytes} bytes, {} seeds",
+            seeds.len()
+        );
         assert!(inputs > 0, "{name} has no inputs");
     }
 }

@@ -2,71 +2,14 @@
 
 use std::fs;
 use std::path::Path;
-use trial::files::{damaged, Parts};
-use trial::inputs::TARGETS;
-use trial::random::Random;
-use trial::sections::Fields;
-use trial::{files, loops, sections, top, triggers};
-
-const SEED: u64 = 0x4B68_756D_7361_000A;
-
-/// Each generator's kinds with the bytes before them that the target takes for its own choices, and histories of random
-/// choices.
-fn seeds(random: &mut Random, target: &str) -> Vec<Vec<u8>> {
-    let with = |front: &[u8], input: &[u8]| [front, input].concat();
-    let mut all = Vec::new();
-    match target {
-        "sections" => {
-            for kind in sections::KINDS {
-                for size in [8, 20, 1_024] {
-                    all.push(with(&[0], &sections::payload(random, kind, size)));
-                }
-            }
-        }
-        "loops" => {
-            for kind in loops::KINDS {
-                for at in [[0, 0], [0, 2], [255, 255]] {
-                    all.push(with(&at, &loops::make(random, kind)));
-                }
-            }
-        }
-        "triggers" => {
-            for kind in triggers::KINDS {
-                for front in [[2, 11, 0, 4, 0, 5, 0, 2], [1, 10, 0, 0, 0, 3, 0, 0]] {
-                    all.push(with(&front, &triggers::payload(random, kind)));
-                }
-            }
-        }
-        "files" => {
-            for name in ["whole", "gaps", "damaged"] {
-                let file = fs::read(top(&format!("samples/{name}.shelf"))).expect(name);
-                all.push(with(&[0, 0], &file));
-            }
-            for kind in files::KINDS {
-                let fields = Fields::random(random);
-                let parts = Parts::random(random, fields);
-                all.push(with(&[0, 0], &damaged(random, kind, parts)));
-            }
-            for how in 0..32 {
-                let size = 20 + random.below(40);
-                all.push(with(&[random.byte(), how << 3 | 1], &random.bytes(size)));
-            }
-        }
-        _ => {
-            for size in [10, 20, 50, 100, 200, 500] {
-                (0..8).for_each(|_| all.push(random.bytes(size)));
-            }
-        }
-    }
-    all
-}
+use trial::inputs::{seeds, TARGETS};
 
 fn main() {
     let folder = std::env::args().nth(1).expect("usage: seeds FOLDER");
     for (name, _) in TARGETS {
         let folder = Path::new(&folder).join(name);
         fs::create_dir_all(&folder).expect("a folder");
-        let all = seeds(&mut Random::new(SEED), name);
+        let all = seeds(name);
         for (i, seed) in all.iter().enumerate() {
             fs::write(folder.join(format!("seed-{i}")), seed).expect("a seed");
         }
