@@ -189,13 +189,13 @@ fn target_fault(payload: &[u8], at: usize) -> u8
     }
     let kind = payload[at];
     let length = wide(word_at(payload, at + 1));
-    let end = at + TARGET_HEAD + length;
+    let after = at + TARGET_HEAD + length;
     let wrong = is_wrong_length(kind, length);
     if wrong {
         return WRONG_TARGET_LENGTH;
     }
-    if size < end {
-        return CUT_OFF;
+    if size < after {
+        return CUT_OFF; // in the target's bytes
     }
     if is_uri(kind) {
         if is_high(payload, at + TARGET_HEAD, length) {

@@ -42,11 +42,11 @@ is-wrong-length-requires c κs = search needs
 given : (c : tie.After-wide) → c .wide .result ≡ word (now (c .before .before .before .before .before .args .payload)) (c .before .before .before .before .before .args .at + 1)
 given c = c .wide .ensures ∙ c .before .word-at .ensures
 
-add-end : tie.Need-add-end
-add-end c = search needs
+add-after : tie.Need-add-after
+add-after c = search needs
 
-add-end-2 : tie.Need-add-end-2
-add-end-2 c = search needs
+add-after-2 : tie.Need-add-after-2
+add-after-2 c = search needs
 
 returns-2 : tie.Need-returns-2
 unfolding targetFault
@@ -87,8 +87,8 @@ target-fault-spec =
     add-word-at
     word-at-requires
     wide-requires
-    add-end
-    add-end-2
+    add-after
+    add-after-2
     is-wrong-length-requires
     returns-2
     returns-3
