@@ -1,9 +1,9 @@
 -- The frequent steps, case by case as the code comes to them.
---   place-at, key-here, places-here                         a place of the record is the place of the numbers
+--   in-shelf, most-in                                        76 numbers are a record, and its held lengths
 --   compared, compared-end, stood                            the bytes that stand in a berth, compared
 --   other-version, other-last, adds, other-size, repeats     a held key
 --   other-store, spoiled-record, not-read, not-held, found   an offer
-use mathlib.Core.Path.{_≡_, refl, sym, ap, _∙_}
+use mathlib.Core.Path.{_≡_, refl, sym, ap, subst, _∙_}
 use mathlib.Core.Bool.{Bool, true, false, not, _&&_}
 use mathlib.Core.List.{List}
 use Prim.Native.Nat.{ℕ, zero, suc, _+_, _*_, _/_, _%_, _<_, _≤_}
@@ -14,7 +14,7 @@ use lib.Seq.{getD-take, getD-drop}
 use lib.Bits.{bitOr, bitXor}
 use borrow.Author.Tests.{eq-eqb, ne-eqb}
 use Rattle.base.specs.Bytes.{byte, same}
-use Rattle.base.specs.Below.{every, lowest}
+use Rattle.base.specs.Below.{every}
 use Rattle.base.proofs.Below.{every-next}
 use Rattle.base.proofs.Cases.{by}
 use Rattle.berth.specs.Berth.{berthSize, places, sections, storeSize, standing}
@@ -24,54 +24,27 @@ use Rattle.section.specs.Section.{readOf}
 use Rattle.section.specs.declared.Header.{Header}
 use Rattle.section.specs.declared.Reading.{Reading}
 use Rattle.section.specs.declared.Reading.the-variants as reading
-use Rattle.shelf.specs.Record.{placeAt, lengthAt, hasKey, spoiledOf, placeOf, freeOf}
-use Rattle.shelf.specs.declared.Key.{Key}
+use Rattle.shelf.specs.Record.{placeAt, lengthAt, spoiledOf, placeOf, freeOf}
 use Rattle.shelf.specs.declared.Place.{Place}
 use Rattle.shelf.specs.declared.Shelf.{Shelf}
 use Rattle.offer.specs.Offer.{keyOf, newOf, heldOf, soundOf, offerOf}
 use Rattle.offer.specs.declared.Offered.{Offered}
-use Rattle.shelf_words.specs.Words.{placeIn, shelfIn}
+use Rattle.shelf_words.specs.Words.{count, placeIn, shelfIn, shelfAt}
+use Rattle.shelf_places.proofs.Here.{place-at, sound-in}
+use Rattle.offer.proofs.Steps.{held-most}
 use Rattle.offer_quick.specs.declared.Frequent.{Frequent}
 use Rattle.offer_quick.specs.declared.Frequent.the-variants.{Repeats, Adds, Other}
 use Rattle.offer_quick.specs.Frequent.{frequentAt, frequentBy, frequentOf}
 
-pub place-at : (words : List ℕ) (p : ℕ) → p < 4 → placeAt (shelfIn words) p ≡ placeIn words p
-unfolding shelfIn
-place-at words zero h = refl
-place-at words (suc zero) h = refl
-place-at words (suc (suc zero)) h = refl
-place-at words (suc (suc (suc zero))) h = refl
-place-at words (suc (suc (suc (suc p)))) h = absurd (omega arith)
+pub in-shelf : (words store payload : List ℕ) {x : Frequent} → length words ≡ count → x ≡ frequentOf (shelfIn words) store payload → x ≡ frequentOf (shelfAt words) store payload
+unfolding shelfAt
+in-shelf words store payload n e = rw (eq-eqb (length words) count n) e
 
--- the three tests of a key, in another order than the definition's
-pub key-here :
-    (words : List ℕ)
-    (p : ℕ)
-    (key : Key)
-    → (eqb (getD words (19 * p + 1) 0) (key .extension) && eqb (getD words (19 * p) 0 % 256) (key .table)) && not (eqb (getD words (19 * p + 2) 0 / 256) 0)
-    ≡ hasKey (placeIn words p) key
-unfolding hasKey placeIn
-key-here words p key =
-    turned (eqb (getD words (19 * p + 1) 0) (key .extension)) (eqb (getD words (19 * p) 0 % 256) (key .table)) (not (eqb (getD words (19 * p + 2) 0 / 256) 0))
-  where
-    turned : (a b c : Bool) → (a && b) && c ≡ c && (b && a)
-    turned true true true = refl
-    turned true true false = refl
-    turned true false true = refl
-    turned true false false = refl
-    turned false true true = refl
-    turned false true false = refl
-    turned false false true = refl
-    turned false false false = refl
-
-lowest-same : (f g : ℕ → Bool) (n : ℕ) → ((k : ℕ) → k < n → f k ≡ g k) → lowest n f ≡ lowest n g
-unfolding lowest
-lowest-same f g zero h = refl
-lowest-same f g (suc n) h = rw (lowest-same f g n (λ k l. h k (omega arith)), h n (omega arith))
-
-pub places-here : (words : List ℕ) (key : Key) → lowest 4 (λ p. hasKey (placeIn words p) key) ≡ placeOf (shelfIn words) key
-unfolding placeOf
-places-here words key = sym (lowest-same _ _ 4 (λ k h. ap (λ x. hasKey x key) (place-at words k h)))
+-- the held lengths of a place that has a key
+pub most-in : (words store payload : List ℕ) (h : Header) {p : ℕ} → spoiledOf (shelfAt words) ≡ false → p ≡ placeOf (shelfIn words) (keyOf h) → p < 4 → (n : ℕ) → n < 16
+    → lengthAt (placeIn words p) n ≤ 1024
+most-in words store payload h {p} s e l n m =
+    subst (λ x. lengthAt x n ≤ 1024) (place-at words p l) (held-most (shelfIn words) store payload h e (sound-in words s) l n m)
 
 every-same : (f g : ℕ → Bool) (n : ℕ) → ((k : ℕ) → k < n → f k ≡ g k) → every n f ≡ every n g
 unfolding every

@@ -25,7 +25,8 @@ use Rattle.offer.specs.declared.Offered.{Offered}
 use Rattle.offer.proofs.Steps.{below}
 use Rattle.offer_quick.specs.declared.Frequent.{Frequent}
 use Rattle.offer_quick.specs.declared.Frequent.the-variants.{Repeats, Adds, Other}
-use Rattle.offer_quick.specs.Frequent.{frequentAt, frequentBy, frequentOf, withLength}
+use Rattle.offer_quick.specs.Frequent.{frequentAt, frequentBy, frequentOf}
+use Rattle.shelf_places.specs.Places.{withLength}
 
 -- the record is not spoiled, and a section that is added goes into a berth of the store
 pub record InRange (shelf : Shelf) (store payload : List ℕ) (p n : ℕ) : Type 0 where

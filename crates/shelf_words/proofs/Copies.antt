@@ -3,6 +3,7 @@
 --   pasted-more, pasted-end       into the numbers
 --   laid-out                      a place's numbers, stored one after the other
 --   in-turn                       places stored in turn
+--   set-nowhere, set-no-place, set-there    one place put
 use mathlib.Core.Path.{_≡_, refl, sym, ap, _∙_}
 use mathlib.Core.List.{List, [], _∷_, _++_, append-assoc, append-nil}
 use Prim.Native.Nat.{ℕ, suc, _+_, _<_, _≤_}
@@ -10,9 +11,12 @@ use native.Mathlib.Numerals.{add-one, add-two, add-three}
 use native.Mathlib.Omega.{arith}
 use lib.ListN.{length, take, drop, getD, set, length-drop, length-set, length-append, drop-of-length-le}
 use lib.Seq.{take-suc, take-suc-set, getD-drop, take-length, paste, paste-suc, drop-set-lt, drop-drop, drop-at, take-at}
-use mathlib.Core.Bool.{Bool, true, false}
+use mathlib.Core.Bool.{Bool, true, false, _&&_}
+use lib.Dec.{eqb}
+use borrow.Author.Tests.{eq-eqb, ne-eqb, lt-ltb, le-ltb}
+use Rattle.base.specs.Choice.{if_then_else_}
 use Rattle.base.specs.Bytes.{part}
-use Rattle.shelf_words.specs.Words.{over, placeWords, putAt, shelfWords}
+use Rattle.shelf_words.specs.Words.{over, placeWords, putAt, placeSet, shelfWords}
 use Rattle.shelf.specs.Record.{placeAt}
 use Rattle.shelf.specs.declared.Place.{Place}
 use Rattle.shelf.specs.declared.Shelf.{Shelf}
@@ -113,3 +117,21 @@ shelf-put w shelf n a b c d x y z p q r =
     p
     q
     r
+
+-- one place put: nothing without 76 numbers or without that place
+module _ (w : List ℕ) (p : ℕ) (place : Place) where
+  pub set-nowhere : (length w ≡ 76 → ⊥) → w ≡ placeSet w p place
+  unfolding placeSet
+  set-nowhere d = rw (ne-eqb (length w) 76 d)
+
+  pub set-no-place : 4 ≤ p → w ≡ placeSet w p place
+  unfolding placeSet
+  set-no-place h = rw (le-ltb p 4 h) (sym (go (eqb (length w) 76)))
+    where
+      go : (b : Bool) → (if b && false then putAt w p place else w) ≡ w
+      go true = refl
+      go false = refl
+
+  pub set-there : {x : List ℕ} → length w ≡ 76 → p < 4 → x ≡ putAt w p place → x ≡ placeSet w p place
+  unfolding placeSet
+  set-there n l e = rw (eq-eqb (length w) 76 n, lt-ltb p 4 l) e

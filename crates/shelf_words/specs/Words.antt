@@ -1,10 +1,10 @@
 -- The shelf's record as a host lends it: 19 numbers of 16 bits for each of the four places.
 use Prim.Native.Nat.{ℕ, _+_, _*_, _/_, _%_}
 use mathlib.Core.List.{List, [], _∷_, _++_}
-use mathlib.Core.Bool.{Bool, true, not}
-use lib.Dec.{eqb}
+use mathlib.Core.Bool.{Bool, true, not, _&&_}
+use lib.Dec.{eqb, ltb}
 use lib.ListN.{length, getD, take, drop, replicate}
-use Rattle.berth.specs.Berth.{sections}
+use Rattle.berth.specs.Berth.{places, sections}
 use Rattle.base.specs.Choice.{if_then_else_}
 use Rattle.base.specs.Bytes.{part}
 use Rattle.shelf.specs.Record.{placeAt, withPlace, fresh}
@@ -54,6 +54,10 @@ shelfWords shelf =
 -- the numbers with another place p
 unfoldable pub putAt : List ℕ → ℕ → Place → List ℕ
 putAt words p place = take (perPlace * p) words ++ (placeWords place ++ drop (perPlace * p + perPlace) words)
+
+-- .. where the numbers are a record and have that place
+unfoldable pub placeSet : List ℕ → ℕ → Place → List ℕ
+placeSet words p place = if eqb (length words) count && ltb p places then putAt words p place else words
 
 -- any other count of numbers is no record: it is read as one with a place that is taken and holds nothing, which is spoiled
 unfoldable pub noRecord : Shelf

@@ -8,7 +8,7 @@ ghost use Prim.Native.Nat.{_+_, _*_, _<_, _≤_};
 ghost use lib.ListN.{length};
 ghost use lib.Seq.{paste};
 ghost use Rattle.base.specs.Bytes.{part};
-ghost use Rattle.shelf_words.specs.Words.{noRecord, placeIn, shelfIn, shelfAt, placeWords, over, wordsAfter, putAt};
+ghost use Rattle.shelf_words.specs.Words.{noRecord, placeIn, shelfIn, shelfAt, placeWords, over, wordsAfter, putAt, placeSet};
 
 // The numbers of a place, of its sections, and of a record.
 const PLACE: usize = 19;
@@ -121,6 +121,19 @@ fn put_place(words: &mut [u16], p: usize, place: Place)
     words[at + 1] = key.extension;
     words[at + 2] = place.last as u16 + flag;
     put_lengths(words, at + 3, lengths);
+}
+
+// Puts a place into the numbers of a record. What names no place of 76 numbers changes nothing.
+pub fn put_place_at(words: &mut [u16], p: usize, place: Place)
+    ensures { λ _. ⌜ now (words .exit) ≡ placeSet (now (words .entry)) p place ⌝ }
+{
+    if words.len() != WORDS {
+        return;
+    }
+    if berth::PLACES <= p {
+        return;
+    }
+    put_place(words, p, place);
 }
 
 // Puts the record into 76 numbers; any other count of numbers is left as it is.

@@ -5,7 +5,8 @@ use native.Mathlib.Omega.{arith}
 use borrow.Author.Needs.{needs}
 use Rattle.shelf_quick.proofs.Places.{length-in}
 use Rattle.shelf_words.specs.Words.{placeIn, shelfIn}
-use Rattle.offer_quick.proofs.Held.{place-at, stood, other-length, other-version, other-last, adds, repeats, differs}
+use Rattle.shelf_places.proofs.Here.{place-at}
+use Rattle.offer_quick.proofs.Held.{stood, other-length, other-version, other-last, adds, repeats, differs}
 use Rattle.offer_quick.proofs.held_step.Statement.{statement}
 use Rattle.offer_quick.proofs.held_step.Tie as tie
 

@@ -1,8 +1,8 @@
--- `offer_quick::has_key` meets its promise: the same tests on the same numbers.
+-- `shelf_places::has_key` meets its promise: the same tests on the same numbers.
 use borrow.Author.Needs.{needs}
-use Rattle.offer_quick.proofs.Held.{key-here}
-use Rattle.offer_quick.proofs.has_key.Statement.{statement}
-use Rattle.offer_quick.proofs.has_key.Tie as tie
+use Rattle.shelf_places.proofs.Here.{key-here}
+use Rattle.shelf_places.proofs.has_key.Statement.{statement}
+use Rattle.shelf_places.proofs.has_key.Tie as tie
 
 mul-at : tie.Need-mul-at
 mul-at c = search needs

@@ -1,8 +1,8 @@
--- `offer_quick::flag` meets its promise: by its one test.
+-- `shelf_places::flag` meets its promise: by its one test.
 use borrow.Author.Needs.{needs}
-use Rattle.offer_quick.proofs.Numbers.{flag-off, flag-on}
-use Rattle.offer_quick.proofs.flag.Statement.{statement}
-use Rattle.offer_quick.proofs.flag.Tie as tie
+use Rattle.shelf_places.proofs.Numbers.{flag-off, flag-on}
+use Rattle.shelf_places.proofs.flag.Statement.{statement}
+use Rattle.shelf_places.proofs.flag.Tie as tie
 
 returns : tie.Need-returns
 returns c = (flag-off _ (c .if1 .taken), search needs)

@@ -1,12 +1,12 @@
--- `offer_quick::put_among` meets its promise: what was written is what was there, and past number n the new length.
+-- `shelf_places::put_among` meets its promise: what was written is what was there, and past number n the new length.
 use mathlib.Core.Path.{_≡_}
 use Prim.Native.Nat.{_≤_, _-_}
 use native.Mathlib.Omega.{arith}
 use lib.ListN.{length, length-set}
 use borrow.Author.Needs.{needs}
-use Rattle.offer_quick.proofs.Numbers.{upTo, none-yet, one-more, all-written}
-use Rattle.offer_quick.proofs.put_among.Statement.{statement}
-use Rattle.offer_quick.proofs.put_among.Tie as tie
+use Rattle.shelf_places.proofs.Numbers.{upTo, none-yet, one-more, all-written}
+use Rattle.shelf_places.proofs.put_among.Statement.{statement}
+use Rattle.shelf_places.proofs.put_among.Tie as tie
 
 abbrev Inv-loop : tie.InvT-loop
 Inv-loop words₀ at n size i₀ words i = (i ≤ 16) × (length words ≡ length words₀) × (words ≡ upTo words₀ at n size i)

@@ -1,9 +1,9 @@
--- `offer_quick::tidy` meets its promise: the number that is written is the definition's.
+-- `shelf_places::tidy` meets its promise: the number that is written is the definition's.
 use native.Mathlib.Omega.{arith}
 use borrow.Author.Needs.{needs}
-use Rattle.offer_quick.specs.Frequent.{tidied}
-use Rattle.offer_quick.proofs.tidy.Statement.{statement}
-use Rattle.offer_quick.proofs.tidy.Tie as tie
+use Rattle.shelf_places.specs.Places.{tidied}
+use Rattle.shelf_places.proofs.tidy.Statement.{statement}
+use Rattle.shelf_places.proofs.tidy.Tie as tie
 
 mul-at : tie.Need-mul-at
 mul-at c = search needs

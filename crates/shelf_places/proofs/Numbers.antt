@@ -1,67 +1,33 @@
--- The numbers after a length is put: those of the record with that length.
---   no-record, counted      any other count of numbers than 76 is a spoiled record
---   its-shelf, in-shelf, sound-in, most-in   76 numbers are a record; where it is not spoiled, its lengths
+-- The numbers after a length or a table is put: those of the record with that length, or with that table.
 --   flag-off, flag-on       whether a place is taken, as a number
 --   chosen-new, chosen-old, upTo, none-yet, one-more, all-written    sixteen numbers are written, one of them anew
---   put-there, put-nowhere, put-no-place, put-no-section, put-after     what a length that is put leaves
-use mathlib.Core.Path.{_≡_, refl, sym, ap, subst, _∙_}
+--   put-there, put-nowhere, put-no-place, put-no-section, put-after    what a length that is put leaves
+--   table-there, table-nowhere, table-no-place, table-after            what a table that is put leaves
+use mathlib.Core.Path.{_≡_, refl, sym, ap, _∙_}
 use mathlib.Core.Bool.{Bool, true, false, not, _&&_}
-use mathlib.Core.Logic.{_⊎_, ⊎-elim}
+use mathlib.Core.Logic.{⊎-elim}
 use mathlib.Core.List.{List, _++_}
-use Prim.Native.Nat.{ℕ, zero, suc, _+_, _*_, _/_, _%_, _<_, _≤_}
+use Prim.Native.Nat.{ℕ, zero, suc, _+_, _*_, _/_, _%_, _-_, _<_, _≤_}
 use native.Mathlib.Omega.{arith}
 use lib.Dec.{eqb, ltb}
-use lib.ListN.{length, getD, set, drop, length-set, length-append, length-drop, List·getD-append}
+use lib.ListN.{length, getD, set, take, drop, length-set, length-append, length-drop, List·getD-append}
 use lib.Seq.{getD-take, getD-drop, getD-set-same, getD-set-other, set-getD, getD-append-add, ext-getD, length-take-le}
-use borrow.Author.Tests.{eq-eqb, ne-eqb, lt-ltb, le-ltb, ltb-true, ltb-false, eqb-true}
+use borrow.Author.Tests.{eq-eqb, ne-eqb, lt-ltb, le-ltb, ltb-true, ltb-false}
 use Rattle.base.specs.Choice.{if_then_else_}
-use Rattle.base.specs.Below.{some}
-use Rattle.base.proofs.Cases.{by, same-or, unlike}
+use Rattle.base.proofs.Cases.{by, same-or}
 use Rattle.berth.specs.Berth.{places}
-use Rattle.shelf.specs.Record.{fresh, noPlace, placeAt, lengthAt, spoiledPlace, spoiledOf, placeOf}
+use Rattle.shelf.specs.Record.{noPlace, placeAt, withPlace}
 use Rattle.shelf.specs.declared.Place.{Place}
 use Rattle.shelf.specs.declared.Shelf.{Shelf}
-use Rattle.section.specs.declared.Header.{Header}
-use Rattle.offer.specs.Offer.{keyOf}
-use Rattle.offer.proofs.Steps.{held-most}
-use Rattle.shelf_words.specs.Words.{count, over, placeIn, shelfIn, shelfAt, placeWords, shelfWords, noRecord, wordsAfter}
-use Rattle.offer_quick.specs.declared.Frequent.{Frequent}
-use Rattle.offer_quick.specs.Frequent.{frequentOf, lengthened, withLength, lengthPut, marked, tidied}
-use Rattle.offer_quick.proofs.Held.{place-at}
-
-no-record : spoiledOf noRecord ≡ true
-unfolding noRecord fresh spoiledOf spoiledPlace some
-no-record = refl
-
-pub counted : (words : List ℕ) → spoiledOf (shelfAt words) ≡ false → length words ≡ count
-unfolding shelfAt
-counted words e =
-    by (eqb (length words) count)
-    (λ t. eqb-true _ _ t)
-    (λ f. let g : spoiledOf noRecord ≡ false = rw f at e in absurd (unlike (sym no-record ∙ g)))
-
-pub in-shelf : (words store payload : List ℕ) {x : Frequent} → length words ≡ count → x ≡ frequentOf (shelfIn words) store payload → x ≡ frequentOf (shelfAt words) store payload
-unfolding shelfAt
-in-shelf words store payload n e = rw (eq-eqb (length words) count n) e
-
-pub its-shelf : (words : List ℕ) → length words ≡ count → shelfAt words ≡ shelfIn words
-unfolding shelfAt
-its-shelf words e = rw (eq-eqb (length words) count e)
+use Rattle.shelf_words.specs.Words.{count, over, placeIn, shelfIn, shelfAt, placeWords, shelfWords, putAt, placeSet, wordsAfter}
+use Rattle.shelf_places.specs.Places.{lengthened, withLength, lengthPut, tablePut, marked, tidied, allTidied}
+use Rattle.shelf_places.proofs.Here.{place-at}
 
 pub flag-off : (x : ℕ) → x ≡ 0 → 0 ≡ over (not (eqb x 0))
 flag-off x e = rw (eq-eqb x 0 e)
 
 pub flag-on : (x : ℕ) → (x ≡ 0 → ⊥) → 256 ≡ over (not (eqb x 0))
 flag-on x d = rw (ne-eqb x 0 d)
-
-pub sound-in : (words : List ℕ) → spoiledOf (shelfAt words) ≡ false → spoiledOf (shelfIn words) ≡ false
-sound-in words e = ap spoiledOf (sym (its-shelf words (counted words e))) ∙ e
-
--- the held lengths of a place that has a key
-pub most-in : (words store payload : List ℕ) (h : Header) {p : ℕ} → spoiledOf (shelfAt words) ≡ false → p ≡ placeOf (shelfIn words) (keyOf h) → p < 4 → (n : ℕ) → n < 16
-    → lengthAt (placeIn words p) n ≤ 1024
-most-in words store payload h {p} s e l n m =
-    subst (λ x. lengthAt x n ≤ 1024) (place-at words p l) (held-most (shelfIn words) store payload h e (sound-in words s) l n m)
 
 pub chosen-new : (i n size there : ℕ) → i ≡ n → size ≡ (if eqb i n then size else there)
 chosen-new i n size there e = rw (eq-eqb i n e)
@@ -191,6 +157,13 @@ unfolding layers tidied
 layers-length w zero = refl
 layers-length w (suc r) = length-set (layers w r) (19 * r + 2) _ ∙ layers-length w r
 
+all-layers : (w : List ℕ) → allTidied w ≡ layers w 4
+unfolding allTidied layers
+all-layers w = refl
+
+pub tidied-kept : (w : List ℕ) → length (allTidied w) ≡ length w
+tidied-kept w = ap length (all-layers w) ∙ layers-length w 4
+
 tidied-at : (w : List ℕ) (p k : ℕ) → 19 * p + 2 < length w → getD (tidied w p) k 0 ≡ (if eqb k (19 * p + 2) then marked (getD w k 0) else getD w k 0)
 unfolding tidied
 tidied-at w p k h =
@@ -251,88 +224,137 @@ module _ (w : List ℕ) (n76 : length w ≡ 76) where
   unfolding placeIn
   lengths-16 q l = length-take-le 16 (drop (19 * q + 3) w) (simp length-drop (omega arith))
 
-  module _ (p n size : ℕ) (l : p < 4) (m : n < 16) where
-    abbrev after : Shelf
-    after = withLength (shelfIn w) p n size
+  four : length (shelfIn w .places) ≡ 4
+  unfolding shelfIn
+  four = refl
 
-    four : length (shelfIn w .places) ≡ 4
-    unfolding shelfIn
-    four = refl
+  -- the record with another place p
+  module _ (p : ℕ) (l : p < 4) (place : Place) (n16 : length (place .lengths) ≡ 16) where
+    abbrev other : Shelf
+    other = withPlace (shelfIn w) p place
 
-    here : placeAt after p ≡ lengthened (placeIn w p) n size
-    here =
-        getD-set-same (shelfIn w .places) p (lengthened (placeAt (shelfIn w) p) n size) noPlace (let f = four in omega arith)
-        ∙ ap (λ x. lengthened x n size) (place-at w p l)
+    here : placeAt other p ≡ place
+    here = getD-set-same (shelfIn w .places) p place noPlace (let f = four in omega arith)
 
-    elsewhere : (q : ℕ) → q < 4 → (q ≡ p → ⊥) → placeAt after q ≡ placeIn w q
-    elsewhere q h d = getD-set-other (shelfIn w .places) p q (lengthened (placeAt (shelfIn w) p) n size) noPlace d ∙ place-at w q h
+    elsewhere : (q : ℕ) → q < 4 → (q ≡ p → ⊥) → placeAt other q ≡ placeIn w q
+    elsewhere q h d = getD-set-other (shelfIn w .places) p q place noPlace d ∙ place-at w q h
 
-    sixteen : Sixteen after
+    sixteen : Sixteen other
     sixteen q h =
         ⊎-elim
-        (λ (e : q ≡ p). ap (λ i. length (placeAt after i .lengths)) e ∙ ap (λ (x : Place). length (x .lengths)) here ∙ length-set (placeIn w p .lengths) n size ∙ lengths-16 p l)
+        (λ (e : q ≡ p). ap (λ i. length (placeAt other i .lengths)) e ∙ ap (λ (x : Place). length (x .lengths)) here ∙ n16)
         (λ d. ap (λ (x : Place). length (x .lengths)) (elsewhere q h d) ∙ lengths-16 q h)
         (same-or q p)
 
-    -- number j of place q of the record with that length
-    of-after : (q j : ℕ) → q < 4 → j < 19 → getD (set (layers w 4) (19 * p + 3 + n) size) (19 * q + j) 0 ≡ getD (placeWords (placeAt after q)) j 0
-    of-after q j h k =
-        let f = lengths-16 p l in
-        ⊎-elim
-        (λ (e : q ≡ p).
-        let x : getD (placeWords (placeAt after q)) j 0 ≡ (if eqb j (n + 3) then size else getD (placeWords (placeIn w p)) j 0)
-        = ap (λ r. getD (placeWords (placeAt after r)) j 0) e ∙ ap (λ x. getD (placeWords x) j 0) here ∙ longer (placeIn w p) n size j (omega arith) in
-        ⊎-elim
-        (λ (b : j ≡ n + 3).
-        let i : 19 * q + j ≡ 19 * p + 3 + n = omega arith in
-        let y : (if eqb j (n + 3) then size else getD (placeWords (placeIn w p)) j 0) ≡ size = rw (eq-eqb j (n + 3) b) in
-        ap (λ k. getD (set (layers w 4) (19 * p + 3 + n) size) k 0) i
-        ∙ getD-set-same (layers w 4) (19 * p + 3 + n) size 0 (let g = layers-length w 4 in omega arith)
-        ∙ sym (x ∙ y))
-        (λ b.
-        let y : (if eqb j (n + 3) then size else getD (placeWords (placeIn w p)) j 0) ≡ getD (placeWords (placeIn w p)) j 0
-        = rw (ne-eqb j (n + 3) b) in
-        getD-set-other (layers w 4) (19 * p + 3 + n) (19 * q + j) size 0 (λ i. b (omega arith))
-        ∙ tidy-all w n76 q j k h
-        ∙ ap (λ r. getD (placeWords (placeIn w r)) j 0) e
-        ∙ sym (x ∙ y))
-        (same-or j (n + 3)))
-        (λ d.
-        getD-set-other (layers w 4) (19 * p + 3 + n) (19 * q + j) size 0 (λ i. d (omega arith))
-        ∙ tidy-all w n76 q j k h
-        ∙ ap (λ x. getD (placeWords x) j 0) (sym (elsewhere q h d)))
-        (same-or q p)
-
-    record-length : length (shelfWords after) ≡ 76
+    record-length : length (shelfWords other) ≡ 76
     unfolding shelfWords
     record-length =
         simp length-append
-        (let a = long (placeAt after 0) (sixteen 0 (omega arith)) in
-        let b = long (placeAt after 1) (sixteen 1 (omega arith)) in
-        let c = long (placeAt after 2) (sixteen 2 (omega arith)) in
-        let d = long (placeAt after 3) (sixteen 3 (omega arith)) in
+        (let a = long (placeAt other 0) (sixteen 0 (omega arith)) in
+        let b = long (placeAt other 1) (sixteen 1 (omega arith)) in
+        let c = long (placeAt other 2) (sixteen 2 (omega arith)) in
+        let d = long (placeAt other 3) (sixteen 3 (omega arith)) in
         omega arith)
 
-    written : set (layers w 4) (19 * p + 3 + n) size ≡ shelfWords after
-    written =
-        by-number (set (layers w 4) (19 * p + 3 + n) size) (shelfWords after)
-        (length-set (layers w 4) (19 * p + 3 + n) size ∙ layers-length w 4 ∙ n76)
-        record-length
-        (λ q j h k. of-after q j h k ∙ sym (of-record after sixteen q j h k))
+    -- numbers are that record's when those of place p are the place's, and those of any other place as they are put
+    these :
+        (v : List ℕ)
+        → length v ≡ 76
+        → ((j : ℕ) → j < 19 → getD v (19 * p + j) 0 ≡ getD (placeWords place) j 0)
+        → ((q j : ℕ) → q < 4 → j < 19 → (q ≡ p → ⊥) → getD v (19 * q + j) 0 ≡ getD (layers w 4) (19 * q + j) 0)
+        → v ≡ shelfWords other
+    these v n at off =
+        by-number v (shelfWords other) n record-length
+        (λ q j h k.
+        ⊎-elim
+        (λ (e : q ≡ p).
+        ap (λ i. getD v (19 * i + j) 0) e ∙ at j k ∙ ap (λ x. getD (placeWords x) j 0) (sym here) ∙ ap (λ i. getD (placeWords (placeAt other i)) j 0) (sym e))
+        (λ d. off q j h k d ∙ tidy-all w n76 q j k h ∙ ap (λ x. getD (placeWords x) j 0) (sym (elsewhere q h d)))
+        (same-or q p)
+        ∙ sym (of-record other sixteen q j h k))
 
-    pub put-there :
-        (a b c d : List ℕ)
-        → a ≡ tidied w 0
-        → b ≡ tidied a 1
-        → c ≡ tidied b 2
-        → d ≡ tidied c 3
-        → {x : List ℕ}
-        → x ≡ set d (19 * p + 3 + n) size
-        → x ≡ lengthPut w p n size
-    unfolding lengthPut layers wordsAfter
-    put-there a b c d e f g h i =
-        let all : d ≡ layers w 4 = h ∙ ap (λ x. tidied x 3) (g ∙ ap (λ x. tidied x 2) (f ∙ ap (λ x. tidied x 1) e)) in
-        rw (eq-eqb (length w) 76 n76, lt-ltb p 4 l, lt-ltb n 16 m) (i ∙ ap (λ x. set x (19 * p + 3 + n) size) all ∙ written)
+    -- a place put among tidied numbers
+    cut : length (take (19 * p) (layers w 4)) ≡ 19 * p
+    cut = length-take-le (19 * p) (layers w 4) (let g = layers-length w 4 in omega arith)
+
+    put-76 : length (putAt (layers w 4) p place) ≡ 76
+    unfolding putAt
+    put-76 =
+        let a = cut in
+        let b = long place n16 in
+        let g = layers-length w 4 in
+        simp (length-append, length-drop) (omega arith)
+
+    put-at : (j : ℕ) → j < 19 → getD (putAt (layers w 4) p place) (19 * p + j) 0 ≡ getD (placeWords place) j 0
+    unfolding putAt
+    put-at j k =
+        let f : 19 * p + j ≡ length (take (19 * p) (layers w 4)) + j = (let a = cut in omega arith) in
+        ap (λ i. getD (putAt (layers w 4) p place) i 0) f
+        ∙ getD-append-add (take (19 * p) (layers w 4)) (placeWords place ++ drop (19 * p + 19) (layers w 4)) j 0
+        ∙ List·getD-append (placeWords place) (drop (19 * p + 19) (layers w 4)) 0 j (let b = long place n16 in omega arith)
+
+    put-off : (q j : ℕ) → q < 4 → j < 19 → (q ≡ p → ⊥) → getD (putAt (layers w 4) p place) (19 * q + j) 0 ≡ getD (layers w 4) (19 * q + j) 0
+    unfolding putAt
+    put-off q j h k d =
+        by (ltb q p)
+        (λ t.
+        let e : q < p = ltb-true q p t in
+        List·getD-append (take (19 * p) (layers w 4)) (placeWords place ++ drop (19 * p + 19) (layers w 4)) 0 (19 * q + j) (let a = cut in omega arith)
+        ∙ (let b : 19 * q + j < 19 * p = omega arith in rw getD-take))
+        (λ t.
+        let e : p ≤ q = ltb-false q p t in
+        let r = 19 * q + j - (19 * p + 19) in
+        let f : 19 * q + j ≡ length (take (19 * p) (layers w 4)) + (19 + r) = (let a = cut in omega (arith, d)) in
+        let g : 19 + r ≡ length (placeWords place) + r = (let b = long place n16 in omega arith) in
+        let s : 19 * p + 19 + r ≡ 19 * q + j = omega (arith, d) in
+        ap (λ i. getD (putAt (layers w 4) p place) i 0) f
+        ∙ getD-append-add (take (19 * p) (layers w 4)) (placeWords place ++ drop (19 * p + 19) (layers w 4)) (19 + r) 0
+        ∙ ap (λ i. getD (placeWords place ++ drop (19 * p + 19) (layers w 4)) i 0) g
+        ∙ getD-append-add (placeWords place) (drop (19 * p + 19) (layers w 4)) r 0
+        ∙ getD-drop (19 * p + 19) (layers w 4) r 0
+        ∙ ap (λ i. getD (layers w 4) i 0) s)
+
+    pub table-there : (d : List ℕ) → d ≡ allTidied w → {x : List ℕ} → x ≡ placeSet d p place → x ≡ tablePut w p place
+    unfolding tablePut placeSet wordsAfter
+    table-there d e i =
+        let all : d ≡ layers w 4 = e ∙ all-layers w in
+        let n : length d ≡ 76 = ap length all ∙ layers-length w 4 ∙ n76 in
+        let i' : _ ≡ putAt d p place = rw (eq-eqb (length d) 76 n, lt-ltb p 4 l) at i in
+        rw (eq-eqb (length w) 76 n76, lt-ltb p 4 l) (i' ∙ ap (λ x. putAt x p place) all ∙ these (putAt (layers w 4) p place) put-76 put-at put-off)
+
+  module _ (p n size : ℕ) (l : p < 4) (m : n < 16) where
+    -- one length among tidied numbers
+    set-at : (j : ℕ) → j < 19 → getD (set (layers w 4) (19 * p + 3 + n) size) (19 * p + j) 0 ≡ getD (placeWords (lengthened (placeIn w p) n size)) j 0
+    set-at j k =
+        let f = lengths-16 p l in
+        ⊎-elim
+        (λ (b : j ≡ n + 3).
+        let i : 19 * p + j ≡ 19 * p + 3 + n = omega arith in
+        let y : (if eqb j (n + 3) then size else getD (placeWords (placeIn w p)) j 0) ≡ size = rw (eq-eqb j (n + 3) b) in
+        ap (λ k. getD (set (layers w 4) (19 * p + 3 + n) size) k 0) i
+        ∙ getD-set-same (layers w 4) (19 * p + 3 + n) size 0 (let g = layers-length w 4 in omega arith)
+        ∙ sym (longer (placeIn w p) n size j (omega arith) ∙ y))
+        (λ b.
+        let y : (if eqb j (n + 3) then size else getD (placeWords (placeIn w p)) j 0) ≡ getD (placeWords (placeIn w p)) j 0
+        = rw (ne-eqb j (n + 3) b) in
+        getD-set-other (layers w 4) (19 * p + 3 + n) (19 * p + j) size 0 (λ i. b (omega arith))
+        ∙ tidy-all w n76 p j k l
+        ∙ sym (longer (placeIn w p) n size j (omega arith) ∙ y))
+        (same-or j (n + 3))
+
+    written : set (layers w 4) (19 * p + 3 + n) size ≡ shelfWords (withLength (shelfIn w) p n size)
+    written =
+        these p l (lengthened (placeIn w p) n size) (length-set (placeIn w p .lengths) n size ∙ lengths-16 p l)
+        (set (layers w 4) (19 * p + 3 + n) size)
+        (length-set (layers w 4) (19 * p + 3 + n) size ∙ layers-length w 4 ∙ n76)
+        set-at
+        (λ q j h k d. getD-set-other (layers w 4) (19 * p + 3 + n) (19 * q + j) size 0 (λ i. d (omega arith)))
+        ∙ ap (λ x. shelfWords (withPlace (shelfIn w) p (lengthened x n size))) (sym (place-at w p l))
+
+    pub put-there : (d : List ℕ) → d ≡ allTidied w → {x : List ℕ} → x ≡ set d (19 * p + 3 + n) size → x ≡ lengthPut w p n size
+    unfolding lengthPut wordsAfter
+    put-there d e i =
+        rw (eq-eqb (length w) 76 n76, lt-ltb p 4 l, lt-ltb n 16 m) (i ∙ ap (λ x. set x (19 * p + 3 + n) size) (e ∙ all-layers w) ∙ written)
 
 module _ (w : List ℕ) (p n size : ℕ) where
   pub put-nowhere : (length w ≡ 76 → ⊥) → w ≡ lengthPut w p n size
@@ -360,3 +382,21 @@ module _ (w : List ℕ) (p n size : ℕ) where
 pub put-after : (w : List ℕ) (p n size : ℕ) → length w ≡ 76 → p < 4 → n < 16 → lengthPut w p n size ≡ wordsAfter w (withLength (shelfAt w) p n size)
 unfolding lengthPut shelfAt
 put-after w p n size e l m = rw (eq-eqb (length w) 76 e, lt-ltb p 4 l, lt-ltb n 16 m)
+
+module _ (w : List ℕ) (p : ℕ) (place : Place) where
+  pub table-nowhere : (length w ≡ 76 → ⊥) → w ≡ tablePut w p place
+  unfolding tablePut
+  table-nowhere d = rw (ne-eqb (length w) 76 d)
+
+  pub table-no-place : 4 ≤ p → w ≡ tablePut w p place
+  unfolding tablePut
+  table-no-place h = rw (le-ltb p 4 h) (sym (go (eqb (length w) 76)))
+    where
+      go : (b : Bool) → (if b && false then wordsAfter w (withPlace (shelfIn w) p place) else w) ≡ w
+      go true = refl
+      go false = refl
+
+  -- the numbers of the record that the numbers are, with that table
+  pub table-after : length w ≡ 76 → p < 4 → tablePut w p place ≡ wordsAfter w (withPlace (shelfAt w) p place)
+  unfolding tablePut shelfAt
+  table-after e l = rw (eq-eqb (length w) 76 e, lt-ltb p 4 l)
