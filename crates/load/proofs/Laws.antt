@@ -1,21 +1,27 @@
 -- Laws on storing a file's sections, for each turn of the loop that does it.
---   lies, last-low                                        a section lies in the file and fits a berth; the last number is below 16
---   stored-none, stored-one, stored-skipped, stored-end   the store, turn by turn
+--   no-section, starts-past, ends-within, ends     whether a section lies in the file
+--   lies, last-low     a section lies in the file and fits a berth; the last number is below 16
+--   placed-none, placed-one, placed-skipped, placed-over, placed-end      the store, turn by turn
+--   all-stored         of an accepted file every section is put
 use mathlib.Core.Path.{_≡_, refl, sym, ap, _∙_}
-use mathlib.Core.Bool.{true}
+use mathlib.Core.Bool.{true, false, not}
 use mathlib.Core.List.{List}
 use mathlib.Core.Logic.{⊎-elim}
 use Prim.Native.Nat.{ℕ, zero, suc, _+_, _-_, _<_, _≤_}
 use native.Mathlib.Nat.{eq-or-lt-of-le}
 use native.Mathlib.Numerals.{add-one}
 use native.Mathlib.Omega.{arith}
+use lib.Dec.{eqb, leb}
 use lib.ListN.{length, getD}
-use borrow.Author.Tests.{eq-eqb, ne-eqb, le-leb}
+use borrow.Author.Tests.{eq-eqb, ne-eqb, eqb-false, le-leb, lt-leb, leb-true, leb-false, lt-ltb, le-ltb}
 use Rattle.base.specs.Bytes.{part}
 use Rattle.base.proofs.Bytes.{length-part}
-use Rattle.berth.specs.Berth.{berthSize, sections, put}
+use Rattle.base.proofs.Cases.{by, and-right}
+use Rattle.berth.specs.Berth.{berthSize, places, sections, storeSize, put}
 use Rattle.berth.specs.Calls.{isBerth, goesIn, putIn}
-use Rattle.load.specs.Steps.{Within}
+use Rattle.berth.proofs.Berths.{put-length}
+use Rattle.berth.proofs.Steps.{is-berth}
+use Rattle.load.specs.Steps.{Within, liesIn, placedBelow, eachStored}
 use Rattle.load.specs.Load.{storedBelow}
 
 -- a section that fits its berth is put there
@@ -23,6 +29,29 @@ pub put-in : (store : List ℕ) (p n : ℕ) (section : List ℕ) → isBerth (le
     putIn store p n section ≡ put store p n section
 unfolding putIn goesIn
 put-in store p n section b h = rw (b, le-leb _ _ h)
+
+-- whether a section lies in the file, by tests that no sum can overflow
+module _ (total start size : ℕ) where
+  pub no-section : size ≡ 0 → false ≡ liesIn total start size
+  unfolding liesIn
+  no-section e = rw (eq-eqb size 0 e)
+
+  module _ (d : size ≡ 0 → ⊥) where
+    pub starts-past : total < start → false ≡ liesIn total start size
+    unfolding liesIn
+    starts-past h = rw (ne-eqb size 0 d, lt-leb (start + size) total (omega arith))
+
+    pub ends-within : start ≤ total → leb size (total - start) ≡ liesIn total start size
+    unfolding liesIn
+    ends-within h =
+        rw (ne-eqb size 0 d)
+        (by (leb size (total - start))
+        (λ t. rw (t, le-leb (start + size) total (let u : size ≤ total - start = leb-true _ _ t in omega arith)))
+        (λ t. rw (t, lt-leb (start + size) total (let u : total - start < size = leb-false _ _ t in omega arith))))
+
+  pub ends : liesIn total start size ≡ true → start + size ≤ total
+  unfolding liesIn
+  ends e = leb-true _ _ (and-right (not (eqb size 0)) _ e)
 
 -- where a section of that size begins
 pub record Lies (file : List ℕ) (start size : ℕ) : Type 0 where
@@ -44,45 +73,83 @@ none-above : (file starts lengths : List ℕ) (last : ℕ) → Within file start
 unfolding Within
 none-above file starts lengths last w n h = ⊎-elim (λ z. z) (λ l. absurd (let k : n ≤ last = l .2 in omega arith)) (w .1 n)
 
-module _ (file starts lengths old : List ℕ) (p : ℕ) where
-  pub stored-none : old ≡ storedBelow 0 file starts lengths old p
-  unfolding storedBelow
-  stored-none = refl
+module _ (old : List ℕ) (p : ℕ) (file starts lengths : List ℕ) where
+  pub placed-none : old ≡ placedBelow 0 old p file starts lengths
+  unfolding placedBelow
+  placed-none = refl
 
   -- a section is lent from its start to its end
-  pub stored-one : (store : List ℕ) (k size : ℕ) → isBerth (length store) p k ≡ true → size ≡ getD lengths k 0 → (size ≡ 0 → ⊥)
-      → Lies file (getD starts k 0) size → store ≡ storedBelow k file starts lengths old p
-      → putIn store p k (part file (getD starts k 0) (getD starts k 0 + size - getD starts k 0)) ≡ storedBelow (k + 1) file starts lengths old p
-  unfolding storedBelow
-  stored-one store k size b e h l q =
-      let start = getD starts k 0 in
-      let i : start + size ≤ length file = l .inside in
-      let n : start + size - start ≡ size = omega arith in
-      let f : length (part file start size) ≤ berthSize = rw (length-part file start size i) (l .fits) in
-      let z : getD lengths k 0 ≡ 0 → ⊥ = λ z. h (e ∙ z) in
-      ap (λ m. putIn store p k (part file start m)) n
-      ∙ put-in store p k (part file start size) b f
-      ∙ rw (add-one, ne-eqb (getD lengths k 0) 0 z, ← q, ← e)
+  pub placed-one : (store : List ℕ) (k size : ℕ) → size ≡ getD lengths k 0
+      → liesIn (length file) (getD starts k 0) size ≡ true
+      → store ≡ placedBelow k old p file starts lengths
+      → putIn store p k (part file (getD starts k 0) (getD starts k 0 + size - getD starts k 0)) ≡ placedBelow (k + 1) old p file starts lengths
+  unfolding placedBelow
+  placed-one store k size e t q =
+      let n : getD starts k 0 + size - getD starts k 0 ≡ size = omega arith in
+      let i : liesIn (length file) (getD starts k 0) (getD lengths k 0) ≡ true = ap (liesIn (length file) (getD starts k 0)) (sym e) ∙ t in
+      rw (add-one, i, ← q, n, e)
 
-  pub stored-skipped : (store : List ℕ) (k size : ℕ) → size ≡ getD lengths k 0 → size ≡ 0
-      → store ≡ storedBelow k file starts lengths old p → store ≡ storedBelow (k + 1) file starts lengths old p
-  unfolding storedBelow
-  stored-skipped store k size e h q = q ∙ rw (add-one, eq-eqb (getD lengths k 0) 0 (sym e ∙ h))
+  pub placed-skipped : (store : List ℕ) (k size : ℕ) → size ≡ getD lengths k 0
+      → liesIn (length file) (getD starts k 0) size ≡ false
+      → store ≡ placedBelow k old p file starts lengths → store ≡ placedBelow (k + 1) old p file starts lengths
+  unfolding placedBelow
+  placed-skipped store k size e t q =
+      let i : liesIn (length file) (getD starts k 0) (getD lengths k 0) ≡ false = ap (liesIn (length file) (getD starts k 0)) (sym e) ∙ t in
+      q ∙ rw (add-one, i)
 
-  stored-rest : (last : ℕ) → Within file starts lengths last → (m : ℕ) → last + 1 ≤ m
-      → storedBelow m file starts lengths old p ≡ storedBelow (last + 1) file starts lengths old p
+  pub placed-over : (count : ℕ) → sections < count → old ≡ eachStored old p file starts lengths count
+  unfolding eachStored
+  placed-over count h = rw (lt-ltb sections count h)
+
+  pub placed-end : (count : ℕ) (store : List ℕ) (k : ℕ) → count ≤ sections → k ≡ count → store ≡ placedBelow k old p file starts lengths
+      → store ≡ eachStored old p file starts lengths count
+  unfolding eachStored
+  placed-end count store k h e q = rw (le-ltb sections count h) (q ∙ ap (λ n. placedBelow n old p file starts lengths) e)
+
+-- of an accepted file every section is put, and none is above the last
+module _ (old : List ℕ) (p : ℕ) (file starts lengths : List ℕ) (last : ℕ) (w : Within file starts lengths last) (n : length old ≡ storeSize) (l : p < places) where
+  -- a section that is put
+  there : (k : ℕ) → eqb (getD lengths k 0) 0 ≡ false → Lies file (getD starts k 0) (getD lengths k 0)
+  there k t = lies file starts lengths last w k (getD lengths k 0) refl (eqb-false _ _ t)
+
+  sized : (k : ℕ) → eqb (getD lengths k 0) 0 ≡ false → length (part file (getD starts k 0) (getD lengths k 0)) ≤ berthSize
+  sized k t = rw (length-part file (getD starts k 0) (getD lengths k 0) (there k t .inside)) (there k t .fits)
+
+  kept : (k : ℕ) → k ≤ sections → length (storedBelow k file starts lengths old p) ≡ storeSize
   unfolding storedBelow
-  stored-rest last w zero h = absurd (omega arith)
-  stored-rest last w (suc m) h =
+  kept zero h = n
+  kept (suc k) h =
+      let ih = kept k (omega arith) in
+      by (eqb (getD lengths k 0) 0)
+      (λ t. rw t ih)
+      (λ t. rw t (put-length (storedBelow k file starts lengths old p) ih p k l (omega arith) (part file (getD starts k 0) (getD lengths k 0)) (sized k t) ∙ ih))
+
+  as-defined : (k : ℕ) → k ≤ sections → placedBelow k old p file starts lengths ≡ storedBelow k file starts lengths old p
+  unfolding placedBelow storedBelow liesIn
+  as-defined zero h = refl
+  as-defined (suc k) h =
+      let q = as-defined k (omega arith) in
+      by (eqb (getD lengths k 0) 0)
+      (λ t. rw t q)
+      (λ t.
+      rw (t, le-leb _ _ (there k t .inside), q)
+      (put-in (storedBelow k file starts lengths old p) p k (part file (getD starts k 0) (getD lengths k 0))
+      (is-berth _ p k (kept k (omega arith)) l (omega arith))
+      (sized k t)))
+
+  rest : (m : ℕ) → last + 1 ≤ m → storedBelow m file starts lengths old p ≡ storedBelow (last + 1) file starts lengths old p
+  unfolding storedBelow
+  rest zero h = absurd (omega arith)
+  rest (suc m) h =
       ⊎-elim
       (λ e. ap (λ k. storedBelow k file starts lengths old p) (sym e))
-      (λ l.
+      (λ g.
       let z : getD lengths m 0 ≡ 0 = none-above file starts lengths last w m (omega arith) in
-      rw (eq-eqb (getD lengths m 0) 0 z) (stored-rest last w m (omega arith)))
+      rw (eq-eqb (getD lengths m 0) 0 z) (rest m (omega arith)))
       (eq-or-lt-of-le h)
 
-  pub stored-end : (last : ℕ) → Within file starts lengths last → (store : List ℕ) (k : ℕ) → k ≡ last + 1 →
-      store ≡ storedBelow k file starts lengths old p → store ≡ storedBelow sections file starts lengths old p
-  stored-end last w store k e q =
-      let l : last < sections = last-low file starts lengths last w in
-      q ∙ ap (λ n. storedBelow n file starts lengths old p) e ∙ sym (stored-rest last w sections (omega arith))
+  pub all-stored : eachStored old p file starts lengths (last + 1) ≡ storedBelow sections file starts lengths old p
+  unfolding eachStored
+  all-stored =
+      let h : last < sections = last-low file starts lengths last w in
+      rw (le-ltb sections (last + 1) (omega arith)) (as-defined (last + 1) (omega arith) ∙ sym (rest sections (omega arith)))

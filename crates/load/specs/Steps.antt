@@ -1,10 +1,15 @@
--- What a step of loading asks of the scan.
-use Prim.Native.Nat.{ℕ, _+_, _<_, _≤_}
+-- The steps of loading: storing sections from wherever they are said to start, and what an accepted file says of that.
+use Prim.Native.Nat.{ℕ, zero, suc, _+_, _<_, _≤_}
 use mathlib.Core.Path.{_≡_}
 use mathlib.Core.Logic.{_⊎_}
+use mathlib.Core.Bool.{Bool, not, _&&_}
 use mathlib.Core.List.{List}
+use lib.Dec.{eqb, ltb, leb}
 use lib.ListN.{length, getD}
+use Rattle.base.specs.Choice.{if_then_else_}
+use Rattle.base.specs.Bytes.{part}
 use Rattle.berth.specs.Berth.{berthSize, sections}
+use Rattle.berth.specs.Calls.{putIn}
 
 -- each section that was found lies in the file, fits a berth, and has no number above the last, which is below 16
 unfoldable pub Within : List ℕ → List ℕ → List ℕ → ℕ → Type 0
@@ -13,3 +18,19 @@ Within file starts lengths last =
     × ((n : ℕ)
     → (getD lengths n 0 ≡ 0)
     ⊎ ((getD starts n 0 + getD lengths n 0 ≤ length file) × (getD lengths n 0 ≤ berthSize) × (n ≤ last)))
+
+-- there is a section of that size, and it lies in a file of a length
+unfoldable pub liesIn : ℕ → ℕ → ℕ → Bool
+liesIn total start size = not (eqb size 0) && leb (start + size) total
+
+-- the store after those of the first k sections that lie in the file are put into place p
+unfoldable pub placedBelow : ℕ → List ℕ → ℕ → List ℕ → List ℕ → List ℕ → List ℕ
+placedBelow zero store p file starts lengths = store
+placedBelow (suc k) store p file starts lengths =
+    if liesIn (length file) (getD starts k 0) (getD lengths k 0) then
+    putIn (placedBelow k store p file starts lengths) p k (part file (getD starts k 0) (getD lengths k 0))
+    else placedBelow k store p file starts lengths
+
+-- .. of a count of sections, which is at most 16
+unfoldable pub eachStored : List ℕ → ℕ → List ℕ → List ℕ → List ℕ → ℕ → List ℕ
+eachStored store p file starts lengths count = if ltb sections count then store else placedBelow count store p file starts lengths

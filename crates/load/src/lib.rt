@@ -1,5 +1,6 @@
 // Loads a file's table onto the shelf (document 01, "The shelf file"). Nothing is written before the last fault is ruled out.
 use berth::PLACES;
+use berth::SECTIONS;
 use berth::STORE;
 use file::Scan;
 use file::Scanned;
@@ -8,12 +9,12 @@ use shelf::Key;
 use shelf::Place;
 use shelf::Shelf;
 ghost use mathlib.Core.Path.{_≡_};
-ghost use Prim.Native.Nat.{_+_, _<_};
+ghost use Prim.Native.Nat.{_+_};
 ghost use lib.ListN.{length};
-ghost use Rattle.berth.specs.Berth.{sections, places, storeSize};
+ghost use Rattle.berth.specs.Berth.{storeSize};
 ghost use Rattle.offer.specs.Offer.{keyOf};
-ghost use Rattle.load.specs.Steps.{Within};
-ghost use Rattle.load.specs.Load.{refused as refusedOf, after, loadedPlace, storedBelow, tableOf, loadOf};
+ghost use Rattle.load.specs.Steps.{Within, liesIn, eachStored};
+ghost use Rattle.load.specs.Load.{refused as refusedOf, after, loadedPlace, tableOf, loadOf};
 
 // The answer to loading a file.
 pub enum Loaded {
@@ -35,25 +36,39 @@ fn wide(x: u16) -> usize
     x as usize
 }
 
-// Puts each of the file's sections, of which none has a number above the last, into its berth of place p.
-fn store_each(
+// Whether there is a section of that size which lies, from its start on, in a file of a length.
+fn lies(total: usize, start: usize, size: usize) -> bool
+    ensures { λ r. ⌜ r ≡ liesIn total start size ⌝ }
+{
+    if size == 0 {
+        return false;
+    }
+    if total < start {
+        return false;
+    }
+    size <= total - start
+}
+
+// Puts each section of a file that has a number below the count into its berth of place p. What does not lie in the file is not
+// put, and nothing is where the count is above 16.
+pub fn store_each(
     store: &mut [u8],
     p: usize,
     file: &[u8],
     starts: [usize; 16],
     lengths: [u16; 16],
-    last: u8,
+    count: usize,
 )
-    requires { ⌜ (p < places) × (length (now store) ≡ storeSize) ⌝ }
-    requires { ⌜ Within (now file) starts lengths last ⌝ }
-    ensures { λ _. ⌜ now (store .exit) ≡ storedBelow sections (now (file .entry)) starts lengths (now (store .entry)) p ⌝ }
+    ensures { λ _. ⌜ now (store .exit) ≡ eachStored (now (store .entry)) p (now (file .entry)) starts lengths count ⌝ }
 {
-    let count = last as usize + 1;
+    if SECTIONS < count {
+        return;
+    }
     let mut n: usize = 0;
     while n < count {
         let size = wide(lengths[n]);
-        if size != 0 {
-            let start = starts[n];
+        let start = starts[n];
+        if lies(file.len(), start, size) {
             let end = start + size;
             berth::put(store, p, n, &file[start..end]);
         }
@@ -62,7 +77,7 @@ fn store_each(
 }
 
 // The key of a section.
-fn key_of(header: Header) -> Key
+pub fn key_of(header: Header) -> Key
     ensures { λ r. ⌜ r ≡ keyOf header ⌝ }
 {
     Key {
@@ -72,7 +87,7 @@ fn key_of(header: Header) -> Key
 }
 
 // A place with the table of a file.
-fn loaded_place(header: Header, lengths: [u16; 16]) -> Place
+pub fn loaded_place(header: Header, lengths: [u16; 16]) -> Place
     ensures { λ r. ⌜ r ≡ loadedPlace header lengths ⌝ }
 {
     let key = key_of(header);
@@ -117,7 +132,8 @@ fn load_table(
     }
     let starts = scanned.starts;
     let lengths = scanned.lengths;
-    store_each(store, p, file, starts, lengths, header.last);
+    let count = header.last as usize + 1;
+    store_each(store, p, file, starts, lengths, count);
     let place = loaded_place(header, lengths);
     let mut next = shelf;
     next.places[p] = place;

@@ -14,10 +14,12 @@ use borrow.Author.Tests.{eq-eqb}
 use Rattle.berth.specs.Berth.{storeSize}
 use Rattle.berth.specs.Calls.{putIn}
 use Rattle.offer.proofs.Stands.{put-at}
-use Rattle.offer_quick.specs.Frequent.{frequentOf, lengthPut}
+use Rattle.offer_quick.specs.Frequent.{frequentOf}
+use Rattle.shelf_places.specs.Places.{lengthPut}
 use Rattle.offer_quick.specs.declared.Frequent.the-variants.{Repeats, Adds}
 use Rattle.offer_quick.proofs.Made.{repeat-made, add-made}
-use Rattle.offer_quick.proofs.Numbers.{counted, put-after}
+use Rattle.shelf_places.proofs.Here.{counted}
+use Rattle.shelf_places.proofs.Numbers.{put-after}
 use Rattle.shelf_words.specs.Words.{count, shelfAt, wordsAfter}
 use Rattle.begin.specs.Begin as Begin
 use Rattle.begin.specs.declared.Beginning.{Beginning}

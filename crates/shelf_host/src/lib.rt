@@ -97,7 +97,7 @@ pub fn offer_lent(words: &mut [u16], store: &mut [u8], payload: &[u8]) -> u16
         Frequent::Adds(p, n) => {
             let size = payload.len() as u16;
             berth::put(store, p, n, payload);
-            offer_quick::put_length(words, p, n, size);
+            shelf_places::put_length(words, p, n, size);
             ADDED
         }
         Frequent::Other => by_record(words, store, payload),

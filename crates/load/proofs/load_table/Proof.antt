@@ -1,5 +1,9 @@
 -- `load::load_table` meets its promise.
 use Rattle.load.proofs.Answers.{table-13, table-9, table-done}
+use mathlib.Core.Path.{_∙_}
+use Prim.Native.Nat.{_<_}
+use native.Mathlib.Omega.{arith}
+use Rattle.load.proofs.Laws.{all-stored}
 use borrow.Author.Needs.{needs}
 use Rattle.load.proofs.load_table.Statement.{statement}
 use Rattle.load.proofs.load_table.Tie as tie
@@ -27,6 +31,12 @@ returns-2 c =
     table-9 _ _ _ _ _ _ _ (c .before .before .before .before .before .key-of .ensures) (c .before .before .before .before .place-of .ensures .0) (c .before .before .before .if1 .left)
     _ (c .before .before .free-of .ensures .0) (c .refused2 .ensures) (c .before .if2 .taken)
 
+cast-count : tie.Need-cast-count
+cast-count c = search needs
+
+add-count : tie.Need-add-count
+add-count c = search needs
+
 store-each-requires : tie.Need-store-each-requires
 store-each-requires c κs = search needs
 
@@ -44,8 +54,12 @@ same-length c = search needs
 
 returns-3 : tie.Need-returns-3
 returns-3 c =
-    table-done _ _ _ _ _ _ _ (c .before .before .before .before .before .before .before .before .before .before .before .key-of .ensures) (c .before .before .before .before .before .before .before .before .before .before .place-of .ensures .0) (c .before .before .before .before .before .before .before .before .before .if1 .left)
-    _ (c .before .before .before .before .before .before .before .before .free-of .ensures .0) _ _ (c .before .before .before .before .before .before .before .if2 .left) (c .loaded-place .ensures) (c .before .before .before .store-each .ensures)
+    let start = c .before .before .before .before .before .before .before .before .before .before .before .before .before .before .before in
+    let p = c .before .before .before .before .before .before .before .before .before .free-of in
+    let free : p .result < 4 = omega (arith, p .ensures .1, c .before .before .before .before .before .before .before .before .if2 .left) in
+    table-done _ _ _ _ _ _ _ (c .before .before .before .before .before .before .before .before .before .before .before .before .key-of .ensures) (c .before .before .before .before .before .before .before .before .before .before .before .place-of .ensures .0) (c .before .before .before .before .before .before .before .before .before .before .if1 .left)
+    _ (c .before .before .before .before .before .before .before .before .before .free-of .ensures .0) _ _ (c .before .before .before .before .before .before .before .before .if2 .left) (c .loaded-place .ensures)
+    (c .before .before .before .store-each .ensures ∙ all-stored _ _ _ _ _ (start .args .header .last) (start .pre .1) (start .pre .0) free)
 
 pub load-table-spec : {M : Type 1} → statement M
 load-table-spec =
@@ -58,6 +72,8 @@ load-table-spec =
     free-of-requires
     refused-requires-2
     returns-2
+    cast-count
+    add-count
     store-each-requires
     loaded-place-requires
     mul-place

@@ -1,36 +1,34 @@
--- `load::store_each` meets its promise: after each turn those of the sections passed that the file has are stored.
+-- `load::store_each` meets its promise: after each turn those of the sections passed that lie in the file are stored.
 use mathlib.Core.Path.{_≡_, ap, _∙_}
 use mathlib.Core.Logic.{⊎-elim}
 use Prim.Native.Nat.{_≤_, _-_}
 use native.Mathlib.Omega.{arith}
 use lib.ListN.{length}
 use borrow.Author.Needs.{needs}
-use Rattle.berth.specs.Berth.{sections, storeSize}
-use Rattle.berth.proofs.Steps.{is-berth}
-use Rattle.load.specs.Load.{storedBelow}
-use Rattle.load.proofs.Laws.{lies, last-low, stored-none, stored-one, stored-skipped, stored-end}
+use Rattle.berth.specs.Berth.{sections}
+use Rattle.load.specs.Steps.{placedBelow}
+use Rattle.load.proofs.Laws.{ends, placed-none, placed-one, placed-skipped, placed-over, placed-end}
+use Rattle.base.proofs.Tests.{told}
 use Rattle.load.proofs.store_each.Statement.{statement}
 use Rattle.load.proofs.store_each.Tie as tie
 
 abbrev Inv-loop : tie.InvT-loop
-Inv-loop store₀ p file last starts lengths count n₀ store n =
+Inv-loop store₀ p file count starts lengths n₀ store n =
     (n ≤ count)
     × (count ≤ sections)
-    × (length store ≡ storeSize)
+    × (length store ≡ length store₀)
     × (length starts ≡ sections)
     × (length lengths ≡ sections)
-    × (store ≡ storedBelow n file starts lengths store₀ p)
+    × (store ≡ placedBelow n store₀ p file starts lengths)
 
 abbrev μ-loop : tie.MeasureT-loop
-μ-loop store₀ p file last starts lengths count n₀ store n = count - n
+μ-loop store₀ p file count starts lengths n₀ store n = count - n
 
-add-count : tie.Need-add-count Inv-loop μ-loop
-add-count c = search needs
+returns : tie.Need-returns Inv-loop μ-loop
+returns c = placed-over _ _ _ _ _ _ (c .if1 .taken)
 
 loop-holds : tie.Need-loop-holds Inv-loop μ-loop
-loop-holds c =
-    let l = last-low _ _ _ _ (c .before .before .pre .1) in
-    (search needs, omega (arith, l), search needs, search needs, search needs, stored-none _ _ _ _ _)
+loop-holds c = (search needs, search needs, search needs, search needs, search needs, placed-none _ _ _ _ _)
 
 mul-wide : tie.Need-mul-wide Inv-loop μ-loop
 mul-wide c = search needs
@@ -47,10 +45,11 @@ mul-start c = search needs
 array-read-start : tie.Need-array-read-start Inv-loop μ-loop
 array-read-start c = search needs
 
+lies-requires : tie.Need-lies-requires Inv-loop μ-loop
+lies-requires c κs = search needs
+
 add-end : tie.Need-add-end Inv-loop μ-loop
-add-end c =
-    let l = lies _ _ _ _ (c .before .before .before .before .before .before .pre .1) _ _ (c .before .wide .ensures) (c .if1 .taken) in
-    omega (arith, l .inside)
+add-end c = let l = ends _ _ _ (told (c .before .lies .ensures) (c .if2 .taken)) in omega arith
 
 sub-put : tie.Need-sub-put Inv-loop μ-loop
 sub-put c = search needs
@@ -59,9 +58,7 @@ part-put-start : tie.Need-part-put-start Inv-loop μ-loop
 part-put-start c = search needs
 
 part-put-end : tie.Need-part-put-end Inv-loop μ-loop
-part-put-end c =
-    let l = lies _ _ _ _ (c .before .before .before .before .before .before .before .pre .1) _ _ (c .before .before .wide .ensures) (c .before .if1 .taken) in
-    omega (arith, l .inside)
+part-put-end c = let l = ends _ _ _ (told (c .before .before .lies .ensures) (c .before .if2 .taken)) in omega arith
 
 put-requires : tie.Need-put-requires Inv-loop μ-loop
 put-requires c κs = search needs
@@ -74,10 +71,9 @@ loop-less c = search needs
 
 loop-again : tie.Need-loop-again Inv-loop μ-loop
 loop-again c =
-    let at = c .before .before .before .loop in
-    let start = c .before .before .before .before .before .before in
-    let size = c .before .wide in
-    let b = is-berth (length (at .store)) (start .args .p) (at .n) (at .inv .2) (search needs) (search needs) in
+    let at = c .before .before .before .before .loop in
+    let size = c .before .before .wide in
+    let found = c .before .lies in
     ⊎-elim
     (λ w. (
       search needs,
@@ -85,9 +81,7 @@ loop-again c =
       ap length (w .6) ∙ w .3 .kept .0 ∙ at .inv .2,
       at .inv .3,
       at .inv .4,
-      w .6
-          ∙ w .3 .ensures
-          ∙ stored-one _ _ _ _ _ _ _ _ b (size .ensures) (w .0 .taken) (lies _ _ _ _ (start .pre .1) _ _ (size .ensures) (w .0 .taken)) (at .inv .5),
+      w .6 ∙ w .3 .ensures ∙ placed-one _ _ _ _ _ _ _ _ (size .ensures) (told (found .ensures) (w .0 .taken)) (at .inv .5),
     ))
     (λ w. (
       search needs,
@@ -95,17 +89,15 @@ loop-again c =
       ap length (w .1) ∙ at .inv .2,
       at .inv .3,
       at .inv .4,
-      w .1 ∙ stored-skipped _ _ _ _ _ _ _ _ (size .ensures) (w .0 .left) (at .inv .5),
+      w .1 ∙ placed-skipped _ _ _ _ _ _ _ _ (size .ensures) (told (found .ensures) (w .0 .left)) (at .inv .5),
     ))
-    (c .if1 .came)
+    (c .if2 .came)
 
 same-length : tie.Need-same-length Inv-loop μ-loop
 same-length c = search needs
 
-returns : tie.Need-returns Inv-loop μ-loop
-returns c =
-    let start = c .before .before .before .before in
-    stored-end _ _ _ _ _ (start .args .last) (start .pre .1) _ _ (omega arith) (c .before .loop .inv .5)
+returns-2 : tie.Need-returns-2 Inv-loop μ-loop
+returns-2 c = placed-end _ _ _ _ _ _ _ _ (search needs) (omega arith) (c .before .loop .inv .5)
 
 pub store-each-spec : {M : Type 1} → statement M
 store-each-spec =
@@ -113,13 +105,14 @@ store-each-spec =
     (tie.spec
     Inv-loop
     μ-loop
-    add-count
+    returns
     loop-holds
     mul-wide
     array-read-wide
     wide-requires
     mul-start
     array-read-start
+    lies-requires
     add-end
     sub-put
     part-put-start
@@ -129,4 +122,4 @@ store-each-spec =
     loop-less
     loop-again
     same-length
-    returns)
+    returns-2)
