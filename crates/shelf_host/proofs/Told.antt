@@ -6,20 +6,24 @@
 --   re-word, re-code                         the same with equal numbers, or an equal answer
 use mathlib.Core.Path.{_≡_, refl, sym, ap, _∙_}
 use mathlib.Core.List.{List}
-use Prim.Native.Nat.{ℕ}
+use Prim.Native.Nat.{ℕ, _<_}
 use Rattle.shelf.specs.declared.Key.{Key}
 use Rattle.shelf.specs.declared.Shelf.{Shelf}
+use Rattle.shelf.specs.declared.Place.{Place}
+use Rattle.shelf.specs.Record.{withPlace}
+use Rattle.section.specs.declared.Header.{Header}
+use Rattle.file.specs.declared.Scanned.{Scanned}
 use lib.ListN.{length}
 use borrow.Author.Tests.{eq-eqb}
-use Rattle.berth.specs.Berth.{storeSize}
+use Rattle.berth.specs.Berth.{places, storeSize}
 use Rattle.berth.specs.Calls.{putIn}
 use Rattle.offer.proofs.Stands.{put-at}
 use Rattle.offer_quick.specs.Frequent.{frequentOf}
-use Rattle.shelf_places.specs.Places.{lengthPut}
+use Rattle.shelf_places.specs.Places.{lengthPut, tablePut}
 use Rattle.offer_quick.specs.declared.Frequent.the-variants.{Repeats, Adds}
 use Rattle.offer_quick.proofs.Made.{repeat-made, add-made}
 use Rattle.shelf_places.proofs.Here.{counted}
-use Rattle.shelf_places.proofs.Numbers.{put-after}
+use Rattle.shelf_places.proofs.Numbers.{put-after, table-after}
 use Rattle.shelf_words.specs.Words.{count, shelfAt, wordsAfter}
 use Rattle.begin.specs.Begin as Begin
 use Rattle.begin.specs.declared.Beginning.{Beginning}
@@ -37,7 +41,7 @@ use Rattle.ask.specs.Ask as Ask
 use Rattle.ask.specs.declared.Copied.{Copied}
 use Rattle.ask.specs.declared.Whole.{Whole}
 use Rattle.ask.specs.declared.Missing.{Missing}
-use Rattle.shelf_host.specs.Lent.{Lent, lent, beginLent, offered, offerLent, released, releaseLent, loaded, loadLent, out, copiedCode, copyOut, copyLent, savedCode, saveOut, saveLent, listedCode, listOut, listLent, wholeCode, wholeLent, missingCode, missingLent}
+use Rattle.shelf_host.specs.Lent.{Lent, lent, beginLent, offered, offerLent, released, releaseLent, loadedBy, loadLent, out, copiedCode, copyOut, copyLent, savedCode, saveOut, saveLent, listedCode, listOut, listLent, wholeCode, wholeLent, missingCode, missingLent}
 
 module _ (w st : List ℕ) (sh : Shelf) (read : sh ≡ shelfAt w) where
   pub offer-told : (p : List ℕ) (a : Offer.After) (said : Offered) (l : Lent) → a ≡ Offer.offerOf sh st p → a .said ≡ said → l ≡ offered w a said → l ≡ offerLent w st p
@@ -49,11 +53,6 @@ module _ (w st : List ℕ) (sh : Shelf) (read : sh ≡ shelfAt w) where
   unfolding releaseLent
   release-told key a said l e q r =
       r ∙ ap (released w a) (sym q) ∙ ap (λ (b : Release.After). released w b (b .said)) (e ∙ ap (λ s. Release.releaseOf s st key) read)
-
-  pub load-told : (file : List ℕ) (a : Load.After) (said : Loaded) (l : Lent) → a ≡ Load.loadOf sh st file → a .said ≡ said → l ≡ loaded w a said → l ≡ loadLent w st file
-  unfolding loadLent
-  load-told file a said l e q r =
-      r ∙ ap (loaded w a) (sym q) ∙ ap (λ (b : Load.After). loaded w b (b .said)) (e ∙ ap (λ s. Load.loadOf s st file) read)
 
   pub copy-told : (key : Key) (n : ℕ) (o o' : List ℕ) (r : Copied) (code : ℕ) → Ask.copy r o' ≡ Ask.copyOf sh st key n o → code ≡ copiedCode r → out code o' ≡ copyLent w st key n o
   unfolding copyLent
@@ -105,3 +104,23 @@ unfolding beginLent
 begin-told w st a b r st' e w' q =
     rw (eq-eqb (length st) storeSize a, eq-eqb (length w) count b)
     (re-word 0 w' (wordsAfter w (r .shelf)) st' q ∙ ap (λ (x : Begin.After). lent 0 (wordsAfter w (x .shelf)) (x .store)) e)
+
+-- a load on the numbers: what the layer's laws say of the record that they are
+module _ (w st file : List ℕ) where
+  pub load-refused : (n : ℕ) → Load.after (Load.refused (shelfAt w) n) st ≡ Load.loadOf (shelfAt w) st file → lent n w st ≡ loadLent w st file
+  unfolding loadLent
+  load-refused n e = ap (loadedBy w) e
+
+  pub load-told : (a : Load.After) {l : Lent} → l ≡ loadedBy w a → a ≡ Load.loadOf (shelfAt w) st file → l ≡ loadLent w st file
+  unfolding loadLent
+  load-told a e q = e ∙ ap (loadedBy w) q
+
+  module _ (n76 : length w ≡ count) (scanned : Scanned) (h : Header) where
+    pub table-refused : (n : ℕ) → Load.after (Load.refused (shelfAt w) n) st ≡ Load.tableOf (shelfAt w) st file scanned h
+        → lent n w st ≡ loadedBy w (Load.tableOf (shelfAt w) st file scanned h)
+    table-refused n e = ap (loadedBy w) e
+
+    pub table-put : (p : ℕ) (place : Place) (w' st' : List ℕ) → p < places → w' ≡ tablePut w p place
+        → record { said = Loaded.Done; shelf = withPlace (shelfAt w) p place; store = st' } ≡ Load.tableOf (shelfAt w) st file scanned h
+        → lent 0 w' st' ≡ loadedBy w (Load.tableOf (shelfAt w) st file scanned h)
+    table-put p place w' st' l q e = re-word 0 w' _ st' (q ∙ table-after w p place n76 l) ∙ ap (loadedBy w) e

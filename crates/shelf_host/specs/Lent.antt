@@ -66,9 +66,11 @@ abbrev pub loaded : List ℕ → Load.After → Loaded → Lent
 loaded words a Loaded.Done = lent 0 (wordsAfter words (a .shelf)) (a .store)
 loaded words a (Loaded.Refused n) = lent n words (a .store)
 
+abbrev pub loadedBy : List ℕ → Load.After → Lent
+loadedBy words a = loaded words a (a .said)
+
 unfoldable pub loadLent : List ℕ → List ℕ → List ℕ → Lent
-loadLent words store file =
-    loaded words (Load.loadOf (shelfAt words) store file) (Load.loadOf (shelfAt words) store file .said)
+loadLent words store file = loadedBy words (Load.loadOf (shelfAt words) store file)
 
 -- a call that fills an output answers from bit 8 up how many bytes now stand at its front: 65,535 at most, which is more than any
 -- section, file or listing has

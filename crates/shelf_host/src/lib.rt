@@ -3,14 +3,23 @@
 use ask::Copied;
 use ask::Missing;
 use ask::Whole;
+use berth::PLACES;
+use berth::STORE;
+use file::Scan;
+use file::Scanned;
 use listing::Listed;
-use load::Loaded;
 use offer::Offered;
 use offer_quick::Frequent;
 use release::Released;
 use save::Saved;
+use section::Header;
 use shelf::Key;
 ghost use mathlib.Core.Path.{_≡_};
+ghost use lib.ListN.{length};
+ghost use Rattle.berth.specs.Berth.{storeSize};
+ghost use Rattle.shelf_words.specs.Words.{count, shelfAt};
+ghost use Rattle.load.specs.Steps.{Within};
+ghost use Rattle.load.specs.Load.{tableOf};
 ghost use Rattle.shelf_host.specs.Lent.{
   lent,
   out as outOf,
@@ -18,6 +27,7 @@ ghost use Rattle.shelf_host.specs.Lent.{
   beginLent,
   offerLent,
   releaseLent,
+  loadedBy,
   loadLent,
   saveLent,
   wholeLent,
@@ -88,7 +98,7 @@ fn by_record(words: &mut [u16], store: &mut [u8], payload: &[u8]) -> u16
 pub fn offer_lent(words: &mut [u16], store: &mut [u8], payload: &[u8]) -> u16
     ensures { λ r. ⌜ lent r (now (words .exit)) (now (store .exit)) ≡ offerLent (now (words .entry)) (now (store .entry)) (now (payload .entry)) ⌝ }
 {
-    if store.len() != berth::STORE {
+    if store.len() != STORE {
         return by_record(words, store, payload);
     }
     let step = offer_quick::step_in(words, store, payload);
@@ -166,20 +176,51 @@ pub fn release_lent(words: &mut [u16], store: &mut [u8], key: Key) -> u8
     }
 }
 
-// Loads a file.
+// Puts the table that a file was found to hold into the lowest free place, where its key is not held.
+fn load_table(
+    words: &mut [u16],
+    store: &mut [u8],
+    file: &[u8],
+    scanned: Scanned,
+    header: Header,
+) -> u8
+    requires { ⌜ (length (now words) ≡ count) × (length (now store) ≡ storeSize) ⌝ }
+    requires { ⌜ Within (now file) (scanned .starts) (scanned .lengths) (header .last) ⌝ }
+    ensures { λ r. ⌜ lent r (now (words .exit)) (now (store .exit))
+        ≡ loadedBy (now (words .entry)) (tableOf (shelfAt (now (words .entry))) (now (store .entry)) (now (file .entry)) scanned header) ⌝ }
+{
+    let key = load::key_of(header);
+    if shelf_places::place_in(words, key) != PLACES {
+        return load::KEY_HELD;
+    }
+    let p = shelf_places::free_in(words);
+    if p == PLACES {
+        return offer::NO_FREE_PLACE;
+    }
+    let starts = scanned.starts;
+    let lengths = scanned.lengths;
+    let sections = header.last as usize + 1;
+    load::store_each(store, p, file, starts, lengths, sections);
+    let place = load::loaded_place(header, lengths);
+    shelf_places::put_table(words, p, place);
+    DONE
+}
+
+// Loads a file, as `load::load_file` does, on the numbers where they stand. The whole file is read before anything is written.
 pub fn load_lent(words: &mut [u16], store: &mut [u8], file: &[u8]) -> u8
     ensures { λ r. ⌜ lent r (now (words .exit)) (now (store .exit)) ≡ loadLent (now (words .entry)) (now (store .entry)) (now (file .entry)) ⌝ }
 {
-    let shelf = shelf_words::shelf_in(words);
-    let after = load::load_file(shelf, store, file);
-    let answer = after.answer;
-    let next = after.shelf;
+    if store.len() != STORE {
+        return shelf::STORE_SIZE;
+    }
+    if shelf_quick::spoiled_in(words) {
+        return shelf::SHELF_SPOILED;
+    }
+    let scanned = file::read_file(file);
+    let answer = scanned.answer;
     match answer {
-        Loaded::Refused(n) => n,
-        Loaded::Done => {
-            shelf_words::put_shelf(words, next);
-            DONE
-        }
+        Scan::Refused(n) => n,
+        Scan::Table(header) => load_table(words, store, file, scanned, header),
     }
 }
 
@@ -210,7 +251,7 @@ pub fn list_lent(file: &[u8], out: &mut [u8]) -> u32
 pub fn begin_lent(words: &mut [u16], store: &mut [u8]) -> u8
     ensures { λ r. ⌜ lent r (now (words .exit)) (now (store .exit)) ≡ beginLent (now (words .entry)) (now (store .entry)) ⌝ }
 {
-    if store.len() != berth::STORE {
+    if store.len() != STORE {
         return shelf::STORE_SIZE;
     }
     if words.len() != shelf_words::WORDS {
