@@ -1,13 +1,13 @@
--- `shelf_host::load_lent` keeps its promise by the layer's.
+-- `file_host::load_lent` keeps its promise by the layer's.
 use borrow.Author.Needs.{needs}
 use mathlib.Core.Path.{_≡_, refl, sym, ap, _∙_}
 use native.Mathlib.Omega.{arith}
-use Rattle.shelf_host.specs.Lent.{lent, offered, released, loaded, copiedCode, savedCode, listedCode, wholeCode, missingCode}
-use Rattle.shelf_host.proofs.Told.{load-told, re-word, re-code}
-use Rattle.shelf_host.proofs.load_lent.Statement.{statement}
-use Rattle.shelf_host.proofs.load_lent.Tie as tie
-use Rattle.shelf_host.proofs.load_lent.Reads as reads
-use Rattle.shelf_host.proofs.load_lent.Lts as lts
+use Rattle.answers.proofs.Same.{re-word}
+use Rattle.file_host.proofs.Told.{load-told}
+use Rattle.file_host.proofs.load_lent.Statement.{statement}
+use Rattle.file_host.proofs.load_lent.Tie as tie
+use Rattle.file_host.proofs.load_lent.Reads as reads
+use Rattle.file_host.proofs.load_lent.Lts as lts
 use Rattle.load.proofs.load_file.Reads as load-file-reads
 use Rattle.shelf_words.proofs.put_shelf.Reads as put-shelf-reads
 use Rattle.shelf_words.proofs.shelf_in.Reads as shelf-in-reads
