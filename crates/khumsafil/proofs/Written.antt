@@ -3,7 +3,7 @@
 use mathlib.Core.Path.{_≡_, ap, _∙_}
 use mathlib.Core.List.{List}
 use Prim.Native.Nat.{ℕ}
-use Rattle.shelf_host.specs.Lent.{out}
+use Rattle.answers.specs.Answers.{out}
 use Rattle.writer.specs.Writer.{countOf, write, writeOf}
 use Rattle.writer.specs.declared.Counted.{Counted}
 use Rattle.writer.specs.declared.Label.{Label}

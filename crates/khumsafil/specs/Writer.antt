@@ -1,7 +1,7 @@
 -- How the boundary answers the bench's section writer: a number whose low 8 bits are the refusal.
 use Prim.Native.Nat.{ℕ, _*_, _^_}
 use mathlib.Core.List.{List}
-use Rattle.shelf_host.specs.Lent.{Out, out, sizeCode}
+use Rattle.answers.specs.Answers.{Out, out, sizeCode}
 use Rattle.writer.specs.Writer.{Write, countOf, writeOf}
 use Rattle.writer.specs.declared.Counted.{Counted}
 use Rattle.writer.specs.declared.Label.{Label}

@@ -1,18 +1,9 @@
 // The shelf and its files. The record is 76 numbers that the host lends.
 ghost use mathlib.Core.Path.{_≡_};
-ghost use Rattle.shelf_host.specs.Lent.{
-  lent,
-  out as outOf,
-  beginLent,
-  offerLent,
-  releaseLent,
-  loadLent,
-  saveLent,
-  wholeLent,
-  missingLent,
-  copyLent,
-  listLent,
-};
+ghost use Rattle.answers.specs.Answers.{lent, out as outOf};
+ghost use Rattle.shelf_host.specs.Lent.{beginLent, offerLent, releaseLent};
+ghost use Rattle.ask_host.specs.Lent.{wholeLent, missingLent, copyLent};
+ghost use Rattle.file_host.specs.Lent.{loadLent, saveLent, listLent};
 ghost use Rattle.khumsafil.specs.Shelf.{keyOf};
 use shelf::Key;
 
@@ -42,7 +33,7 @@ pub extern "C" fn khumsafil_shelf_complete(
 ) -> u16
     ensures { λ r. ⌜ r ≡ wholeLent (now (words .entry)) (now (store .entry)) (keyOf table extension) ⌝ }
 {
-    shelf_host::whole_lent(words, store, Key { table, extension })
+    ask_host::whole_lent(words, store, Key { table, extension })
 }
 
 // The lowest missing number of a table.
@@ -55,7 +46,7 @@ pub extern "C" fn khumsafil_shelf_lowest_missing(
 ) -> u32
     ensures { λ r. ⌜ r ≡ missingLent (now (words .entry)) (now (store .entry)) (keyOf table extension) ⌝ }
 {
-    shelf_host::missing_lent(words, store, Key { table, extension })
+    ask_host::missing_lent(words, store, Key { table, extension })
 }
 
 // Copies a section out.
@@ -70,7 +61,7 @@ pub extern "C" fn khumsafil_shelf_copy_section(
 ) -> u32
     ensures { λ r. ⌜ outOf r (now (out .exit)) ≡ copyLent (now (words .entry)) (now (store .entry)) (keyOf table extension) number (now (out .entry)) ⌝ }
 {
-    shelf_host::copy_lent(words, store, Key { table, extension }, number, out)
+    ask_host::copy_lent(words, store, Key { table, extension }, number, out)
 }
 
 // Releases a table.
@@ -97,7 +88,7 @@ pub extern "C" fn khumsafil_shelf_save(
 ) -> u32
     ensures { λ r. ⌜ outOf r (now (out .exit)) ≡ saveLent (now (words .entry)) (now (store .entry)) (keyOf table extension) (now (out .entry)) ⌝ }
 {
-    shelf_host::save_lent(words, store, Key { table, extension }, out)
+    file_host::save_lent(words, store, Key { table, extension }, out)
 }
 
 // Loads a file.
@@ -105,7 +96,7 @@ pub extern "C" fn khumsafil_shelf_save(
 pub extern "C" fn khumsafil_shelf_load(words: &mut [u16], store: &mut [u8], file: &[u8]) -> u8
     ensures { λ r. ⌜ lent r (now (words .exit)) (now (store .exit)) ≡ loadLent (now (words .entry)) (now (store .entry)) (now (file .entry)) ⌝ }
 {
-    shelf_host::load_lent(words, store, file)
+    file_host::load_lent(words, store, file)
 }
 
 // Lists a file.
@@ -113,5 +104,5 @@ pub extern "C" fn khumsafil_shelf_load(words: &mut [u16], store: &mut [u8], file
 pub extern "C" fn khumsafil_file_list(file: &[u8], out: &mut [u8]) -> u32
     ensures { λ r. ⌜ outOf r (now (out .exit)) ≡ listLent (now (file .entry)) (now (out .entry)) ⌝ }
 {
-    shelf_host::list_lent(file, out)
+    file_host::list_lent(file, out)
 }

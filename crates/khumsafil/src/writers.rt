@@ -1,6 +1,6 @@
 // The bench's section writer.
 ghost use mathlib.Core.Path.{_≡_};
-ghost use Rattle.shelf_host.specs.Lent.{out as outOf};
+ghost use Rattle.answers.specs.Answers.{out as outOf};
 ghost use Rattle.khumsafil.specs.Writer.{labelOf, countLent, sectionLent, fileLent};
 use feeding::Fed;
 use writer::Counted;
@@ -22,7 +22,7 @@ fn label_of(table: u8, extension: u16, version: u8) -> Label
 
 // A size in the place of an answer, as a call on a shelf answers it.
 fn size_code(n: usize) -> u32
-    ensures { λ r. ⌜ r ≡ Rattle.shelf_host.specs.Lent.sizeCode n ⌝ }
+    ensures { λ r. ⌜ r ≡ Rattle.answers.specs.Answers.sizeCode n ⌝ }
 {
     256 * ((n % 65536) as u32)
 }

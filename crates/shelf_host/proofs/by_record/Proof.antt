@@ -2,14 +2,14 @@
 use borrow.Author.Needs.{needs}
 use mathlib.Core.Path.{_≡_, refl, sym, ap, _∙_}
 use native.Mathlib.Omega.{arith}
-use Rattle.shelf_host.specs.Lent.{lent, offered, released, loaded, copiedCode, savedCode, listedCode, wholeCode, missingCode}
-use Rattle.shelf_host.proofs.Told.{offer-told, re-word, re-code}
+use Rattle.answers.proofs.Same.{re-word, re-code}
+use Rattle.shelf_host.proofs.Told.{offer-told}
 use Rattle.shelf_host.proofs.by_record.Statement.{statement}
 use Rattle.shelf_host.proofs.by_record.Tie as tie
 use Rattle.shelf_host.proofs.by_record.Reads as reads
 use Rattle.shelf_host.proofs.by_record.Lts as lts
 use Rattle.offer.proofs.offer.Reads as offer-reads
-use Rattle.shelf_host.proofs.wide.Reads as wide-reads
+use Rattle.answers.proofs.wide.Reads as wide-reads
 use Rattle.shelf_words.proofs.put_shelf.Reads as put-shelf-reads
 use Rattle.shelf_words.proofs.shelf_in.Reads as shelf-in-reads
 

@@ -2,8 +2,8 @@
 use borrow.Author.Needs.{needs}
 use mathlib.Core.Path.{_≡_, refl, sym, ap, _∙_}
 use native.Mathlib.Omega.{arith}
-use Rattle.shelf_host.specs.Lent.{lent, offered, released, loaded, copiedCode, savedCode, listedCode, wholeCode, missingCode}
-use Rattle.shelf_host.proofs.Told.{release-told, re-word, re-code}
+use Rattle.answers.proofs.Same.{re-word}
+use Rattle.shelf_host.proofs.Told.{release-told}
 use Rattle.shelf_host.proofs.release_lent.Statement.{statement}
 use Rattle.shelf_host.proofs.release_lent.Tie as tie
 use Rattle.shelf_host.proofs.release_lent.Reads as reads

@@ -1,16 +1,16 @@
--- `shelf_host::list_lent` keeps its promise by the listing's.
+-- `file_host::list_lent` keeps its promise by the listing's.
 use borrow.Author.Needs.{needs}
 use mathlib.Core.Path.{_≡_, refl, sym, ap, _∙_}
 use native.Mathlib.Omega.{arith}
-use Rattle.shelf_host.specs.Lent.{lent, offered, released, loaded, copiedCode, savedCode, listedCode, wholeCode, missingCode}
-use Rattle.shelf_host.proofs.Told.{list-told}
-use Rattle.shelf_host.proofs.list_lent.Statement.{statement}
-use Rattle.shelf_host.proofs.list_lent.Tie as tie
-use Rattle.shelf_host.proofs.list_lent.Reads as reads
-use Rattle.shelf_host.proofs.list_lent.Lts as lts
+use Rattle.file_host.specs.Lent.{listedCode}
+use Rattle.file_host.proofs.Told.{list-told}
+use Rattle.file_host.proofs.list_lent.Statement.{statement}
+use Rattle.file_host.proofs.list_lent.Tie as tie
+use Rattle.file_host.proofs.list_lent.Reads as reads
+use Rattle.file_host.proofs.list_lent.Lts as lts
 use Rattle.listing.proofs.list_file.Reads as list-file-reads
-use Rattle.shelf_host.proofs.size_code.Reads as size-code-reads
-use Rattle.shelf_host.proofs.wider.Reads as wider-reads
+use Rattle.answers.proofs.size_code.Reads as size-code-reads
+use Rattle.answers.proofs.wider.Reads as wider-reads
 
 list-file-requires : tie.Need-list-file-requires
 list-file-requires c κs = search needs

@@ -1,16 +1,16 @@
--- `shelf_host::copy_lent` keeps its promise by the layer's.
+-- `ask_host::copy_lent` keeps its promise by the layer's.
 use borrow.Author.Needs.{needs}
 use mathlib.Core.Path.{_≡_, refl, sym, ap, _∙_}
 use native.Mathlib.Omega.{arith}
-use Rattle.shelf_host.specs.Lent.{lent, offered, released, loaded, copiedCode, savedCode, listedCode, wholeCode, missingCode}
-use Rattle.shelf_host.proofs.Told.{copy-told}
-use Rattle.shelf_host.proofs.copy_lent.Statement.{statement}
-use Rattle.shelf_host.proofs.copy_lent.Tie as tie
-use Rattle.shelf_host.proofs.copy_lent.Reads as reads
-use Rattle.shelf_host.proofs.copy_lent.Lts as lts
+use Rattle.ask_host.specs.Lent.{copiedCode}
+use Rattle.ask_host.proofs.Told.{copy-told}
+use Rattle.ask_host.proofs.copy_lent.Statement.{statement}
+use Rattle.ask_host.proofs.copy_lent.Tie as tie
+use Rattle.ask_host.proofs.copy_lent.Reads as reads
+use Rattle.ask_host.proofs.copy_lent.Lts as lts
 use Rattle.ask.proofs.copy_section.Reads as copy-section-reads
-use Rattle.shelf_host.proofs.size_code.Reads as size-code-reads
-use Rattle.shelf_host.proofs.wider.Reads as wider-reads
+use Rattle.answers.proofs.size_code.Reads as size-code-reads
+use Rattle.answers.proofs.wider.Reads as wider-reads
 use Rattle.shelf_words.proofs.shelf_in.Reads as shelf-in-reads
 
 shelf-in-requires : tie.Need-shelf-in-requires

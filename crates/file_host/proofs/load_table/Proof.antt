@@ -1,4 +1,4 @@
--- `shelf_host::load_table` meets its promise by the layer's laws, of the record that the numbers are.
+-- `file_host::load_table` meets its promise by the layer's laws, of the record that the numbers are.
 use mathlib.Core.Path.{refl, _∙_}
 use Prim.Native.Nat.{_<_}
 use native.Mathlib.Omega.{arith}
@@ -8,9 +8,9 @@ use Rattle.load.specs.Load.{refused}
 use Rattle.load.proofs.Answers.{table-13, table-9, table-done}
 use Rattle.load.proofs.Laws.{all-stored}
 use Rattle.shelf_words.specs.Words.{shelfAt}
-use Rattle.shelf_host.proofs.Told.{table-refused, table-put}
-use Rattle.shelf_host.proofs.load_table.Statement.{statement}
-use Rattle.shelf_host.proofs.load_table.Tie as tie
+use Rattle.file_host.proofs.Told.{table-refused, table-put}
+use Rattle.file_host.proofs.load_table.Statement.{statement}
+use Rattle.file_host.proofs.load_table.Tie as tie
 
 key-of-requires : tie.Need-key-of-requires
 key-of-requires c κs = search needs

@@ -1,4 +1,4 @@
--- `shelf_host::load_lent` meets its promise by the layer's laws, of the record that the numbers are.
+-- `file_host::load_lent` meets its promise by the layer's laws, of the record that the numbers are.
 use mathlib.Core.Path.{refl}
 use borrow.Author.Needs.{needs}
 use Rattle.base.proofs.Tests.{told}
@@ -6,9 +6,9 @@ use Rattle.shelf_words.specs.Words.{shelfAt}
 use Rattle.shelf_places.proofs.Here.{counted}
 use Rattle.load.specs.Load.{refused}
 use Rattle.load.proofs.Answers.{scanned-within, load-17, load-18, load-fault, load-table}
-use Rattle.shelf_host.proofs.Told.{load-refused, load-told}
-use Rattle.shelf_host.proofs.load_lent.Statement.{statement}
-use Rattle.shelf_host.proofs.load_lent.Tie as tie
+use Rattle.file_host.proofs.Told.{load-refused, load-told}
+use Rattle.file_host.proofs.load_lent.Statement.{statement}
+use Rattle.file_host.proofs.load_lent.Tie as tie
 
 returns : tie.Need-returns
 returns c = load-refused _ _ _ 17 (load-17 _ _ _ {r = refused (shelfAt _) 17} refl (c .if1 .taken))

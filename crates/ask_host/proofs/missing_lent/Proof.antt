@@ -1,16 +1,16 @@
--- `shelf_host::missing_lent` keeps its promise by the layer's.
+-- `ask_host::missing_lent` keeps its promise by the layer's.
 use borrow.Author.Needs.{needs}
 use mathlib.Core.Path.{_≡_, refl, sym, ap, _∙_}
 use native.Mathlib.Omega.{arith}
 use Prim.Native.Nat.{_+_, _*_}
-use Rattle.shelf_host.specs.Lent.{lent, offered, released, loaded, copiedCode, savedCode, listedCode, wholeCode, missingCode}
-use Rattle.shelf_host.proofs.Told.{missing-told}
-use Rattle.shelf_host.proofs.missing_lent.Statement.{statement}
-use Rattle.shelf_host.proofs.missing_lent.Tie as tie
-use Rattle.shelf_host.proofs.missing_lent.Reads as reads
-use Rattle.shelf_host.proofs.missing_lent.Lts as lts
+use Rattle.ask_host.specs.Lent.{missingCode}
+use Rattle.ask_host.proofs.Told.{missing-told}
+use Rattle.ask_host.proofs.missing_lent.Statement.{statement}
+use Rattle.ask_host.proofs.missing_lent.Tie as tie
+use Rattle.ask_host.proofs.missing_lent.Reads as reads
+use Rattle.ask_host.proofs.missing_lent.Lts as lts
 use Rattle.ask.proofs.lowest_missing.Reads as lowest-missing-reads
-use Rattle.shelf_host.proofs.wider.Reads as wider-reads
+use Rattle.answers.proofs.wider.Reads as wider-reads
 use Rattle.shelf_words.proofs.shelf_in.Reads as shelf-in-reads
 
 shelf-in-requires : tie.Need-shelf-in-requires

@@ -1,16 +1,16 @@
--- `shelf_host::save_lent` keeps its promise by the layer's.
+-- `file_host::save_lent` keeps its promise by the layer's.
 use borrow.Author.Needs.{needs}
 use mathlib.Core.Path.{_≡_, refl, sym, ap, _∙_}
 use native.Mathlib.Omega.{arith}
-use Rattle.shelf_host.specs.Lent.{lent, offered, released, loaded, copiedCode, savedCode, listedCode, wholeCode, missingCode}
-use Rattle.shelf_host.proofs.Told.{save-told}
-use Rattle.shelf_host.proofs.save_lent.Statement.{statement}
-use Rattle.shelf_host.proofs.save_lent.Tie as tie
-use Rattle.shelf_host.proofs.save_lent.Reads as reads
-use Rattle.shelf_host.proofs.save_lent.Lts as lts
+use Rattle.file_host.specs.Lent.{savedCode}
+use Rattle.file_host.proofs.Told.{save-told}
+use Rattle.file_host.proofs.save_lent.Statement.{statement}
+use Rattle.file_host.proofs.save_lent.Tie as tie
+use Rattle.file_host.proofs.save_lent.Reads as reads
+use Rattle.file_host.proofs.save_lent.Lts as lts
 use Rattle.save.proofs.save_table.Reads as save-table-reads
-use Rattle.shelf_host.proofs.size_code.Reads as size-code-reads
-use Rattle.shelf_host.proofs.wider.Reads as wider-reads
+use Rattle.answers.proofs.size_code.Reads as size-code-reads
+use Rattle.answers.proofs.wider.Reads as wider-reads
 use Rattle.shelf_words.proofs.shelf_in.Reads as shelf-in-reads
 
 shelf-in-requires : tie.Need-shelf-in-requires

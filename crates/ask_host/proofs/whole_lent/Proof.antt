@@ -1,15 +1,15 @@
--- `shelf_host::whole_lent` keeps its promise by the layer's.
+-- `ask_host::whole_lent` keeps its promise by the layer's.
 use borrow.Author.Needs.{needs}
 use mathlib.Core.Path.{_≡_, refl, sym, ap, _∙_}
 use native.Mathlib.Omega.{arith}
-use Rattle.shelf_host.specs.Lent.{lent, offered, released, loaded, copiedCode, savedCode, listedCode, wholeCode, missingCode}
-use Rattle.shelf_host.proofs.Told.{whole-told}
-use Rattle.shelf_host.proofs.whole_lent.Statement.{statement}
-use Rattle.shelf_host.proofs.whole_lent.Tie as tie
-use Rattle.shelf_host.proofs.whole_lent.Reads as reads
-use Rattle.shelf_host.proofs.whole_lent.Lts as lts
+use Rattle.ask_host.specs.Lent.{wholeCode}
+use Rattle.ask_host.proofs.Told.{whole-told}
+use Rattle.ask_host.proofs.whole_lent.Statement.{statement}
+use Rattle.ask_host.proofs.whole_lent.Tie as tie
+use Rattle.ask_host.proofs.whole_lent.Reads as reads
+use Rattle.ask_host.proofs.whole_lent.Lts as lts
 use Rattle.ask.proofs.complete.Reads as complete-reads
-use Rattle.shelf_host.proofs.wide.Reads as wide-reads
+use Rattle.answers.proofs.wide.Reads as wide-reads
 use Rattle.shelf_words.proofs.shelf_in.Reads as shelf-in-reads
 
 shelf-in-requires : tie.Need-shelf-in-requires

@@ -1,0 +1,25 @@
+-- What a call over numbers that a host lends leaves; its answer is a number whose low 8 bits are the refusal.
+use Prim.Native.Nat.{ℕ, _*_, _%_}
+use mathlib.Core.List.{List}
+
+-- what a call that may change a shelf leaves: the answer, the record's numbers, the store
+pub record Lent : Type 0 where
+  pub code : ℕ
+  pub words : List ℕ
+  pub store : List ℕ
+
+abbrev pub lent : ℕ → List ℕ → List ℕ → Lent
+lent code words store = record { code = code; words = words; store = store }
+
+-- what a call that fills an output leaves: the answer and the output
+pub record Out : Type 0 where
+  pub code : ℕ
+  pub out : List ℕ
+
+abbrev pub out : ℕ → List ℕ → Out
+out code bytes = record { code = code; out = bytes }
+
+-- such a call answers from bit 8 up how many bytes now stand at the output's front: 65,535 at most, which is more than any section,
+-- file or listing has
+abbrev pub sizeCode : ℕ → ℕ
+sizeCode n = 256 * (n % 65536)

@@ -1,0 +1,24 @@
+// What the calls over a host's numbers share: a refusal and a size as they stand in an answer.
+ghost use mathlib.Core.Path.{_≡_};
+ghost use Rattle.answers.specs.Answers.{sizeCode};
+
+// A number of refusal in an answer of 16 bits.
+pub fn wide(n: u8) -> u16
+    ensures { λ r. ⌜ r ≡ n ⌝ }
+{
+    n as u16
+}
+
+// A number of refusal in an answer of 32 bits.
+pub fn wider(n: u8) -> u32
+    ensures { λ r. ⌜ r ≡ n ⌝ }
+{
+    n as u32
+}
+
+// How many bytes now stand at the front of an output, in the place of an answer.
+pub fn size_code(n: usize) -> u32
+    ensures { λ r. ⌜ r ≡ sizeCode n ⌝ }
+{
+    256 * ((n % 65536) as u32)
+}
