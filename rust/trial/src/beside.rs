@@ -7,3 +7,4 @@ pub mod loops;
 pub mod sections;
 pub mod shelf;
 pub mod triggers;
+pub mod writer;

@@ -6,6 +6,7 @@ mod feed;
 mod file;
 mod seeds;
 mod shelf;
+mod writer;
 
 use crate::beside;
 use crate::tally::Tally;
@@ -16,13 +17,14 @@ pub use seeds::seeds;
 pub type Target = (&'static str, fn(&[u8]));
 
 /// What can be tried.
-pub const TARGETS: [Target; 6] = [
+pub const TARGETS: [Target; 7] = [
     ("sections", sections),
     ("loops", loops),
     ("triggers", triggers),
     ("files", file::files),
     ("shelf", shelf::shelf),
     ("clock", clock::clock),
+    ("writer", writer::writer),
 ];
 
 /// The target of that name.

@@ -4,15 +4,12 @@ use khumsafil::shelf::{Accepted, Key, Shelf, LARGEST_FILE, LARGEST_SECTION, STOR
 use khumsafil::writer::{self as ours, Label, LARGEST_BODY};
 use khumsafil::{section, Refusal};
 use opinion::writer as theirs;
-use trial::files::Parts;
+use trial::beside::writer as beside;
 use trial::random::Random;
 use trial::tally::Tally;
 
 /// The seed of every random comparison here.
 const SEED: u64 = 0x4B68_756D_7361_0010;
-
-/// What the bytes of an output are before a call.
-const UNWRITTEN: u8 = 0xA5;
 
 /// In how many orders the sections of a body are offered.
 const ORDERS: usize = 6;
@@ -34,36 +31,12 @@ fn label(random: &mut Random) -> Label {
     }
 }
 
-/// Writes section `k` on both sides with so much room, compares answer and output, and gives what was answered.
-fn write(label: Label, body: &[u8], k: u8, room: usize) -> (Result<usize, u8>, Vec<u8>) {
-    let mut out = vec![UNWRITTEN; room];
-    let mut other = out.clone();
-    let answer = ours::section(label, body, k, &mut out).map_err(Refusal::number);
-    let Label {
-        table_id,
-        extension,
-        version,
-    } = label;
-    let expected = theirs::write(table_id, extension, version, body, k, &mut other);
-    let case = || format!("{label:?}, {} bytes, k {k}, room {room}", body.len());
-    assert_eq!(answer, expected, "{}", case());
-    assert!(out == other, "{}: output", case());
-    (answer, out)
-}
-
-/// A refused call writes nothing, and one that is answered nothing past the section.
-fn kept(answer: Result<usize, u8>, out: &[u8]) {
-    let from = answer.unwrap_or(0);
-    assert!(out[from..].iter().all(|b| *b == UNWRITTEN));
-}
-
 #[test]
 fn every_section_of_bodies() {
     let mut random = Random::new(SEED);
     let (mut counts, mut tally) = (Tally::default(), Tally::default());
     for length in lengths() {
-        let count = ours::count(length).map_err(Refusal::number);
-        assert_eq!(count, theirs::count(length), "{length} bytes");
+        let count = beside::count(length);
         counts.note("count", count.err().unwrap_or(0));
         let last = count.unwrap_or(16) - 1;
         let body = random.bytes(length);
@@ -81,17 +54,15 @@ fn every_section_of_bodies() {
         ] {
             for k in (0..=last + 1).chain([random.byte(), 255]) {
                 // The section's size where there is one; a room that would do where there is none.
-                let size = write(label, &body, k, LARGEST_SECTION)
-                    .0
-                    .unwrap_or(LARGEST_SECTION);
+                let (most, _) = beside::section(label, &body, k, LARGEST_SECTION);
+                let size = most.unwrap_or(LARGEST_SECTION);
                 for (kind, room) in [
                     ("exact", size),
                     ("one short", size - 1),
                     ("one longer", size + 1),
                     ("none", 0),
                 ] {
-                    let (answer, out) = write(label, &body, k, room);
-                    kept(answer, &out);
+                    let (answer, _) = beside::section(label, &body, k, room);
                     tally.note(kind, answer.err().unwrap_or(0));
                 }
             }
@@ -140,7 +111,7 @@ fn offered_in_any_order() {
         let count = ours::count(length).expect("a body that is not too long");
         let sections: Vec<_> = (0..count)
             .map(|k| {
-                let (answer, mut out) = write(label, &body, k, LARGEST_SECTION);
+                let (answer, mut out) = beside::section(label, &body, k, LARGEST_SECTION);
                 out.truncate(answer.expect("a section"));
                 out
             })
@@ -165,7 +136,7 @@ fn offered_in_any_order() {
             }
             let mut joined = Vec::new();
             for number in 0..count {
-                let mut out = [UNWRITTEN; LARGEST_SECTION];
+                let mut out = [0; LARGEST_SECTION];
                 let size = shelf_copy(&held, &store, key, number, &mut out);
                 joined.extend_from_slice(&out[section::HEADER..size]);
             }
@@ -207,7 +178,7 @@ fn files_of_bodies() {
             },
             label(&mut random),
         ] {
-            let file = their_file(label, &body);
+            let file = beside::their_file(label, &body);
             let size = file.as_ref().map_or(LARGEST_FILE, Vec::len);
             for (kind, room) in [
                 ("exact", size),
@@ -215,18 +186,7 @@ fn files_of_bodies() {
                 ("one longer", size + 1),
                 ("none", 0),
             ] {
-                let mut out = vec![UNWRITTEN; room];
-                let answer = ours::file(label, &body, &mut out).map_err(Refusal::number);
-                let expected = match &file {
-                    Ok(file) if room < file.len() => Err(15),
-                    Ok(file) => Ok(file.len()),
-                    Err(number) => Err(*number),
-                };
-                assert_eq!(answer, expected, "{label:?}, {length} bytes, room {room}");
-                kept(answer, &out);
-                if let (Ok(size), Ok(file)) = (answer, &file) {
-                    assert!(out[..size] == file[..], "{label:?}, {length} bytes");
-                }
+                let (answer, _) = beside::file(label, &body, room);
                 tally.note(kind, answer.err().unwrap_or(0));
             }
             if let Ok(file) = file {
@@ -250,26 +210,6 @@ fn files_of_bodies() {
     );
 }
 
-/// The file of the independent program's sections, or its refusal.
-fn their_file(label: Label, body: &[u8]) -> Result<Vec<u8>, u8> {
-    let count = theirs::count(body.len())?;
-    let mut sections = Vec::new();
-    for k in 0..count {
-        let mut out = vec![0; LARGEST_SECTION];
-        let size = theirs::write(
-            label.table_id,
-            label.extension,
-            label.version,
-            body,
-            k,
-            &mut out,
-        )?;
-        out.truncate(size);
-        sections.push(out);
-    }
-    Ok(Parts::of(sections).bytes())
-}
-
 /// Every value of each field of a label stands where the reader finds it.
 #[test]
 fn every_label() {
@@ -281,7 +221,7 @@ fn every_label() {
             extension: number,
             version: (number % 32) as u8,
         };
-        let (answer, out) = write(label, &body, 1, 9);
+        let (answer, out) = beside::section(label, &body, 1, 9);
         assert_eq!(answer, Ok(9));
         let read = section::read(&out).expect("a sound section");
         assert_eq!((read.table_id, read.extension), (label.table_id, number));

@@ -55,6 +55,22 @@ pub fn seeds(target: &str) -> Vec<Vec<u8>> {
                 all.push(with(&[random.byte(), how << 3 | 1], &random.bytes(size)));
             }
         }
+        "writer" => {
+            // Lengths around each number of full bodies; one version in four is 32, the others are 31.
+            for full in 0..=16 {
+                for more in 0..5 {
+                    let [table_id, high, low, first, second] = [(); 5].map(|()| random.byte());
+                    let version = 31 + u8::from(random.once_in(4));
+                    let front = [
+                        table_id, high, low, version, full, more, 0x80, first, second,
+                    ];
+                    all.push(with(&front, &random.bytes(60)));
+                }
+            }
+            for size in [10, 20, 50, 100, 200] {
+                (0..8).for_each(|_| all.push(random.bytes(size)));
+            }
+        }
         _ => {
             for size in [10, 20, 50, 100, 200, 500] {
                 (0..8).for_each(|_| all.push(random.bytes(size)));

@@ -24,7 +24,7 @@ pub fn with(run: impl FnOnce(&mut Both)) {
 }
 
 /// A size of output: exact for what the call would give, near it or any.
-fn room(feed: &mut Feed, exact: usize) -> usize {
+pub fn room(feed: &mut Feed, exact: usize) -> usize {
     match feed.byte() % 8 {
         0 => exact.saturating_sub(1),
         1 => exact + 1,
