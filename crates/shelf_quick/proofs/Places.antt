@@ -9,13 +9,15 @@ use mathlib.Core.Path.{_≡_, refl, sym, ap, _∙_}
 use mathlib.Core.Bool.{Bool, true, false, not, _&&_, _||_}
 use mathlib.Core.Logic.{_⊎_, ⊎-elim}
 use mathlib.Core.List.{List}
-use Prim.Native.Nat.{ℕ, zero, suc, _+_, _*_, _/_, _%_, _<_, _≤_}
+use Prim.Native.Nat.{ℕ, zero, suc, _+_, _*_, _/_, _%_, _-_, _<_, _≤_}
 use native.Mathlib.Omega.{arith}
 use lib.Dec.{eqb, ltb}
 use lib.ListN.{length, getD}
 use lib.Seq.{getD-drop, getD-take}
 use borrow.Author.Tests.{eq-eqb, ne-eqb, eqb-true, eqb-false, le-ltb, ltb-true}
 use Rattle.base.specs.Below.{some}
+use Rattle.base.specs.Bytes.{part}
+use Rattle.base.proofs.Bytes.{part-whole}
 use Rattle.base.proofs.Below.{some-all}
 use Rattle.base.proofs.Cases.{by, unlike, and-left, and-right, or-left, or-right}
 use Rattle.shelf.specs.Record.{lengthAt, holds, wrongAt, alike, spoiledOf}
@@ -231,3 +233,14 @@ module _ (words : List ℕ) where
   pub not-spoiled : length words ≡ 76 → spoiledOf (shelfIn words) ≡ false → false ≡ spoiledOf (shelfAt words)
   unfolding shelfAt
   not-spoiled n e = rw (eq-eqb (length words) 76 n) (sym e)
+
+-- all of the numbers are the numbers
+module _ (words : List ℕ) where
+  all : part words 0 (length words - 0) ≡ words
+  all = let n : length words - 0 ≡ length words = omega arith in ap (part words 0) n ∙ part-whole words
+
+  pub all-asked : {r : Bool} → r ≡ spoiledOf (shelfAt (part words 0 (length words - 0))) → r ≡ spoiledOf (shelfAt words)
+  all-asked e = e ∙ ap (λ w. spoiledOf (shelfAt w)) all
+
+  pub all-sound : length words ≡ 76 → spoiledOf (shelfIn (part words 0 (length words - 0))) ≡ false → false ≡ spoiledOf (shelfAt words)
+  all-sound n e = not-spoiled words n (ap (λ w. spoiledOf (shelfIn w)) (sym all) ∙ e)

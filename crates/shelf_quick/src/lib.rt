@@ -212,15 +212,27 @@ fn sound(words: &[u16]) -> bool
     !keys_alike(words)
 }
 
+// Whether the record that the numbers are is spoiled, asked of the record in full. Two places call it, so that the compiler keeps
+// it apart and the frame that a record needs is not set up where the pass suffices.
+fn in_full(words: &[u16]) -> bool
+    ensures { λ r. ⌜ r ≡ spoiledOf (shelfAt (now (words .entry))) ⌝ }
+{
+    let shelf = shelf_words::shelf_in(words);
+    shelf::spoiled(shelf)
+}
+
 // Whether the record that the numbers are is spoiled. Any other count of numbers than 76 is.
 pub fn spoiled_in(words: &[u16]) -> bool
     ensures { λ r. ⌜ r ≡ spoiledOf (shelfAt (now (words .entry))) ⌝ }
 {
-    if words.len() == shelf_words::WORDS {
-        if sound(words) {
-            return false;
-        }
+    // Taken apart at once, the slice comes in registers and not by way of memory, for which an offer would wait.
+    let count = words.len();
+    let numbers = &words[0..count];
+    if count != shelf_words::WORDS {
+        return in_full(numbers);
     }
-    let shelf = shelf_words::shelf_in(words);
-    shelf::spoiled(shelf)
+    if sound(numbers) {
+        return false;
+    }
+    in_full(numbers)
 }
