@@ -213,11 +213,14 @@ fn sound(words: &[u16]) -> bool
 }
 
 // Whether the record that the numbers are is spoiled, asked of the record in full. Two places call it, so that the compiler keeps
-// it apart and the frame that a record needs is not set up where the pass suffices.
+// it apart and the frame that a record needs is not set up where the pass suffices. Here and below the slice is taken apart at
+// once: so it comes in registers and not by way of memory, for which an offer would wait.
 fn in_full(words: &[u16]) -> bool
     ensures { λ r. ⌜ r ≡ spoiledOf (shelfAt (now (words .entry))) ⌝ }
 {
-    let shelf = shelf_words::shelf_in(words);
+    let count = words.len();
+    let numbers = &words[0..count];
+    let shelf = shelf_words::shelf_in(numbers);
     shelf::spoiled(shelf)
 }
 
@@ -225,7 +228,6 @@ fn in_full(words: &[u16]) -> bool
 pub fn spoiled_in(words: &[u16]) -> bool
     ensures { λ r. ⌜ r ≡ spoiledOf (shelfAt (now (words .entry))) ⌝ }
 {
-    // Taken apart at once, the slice comes in registers and not by way of memory, for which an offer would wait.
     let count = words.len();
     let numbers = &words[0..count];
     if count != shelf_words::WORDS {
