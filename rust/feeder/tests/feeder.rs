@@ -3,10 +3,11 @@
 use opinion::{lister, writer};
 use std::fs::{File, OpenOptions};
 use std::io::Write;
+use std::path::Path;
 use std::process::{Command, Output, Stdio};
 use trial::files::Parts;
 use trial::random::Random;
-use trial::top;
+use trial::{native, program, top};
 
 /// The seed of every random comparison here.
 const SEED: u64 = 0x4B68_756D_7361_0011;
@@ -30,7 +31,7 @@ fn run(mut command: Command, input: &[u8]) -> Output {
 }
 
 fn feeder(words: &[&str]) -> Command {
-    let mut command = Command::new(env!("CARGO_BIN_EXE_feeder"));
+    let mut command = program(Path::new(env!("CARGO_BIN_EXE_feeder")));
     command.args(words);
     command
 }
@@ -74,7 +75,7 @@ fn a_body_becomes_a_complete_table() {
         assert!(output.stderr.is_empty());
         let file = expected(table, extension, version, &body);
         assert!(output.stdout == file, "{size} bytes: the file");
-        let listed = run(Command::new(top("target/native/lister")), &file);
+        let listed = run(program(&native("lister")), &file);
         let text = String::from_utf8(listed.stdout).expect("text");
         assert_eq!(text, lister::list(&file), "{size} bytes: the list");
         let head = format!("table {table} key {extension} version {version} last ");

@@ -1,17 +1,24 @@
 //! The example is run as it stands, and says what it is to say.
 
+use std::ffi::OsString;
 use std::process::Command;
 
-/// The example, which cargo builds beside the tests.
-fn example() -> std::path::PathBuf {
+/// The example, which cargo builds beside the tests, under the emulator whose words the environment variable
+/// `KHUMSAFIL_UNDER` has.
+fn example() -> Command {
     let this = std::env::current_exe().expect("this program");
     let built = this.ancestors().nth(2).expect("the folder of the build");
-    built.join("examples/round")
+    let under = std::env::var("KHUMSAFIL_UNDER").unwrap_or_default();
+    let mut words: Vec<_> = under.split_whitespace().map(OsString::from).collect();
+    words.push(built.join("examples/round").into());
+    let mut command = Command::new(&words[0]);
+    command.args(&words[1..]);
+    command
 }
 
 #[test]
 fn the_example_goes_round() {
-    let done = Command::new(example())
+    let done = example()
         .output()
         .expect("the example is built: cargo test -p khumsafil");
     assert!(done.status.success(), "{}", done.status);

@@ -18,7 +18,7 @@ pub mod triggers;
 use std::path::{Path, PathBuf};
 use std::process::Command;
 
-/// A program to be run, under the checker whose words the environment variable `KHUMSAFIL_UNDER` has.
+/// A program to be run, under the checker or the emulator whose words the environment variable `KHUMSAFIL_UNDER` has.
 pub fn program(path: &Path) -> Command {
     let under = std::env::var("KHUMSAFIL_UNDER").unwrap_or_default();
     let mut words = under.split_whitespace();
@@ -28,6 +28,14 @@ pub fn program(path: &Path) -> Command {
     let mut command = Command::new(checker);
     command.args(words).arg(path);
     command
+}
+
+/// What `tools/build` made, in the folder that the environment variable `KHUMSAFIL_NATIVE` names if that has it.
+pub fn native(name: &str) -> PathBuf {
+    let named = std::env::var_os("KHUMSAFIL_NATIVE").map(|folder| Path::new(&folder).join(name));
+    named
+        .filter(|path| path.is_file())
+        .unwrap_or_else(|| top("target/native").join(name))
 }
 
 /// A path below the repository's top.

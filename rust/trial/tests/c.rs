@@ -7,14 +7,13 @@ use std::process::{Command, Stdio};
 use trial::random::Random;
 use trial::sections::{self, KINDS};
 use trial::tally::share;
-use trial::top;
+use trial::{native, top};
 
-/// Compiles a C program against the header and the library, and gives the path of the executable.
+/// Compiles a C program against the header and the library, and gives the path of the executable. The compiler is `cc`,
+/// or the one that the environment variable `KHUMSAFIL_CC` names.
 fn compile(name: &str, source: PathBuf) -> PathBuf {
-    let folder = top("target/c");
-    fs::create_dir_all(&folder).expect("target/c");
-    let program = folder.join(name);
-    let done = Command::new("cc")
+    let program = Path::new(env!("CARGO_TARGET_TMPDIR")).join(name);
+    let done = Command::new(std::env::var_os("KHUMSAFIL_CC").unwrap_or("cc".into()))
         .args([
             "-std=c99",
             "-pedantic",
@@ -28,10 +27,10 @@ fn compile(name: &str, source: PathBuf) -> PathBuf {
         .arg("-o")
         .arg(&program)
         .arg(source)
-        .arg(top("target/native/libkhumsafil.a"))
+        .arg(native("libkhumsafil.a"))
         .status()
-        .expect("cc runs");
-    assert!(done.success(), "cc refuses {name}");
+        .expect("the compiler runs");
+    assert!(done.success(), "the compiler refuses {name}");
     program
 }
 

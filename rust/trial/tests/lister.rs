@@ -1,13 +1,14 @@
 //! The lister as staff run it: files on its standard input, what it prints beside the independent program's list.
 
 use opinion::lister;
+use std::fs;
 use std::io::Write;
 use std::process::Stdio;
 use trial::files::{damaged, Parts, KINDS};
 use trial::random::Random;
 use trial::sections::Fields;
 use trial::tally::{share, Tally};
-use trial::{program, top};
+use trial::{native, program, top};
 
 /// The seed of every random comparison here.
 const SEED: u64 = 0x4B68_756D_7361_0009;
@@ -17,7 +18,7 @@ const EACH: usize = 250;
 
 /// What the lister prints of an input. It may stop reading before the input ends, so a broken pipe is no fault.
 fn printed(input: &[u8]) -> String {
-    let mut child = program(&top("target/native/lister"))
+    let mut child = program(&native("lister"))
         .stdin(Stdio::piped())
         .stdout(Stdio::piped())
         .spawn()
@@ -48,6 +49,14 @@ fn random_files() {
         &format!("files through the lister, seed {SEED:#018X}"),
         &[0, 2, 3, 4, 5, 6, 7, 8, 11, 12],
     );
+}
+
+#[test]
+fn the_samples() {
+    for name in ["whole", "gaps", "damaged"] {
+        let file = fs::read(top(&format!("samples/{name}.shelf"))).expect(name);
+        assert_eq!(printed(&file), lister::list(&file), "{name}");
+    }
 }
 
 #[test]
