@@ -1,10 +1,10 @@
--- `khumsafil_writer_file` meets its promise by the layer's.
+-- `writer_answers::writer_file` meets its promise by the layer's.
 use borrow.Author.Needs.{needs}
 use mathlib.Core.Path.{sym, ap, _∙_}
-use Rattle.khumsafil.specs.Writer.{fedCode}
-use Rattle.khumsafil.proofs.Written.{feed-told}
-use Rattle.khumsafil.proofs.writers.khumsafil_writer_file.Statement.{statement}
-use Rattle.khumsafil.proofs.writers.khumsafil_writer_file.Tie as tie
+use Rattle.writer_answers.specs.Writer.{fedCode}
+use Rattle.writer_answers.proofs.Written.{feed-told}
+use Rattle.writer_answers.proofs.writer_file.Statement.{statement}
+use Rattle.writer_answers.proofs.writer_file.Tie as tie
 
 label-of-requires : tie.Need-label-of-requires
 label-of-requires c κs = search needs
@@ -42,8 +42,8 @@ returns-2 c =
     feed-told _ _ _ _ _ _ _ _ _ (k .before .before .label-of .ensures) (k .feed-file .ensures)
     (sym (ap fedCode (c .before .fed2 .given .1)))
 
-pub khumsafil-writer-file-spec : {M : Type 1} → statement M
-khumsafil-writer-file-spec =
+pub writer-file-spec : {M : Type 1} → statement M
+writer-file-spec =
     tie.close
     (tie.spec
     label-of-requires

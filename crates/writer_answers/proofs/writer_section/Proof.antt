@@ -1,10 +1,10 @@
--- `khumsafil_writer_section` meets its promise by the writer's.
+-- `writer_answers::writer_section` meets its promise by the writer's.
 use borrow.Author.Needs.{needs}
 use mathlib.Core.Path.{sym, ap, _∙_}
-use Rattle.khumsafil.specs.Writer.{writtenCode}
-use Rattle.khumsafil.proofs.Written.{write-told}
-use Rattle.khumsafil.proofs.writers.khumsafil_writer_section.Statement.{statement}
-use Rattle.khumsafil.proofs.writers.khumsafil_writer_section.Tie as tie
+use Rattle.writer_answers.specs.Writer.{writtenCode}
+use Rattle.writer_answers.proofs.Written.{write-told}
+use Rattle.writer_answers.proofs.writer_section.Statement.{statement}
+use Rattle.writer_answers.proofs.writer_section.Tie as tie
 
 label-of-requires : tie.Need-label-of-requires
 label-of-requires c κs = search needs
@@ -42,8 +42,8 @@ returns-2 c =
     write-told _ _ _ _ _ _ _ _ _ _ (k .before .before .label-of .ensures) (k .write-section .ensures)
     (sym (ap writtenCode (c .before .written2 .given .1)))
 
-pub khumsafil-writer-section-spec : {M : Type 1} → statement M
-khumsafil-writer-section-spec =
+pub writer-section-spec : {M : Type 1} → statement M
+writer-section-spec =
     tie.close
     (tie.spec
     label-of-requires

@@ -10,7 +10,7 @@ use Rattle.writer.specs.declared.Label.{Label}
 use Rattle.writer.specs.declared.Written.{Written}
 use Rattle.feeding.specs.Feeding.{feed, feedOf}
 use Rattle.feeding.specs.declared.Fed.{Fed}
-use Rattle.khumsafil.specs.Writer.{countedCode, countLent, writtenCode, labelOf, writeOut, sectionLent, fedCode, feedOut, fileLent}
+use Rattle.writer_answers.specs.Writer.{countedCode, countLent, writtenCode, labelOf, writeOut, sectionLent, fedCode, feedOut, fileLent}
 
 pub count-told : (n : ℕ) (r : Counted) (code : ℕ) → r ≡ countOf n → code ≡ countedCode r → code ≡ countLent n
 unfolding countLent
