@@ -1,4 +1,4 @@
--- `trigger::is_high` meets its contract: what the loop has gathered is what holds of some place passed. Assumes nothing.
+-- `trigger_faults::is_high` meets its contract: what the loop has gathered is what holds of some place passed. Assumes nothing.
 use borrow.Author.Needs.{needs}
 use mathlib.Core.Path.{_≡_, sym}
 use Prim.Native.Nat.{_+_, _-_, _≤_}
@@ -7,12 +7,12 @@ use Rattle.base.specs.Bytes.{byte}
 use Rattle.base.specs.Below.{some}
 use Rattle.base.proofs.Below.{some-none}
 use mathlib.Core.Path.{refl}
-use Rattle.trigger.specs.Fields.{someHigh}
-use Rattle.trigger.proofs.Gathers.{some-gathers, some-gathered}
-use Rattle.trigger.proofs.is_high.Statement.{statement}
-use Rattle.trigger.proofs.is_high.Tie as tie
-use Rattle.trigger.proofs.is_high.Reads as reads
-use Rattle.trigger.proofs.is_high.Lts as lts
+use Rattle.trigger_faults.specs.Fields.{someHigh}
+use Rattle.trigger_faults.proofs.Gathers.{some-gathers, some-gathered}
+use Rattle.trigger_faults.proofs.is_high.Statement.{statement}
+use Rattle.trigger_faults.proofs.is_high.Tie as tie
+use Rattle.trigger_faults.proofs.is_high.Reads as reads
+use Rattle.trigger_faults.proofs.is_high.Lts as lts
 
 abbrev Inv-loop : tie.InvT-loop
 Inv-loop payload at count high₀ i₀ high i = (i ≤ count) × (high ≡ some i (λ k. ltb 127 (byte payload (at + k))))

@@ -1,12 +1,12 @@
--- `trigger::is_wrong_length` meets its contract: each arm fixes the type. Assumes nothing.
+-- `trigger_faults::is_wrong_length` meets its contract: each arm fixes the type. Assumes nothing.
 use borrow.Author.Needs.{needs}
 use borrow.Author.Tests.{eq-eqb, ne-eqb}
-use Rattle.trigger.specs.Fields.{wrongLength}
-use Rattle.trigger.proofs.Truth.{and-none, or-none}
-use Rattle.trigger.proofs.is_wrong_length.Statement.{statement}
-use Rattle.trigger.proofs.is_wrong_length.Tie as tie
-use Rattle.trigger.proofs.is_wrong_length.Reads as reads
-use Rattle.trigger.proofs.is_wrong_length.Lts as lts
+use Rattle.trigger_faults.specs.Fields.{wrongLength}
+use Rattle.trigger_faults.proofs.Truth.{and-none, or-none}
+use Rattle.trigger_faults.proofs.is_wrong_length.Statement.{statement}
+use Rattle.trigger_faults.proofs.is_wrong_length.Tie as tie
+use Rattle.trigger_faults.proofs.is_wrong_length.Reads as reads
+use Rattle.trigger_faults.proofs.is_wrong_length.Lts as lts
 
 returns : tie.Need-returns
 unfolding wrongLength

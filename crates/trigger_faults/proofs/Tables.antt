@@ -2,6 +2,7 @@
 --   first-split        a table in two parts is the first part, then the second
 --   stops, goes        what a table answers, by the number of its first row that holds
 --   passed             where that number is 0, no row holds
+--   passed-left, passed-right   no row of a part holds
 use mathlib.Core.Path.{_≡_, refl, sym, ap, _∙_}
 use mathlib.Core.Bool.{Bool, true, false, not, _&&_}
 use mathlib.Core.List.{List, [], _∷_, _++_}
@@ -11,7 +12,7 @@ use lib.Dec.{eqb}
 use borrow.Author.Tests.{eqb-false}
 use Rattle.base.specs.Choice.{Row, first, if_then_else_}
 use Rattle.base.proofs.Cases.{by, unlike, and-left, and-right}
-use Rattle.trigger.specs.Fields.{faultOf}
+use Rattle.trigger_faults.specs.Fields.{faultOf}
 
 pub first-split : {A : Type 0} (refused : ℕ → A) (rows rest : List Row) (other : A)
     → first refused (rows ++ rest) other ≡ first refused rows (first refused rest other)
@@ -46,6 +47,14 @@ passed (r ∷ rows) n e =
   where
     zero : (k : ℕ) → not (eqb k 0) ≡ true → k ≡ 0 → ⊥
     zero k h q = unlike (sym h ∙ rw q refl)
+
+pub passed-left : (rows rest : List Row) → Passed (rows ++ rest) → Passed rows
+passed-left [] rest p = tt
+passed-left (r ∷ rows) rest p = (p .0, passed-left rows rest (p .1))
+
+pub passed-right : (rows rest : List Row) → Passed (rows ++ rest) → Passed rest
+passed-right [] rest p = p
+passed-right (r ∷ rows) rest p = passed-right rows rest (p .1)
 
 pub goes : {A : Type 0} (refused : ℕ → A) (rows : List Row) (other : A) → Passed rows → other ≡ first refused rows other
 goes refused [] other p = refl

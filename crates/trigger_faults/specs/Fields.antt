@@ -1,7 +1,8 @@
 -- Document 01, "A trigger" (A/93, clause 6) and "Numbers of refusal": when each is given, field by field.
 -- A field's 20 precedes its rule; 23 precedes the target bytes' 20, and 24 follows it.
 use Prim.Native.Nat.{ℕ, _+_}
-use mathlib.Core.List.{List, [], _∷_}
+use mathlib.Core.Path.{_≡_}
+use mathlib.Core.List.{List, [], _∷_, _++_}
 use mathlib.Core.Bool.{Bool, not, _&&_, _||_}
 use lib.ListN.{length}
 use lib.Dec.{ltb, leb, eqb}
@@ -68,3 +69,26 @@ targetFault s at = faultOf (targetFaults s at)
 
 unfoldable pub userFault : List ℕ → ℕ → ℕ
 userFault s at = faultOf (userFaults s at)
+
+-- the application id's length; the places of the target's type and of the user data's length
+abbrev pub idLength : List ℕ → ℕ
+idLength s = word s 1
+
+abbrev pub targetAt : List ℕ → ℕ
+targetAt s = 3 + idLength s
+
+abbrev pub userAt : List ℕ → ℕ
+userAt s = targetAt s + 3 + word s (targetAt s + 1)
+
+-- no part of a payload has a fault
+pub record Sound (s : List ℕ) : Type 0 where
+  pub head : headFault s ≡ 0
+  pub target : targetFault s (targetAt s) ≡ 0
+  pub user : userFault s (userAt s) ≡ 0
+
+-- 26, then field by field
+abbrev pub faults : List ℕ → List Row
+faults s = headFaults s ++ (targetFaults s (targetAt s) ++ userFaults s (userAt s))
+
+unfoldable pub firstFault : List ℕ → ℕ
+firstFault s = faultOf (faults s)

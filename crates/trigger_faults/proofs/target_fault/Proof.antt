@@ -1,20 +1,20 @@
--- `trigger::target_fault` meets its contract: at each return the tests that led there decide the row. Assumes nothing.
+-- `trigger_faults::target_fault` meets its contract: at each return the tests that led there decide the row. Assumes nothing.
 use borrow.Author.Needs.{needs}
 use mathlib.Core.Path.{_≡_, _∙_}
 use Prim.Native.Nat.{_+_}
 use denote.Ref.{now}
 use Rattle.base.specs.Bytes.{word}
 use Rattle.base.proofs.Tests.{tests}
-use Rattle.trigger.specs.Fields.{targetFault}
-use Rattle.trigger.proofs.target_fault.Statement.{statement}
-use Rattle.trigger.proofs.target_fault.Tie as tie
-use Rattle.trigger.proofs.target_fault.Reads as reads
-use Rattle.trigger.proofs.target_fault.Lts as lts
-use Rattle.trigger.proofs.is_high.Reads as is-high-reads
-use Rattle.trigger.proofs.is_uri.Reads as is-uri-reads
-use Rattle.trigger.proofs.is_wrong_length.Reads as is-wrong-length-reads
-use Rattle.trigger.proofs.wide.Reads as wide-reads
-use Rattle.trigger.proofs.word_at.Reads as word-at-reads
+use Rattle.trigger_faults.specs.Fields.{targetFault}
+use Rattle.trigger_faults.proofs.target_fault.Statement.{statement}
+use Rattle.trigger_faults.proofs.target_fault.Tie as tie
+use Rattle.trigger_faults.proofs.target_fault.Reads as reads
+use Rattle.trigger_faults.proofs.target_fault.Lts as lts
+use Rattle.trigger_faults.proofs.is_high.Reads as is-high-reads
+use Rattle.trigger_faults.proofs.is_uri.Reads as is-uri-reads
+use Rattle.trigger_faults.proofs.is_wrong_length.Reads as is-wrong-length-reads
+use Rattle.trigger_faults.proofs.wide.Reads as wide-reads
+use Rattle.trigger_faults.proofs.word_at.Reads as word-at-reads
 
 add-if1 : tie.Need-add-if1
 add-if1 c = search needs
