@@ -1,8 +1,8 @@
 -- `held_of` meets its promise: each field is a part of the word.
-use Rattle.clock_words.specs.Words.{heldIn}
+use Rattle.clock_places.specs.Places.{heldIn}
 use borrow.Author.Needs.{needs}
-use Rattle.clock_words.proofs.held_of.Statement.{statement}
-use Rattle.clock_words.proofs.held_of.Tie as tie
+use Rattle.clock_places.proofs.held_of.Statement.{statement}
+use Rattle.clock_places.proofs.held_of.Tie as tie
 
 cast-application : tie.Need-cast-application
 cast-application c = search needs

@@ -1,7 +1,7 @@
 -- `app` meets its promise.
 use borrow.Author.Needs.{needs}
-use Rattle.clock_words.proofs.app.Statement.{statement}
-use Rattle.clock_words.proofs.app.Tie as tie
+use Rattle.clock_states.proofs.app.Statement.{statement}
+use Rattle.clock_states.proofs.app.Tie as tie
 
 state-of-requires : tie.Need-state-of-requires
 state-of-requires c κs = search needs

@@ -1,10 +1,10 @@
 -- `apps_in` meets its promise: eight parts of the word.
 use native.Mathlib.Nat.{div-one}
-use Rattle.clock_words.specs.Numbers.{upTo}
-use Rattle.clock_words.specs.Words.{appsIn}
+use Rattle.clock_states.specs.Numbers.{upTo}
+use Rattle.clock_states.specs.States.{appsIn}
 use borrow.Author.Needs.{needs}
-use Rattle.clock_words.proofs.apps_in.Statement.{statement}
-use Rattle.clock_words.proofs.apps_in.Tie as tie
+use Rattle.clock_states.proofs.apps_in.Statement.{statement}
+use Rattle.clock_states.proofs.apps_in.Tie as tie
 
 app-requires : tie.Need-app-requires
 app-requires c κs = search needs

@@ -1,9 +1,9 @@
 -- `states_word` meets its promise: a sum of eight parts.
 use native.Mathlib.Omega.{arith}
-use Rattle.clock_words.specs.Words.{statesWord}
+use Rattle.clock_states.specs.States.{statesWord}
 use borrow.Author.Needs.{needs}
-use Rattle.clock_words.proofs.states_word.Statement.{statement}
-use Rattle.clock_words.proofs.states_word.Tie as tie
+use Rattle.clock_states.proofs.states_word.Statement.{statement}
+use Rattle.clock_states.proofs.states_word.Tie as tie
 
 array-copy-out-bits : tie.Need-array-copy-out-bits
 array-copy-out-bits c = search needs

@@ -1,8 +1,8 @@
 -- `mark` meets its promise: the four parts of the word.
-use Rattle.clock_words.specs.Words.{markOf}
+use Rattle.clock_places.specs.Places.{markOf}
 use borrow.Author.Needs.{needs}
-use Rattle.clock_words.proofs.mark.Statement.{statement}
-use Rattle.clock_words.proofs.mark.Tie as tie
+use Rattle.clock_places.proofs.mark.Statement.{statement}
+use Rattle.clock_places.proofs.mark.Tie as tie
 
 cast-event : tie.Need-cast-event
 cast-event c = search needs
