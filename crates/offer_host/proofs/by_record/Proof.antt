@@ -1,13 +1,13 @@
--- `shelf_host::by_record` keeps its promise by the layer's.
+-- `offer_host::by_record` keeps its promise by the layer's.
 use borrow.Author.Needs.{needs}
 use mathlib.Core.Path.{_≡_, refl, sym, ap, _∙_}
 use native.Mathlib.Omega.{arith}
 use Rattle.answers.proofs.Same.{re-word, re-code}
-use Rattle.shelf_host.proofs.Told.{offer-told}
-use Rattle.shelf_host.proofs.by_record.Statement.{statement}
-use Rattle.shelf_host.proofs.by_record.Tie as tie
-use Rattle.shelf_host.proofs.by_record.Reads as reads
-use Rattle.shelf_host.proofs.by_record.Lts as lts
+use Rattle.offer_host.proofs.Told.{offer-told}
+use Rattle.offer_host.proofs.by_record.Statement.{statement}
+use Rattle.offer_host.proofs.by_record.Tie as tie
+use Rattle.offer_host.proofs.by_record.Reads as reads
+use Rattle.offer_host.proofs.by_record.Lts as lts
 use Rattle.offer.proofs.offer.Reads as offer-reads
 use Rattle.answers.proofs.wide.Reads as wide-reads
 use Rattle.shelf_words.proofs.put_shelf.Reads as put-shelf-reads

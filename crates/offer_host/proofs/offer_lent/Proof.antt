@@ -1,12 +1,12 @@
--- `shelf_host::offer_lent` meets its promise: a repeat and a section that is added by the frequent steps' laws, all else by the layer's call.
+-- `offer_host::offer_lent` meets its promise: a repeat and a section that is added by the frequent steps' laws, all else by the layer's call.
 use native.Mathlib.Omega.{arith}
 use borrow.Author.Needs.{needs}
 use Rattle.offer_quick.proofs.Made.{add-made}
 use Rattle.shelf_words.specs.Words.{shelfAt}
 use Rattle.base.proofs.Tests.{told}
-use Rattle.shelf_host.proofs.Told.{repeat-told, add-told}
-use Rattle.shelf_host.proofs.offer_lent.Statement.{statement}
-use Rattle.shelf_host.proofs.offer_lent.Tie as tie
+use Rattle.offer_host.proofs.Told.{repeat-told, add-told}
+use Rattle.offer_host.proofs.offer_lent.Statement.{statement}
+use Rattle.offer_host.proofs.offer_lent.Tie as tie
 
 by-record-requires : tie.Need-by-record-requires
 by-record-requires c κs = search needs
