@@ -29,7 +29,8 @@ use Rattle.clock.specs.Book.{Book, bookOf, fresh, Answered}
 use Rattle.clock.specs.Offer.{offerIn}
 use Rattle.clock.specs.Move.{moveIn, MoveSays, faults, refused, advanced}
 use Rattle.clock.specs.Ask.{timeIn, stateIn}
-use Rattle.clock_words.specs.Words.{actionNo, heldsIn, placeIn, clockIn, putIn}
+use Rattle.clock_places.specs.Places.{actionNo}
+use Rattle.clock_words.specs.Words.{heldsIn, placeIn, clockIn, putIn}
 use Rattle.clock_words.proofs.Laws.{up-length}
 use Rattle.clock_host.specs.Lent.{Lent, lent, after, offerLent}
 use Rattle.clock_answers.specs.Clock.{Called, unchanged, bookIn, activation, freshCall, heardCall, offerCall, moveCall, timeWord, timeCall, stateWord, stateCall}

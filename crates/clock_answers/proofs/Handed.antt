@@ -29,8 +29,10 @@ use Rattle.clock.specs.declared.Moved.{Moved}
 use Rattle.clock.specs.Book.{Book, bookOf, spoiled, Answered}
 use Rattle.clock.specs.Offer.{more, applies, waits, offerIn}
 use Rattle.clock.specs.Move.{faults, refused, advanced, moveIn}
-use Rattle.clock_words.specs.Numbers.{upTo}
-use Rattle.clock_words.specs.Words.{appAt, appsIn, heldIn, placeIn, heldsIn, clockIn, wordsOf}
+use Rattle.clock_states.specs.Numbers.{upTo}
+use Rattle.clock_states.specs.States.{appAt, appsIn}
+use Rattle.clock_places.specs.Places.{heldIn}
+use Rattle.clock_words.specs.Words.{placeIn, heldsIn, clockIn, wordsOf}
 use Rattle.clock_words.proofs.Laws.{up-length}
 use Rattle.clock_words.proofs.Back.{Fits, Whole, back}
 use Rattle.clock_answers.specs.Clock.{bookIn, activation, heardIn, offerCall, movedIn, moveCall}

@@ -15,7 +15,8 @@ use Rattle.clock.specs.Book.{Book, bookOf, fresh, Answered}
 use Rattle.clock.specs.Offer.{offerIn}
 use Rattle.clock.specs.Move.{moveIn}
 use Rattle.clock.specs.Ask.{timeIn, stateIn}
-use Rattle.clock_words.specs.Words.{size, actionNo, clockIn, wordsOf}
+use Rattle.clock_places.specs.Places.{actionNo}
+use Rattle.clock_words.specs.Words.{size, clockIn, wordsOf}
 
 -- what a call answers, and what it leaves in the words
 pub record Called : Type 0 where

@@ -49,7 +49,7 @@ pub fn clock_offer(words: &mut [u32], application: u8, event: u16, action: u8, t
     if LAST_ACTION < action {
         return NO_SUCH_ACTION;
     }
-    let act = clock_words::action_of(action as u32);
+    let act = clock_places::action_of(action as u32);
     let a = Activation {
         application,
         event,
@@ -110,7 +110,7 @@ pub fn application_state(words: &[u32], application: u8) -> u16
     let clock = clock_words::record_in(words);
     let asked = clock.state_of(application);
     match asked {
-        AskedState::In(s) => clock_words::state_number(s) as u16 * BIT_8,
+        AskedState::In(s) => clock_states::state_number(s) as u16 * BIT_8,
         AskedState::Refused(n) => n as u16,
     }
 }

@@ -20,7 +20,8 @@ use Rattle.clock.specs.declared.Heard.{Heard}
 use Rattle.clock.specs.Book.{Book, bookOf, spoiled}
 use Rattle.clock.specs.Offer.{refused, applies, waits, offerIn}
 use Rattle.clock.proofs.Exits.{offer-35, offer-30, offer-32, offer-33, offer-34, offer-applies, offer-waits}
-use Rattle.clock_words.specs.Words.{at, appsIn, heldsIn, clockIn, statesWord, wordsOf}
+use Rattle.clock_states.specs.States.{appsIn, statesWord}
+use Rattle.clock_words.specs.Words.{at, heldsIn, clockIn, wordsOf}
 use Rattle.clock_host.specs.Lent.{Lent, lent, offerLent}
 use Rattle.clock_host.specs.Held.{held}
 use Rattle.clock_host.proofs.Places.{places}

@@ -13,8 +13,9 @@ use Rattle.base.proofs.Cases.{by}
 use Rattle.rule.specs.declared.State.{State}
 use Rattle.rule.specs.Rule.{rowOf, columnOf}
 use Rattle.activation.specs.Code.{Coded, codeOf}
-use Rattle.clock_words.specs.Numbers.{upTo}
-use Rattle.clock_words.specs.Words.{stateNo, actionNo, bitOf, appsIn, heldIn, markOf, statesWord}
+use Rattle.clock_states.specs.Numbers.{upTo}
+use Rattle.clock_states.specs.States.{stateNo, appsIn, statesWord}
+use Rattle.clock_places.specs.Places.{actionNo, bitOf, heldIn, markOf}
 
 pub coded : (time second : ℕ) → time < 2 ^ 32 → Coded (heldIn time second .activation) (time * 16777216 + second % 16777216)
 unfolding codeOf heldIn

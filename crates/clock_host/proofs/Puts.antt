@@ -13,7 +13,8 @@ use Rattle.base.specs.Choice.{if_then_else_}
 use Rattle.base.proofs.Cases.{by}
 use Rattle.activation.specs.declared.Held.{Held}
 use Rattle.activation.specs.Activation.{nobody}
-use Rattle.clock_words.specs.Words.{at, placeIn, heldIn, heldsIn, markOf, pairs}
+use Rattle.clock_places.specs.Places.{heldIn, markOf}
+use Rattle.clock_words.specs.Words.{at, placeIn, heldsIn, pairs}
 use Rattle.clock_words.proofs.Laws.{one-there, put-more}
 use Rattle.clock_host.specs.Held.{held}
 use Rattle.clock_host.proofs.Places.{place-at, places}

@@ -17,8 +17,10 @@ use Rattle.rule.specs.Rule.{rowOf, columnOf}
 use Rattle.activation.specs.declared.Held.{Held}
 use Rattle.activation.specs.Activation.{nobody}
 use Rattle.clock.specs.Book.{Book, bookOf}
-use Rattle.clock_words.specs.Numbers.{upTo}
-use Rattle.clock_words.specs.Words.{stateNo, actionNo, bitOf, appsIn, statesWord, heldIn, markOf, at, placeIn, heldsIn, pairs, clockIn, wordsOf}
+use Rattle.clock_states.specs.Numbers.{upTo}
+use Rattle.clock_states.specs.States.{stateNo, appsIn, statesWord}
+use Rattle.clock_places.specs.Places.{actionNo, bitOf, heldIn, markOf}
+use Rattle.clock_words.specs.Words.{at, placeIn, heldsIn, pairs, clockIn, wordsOf}
 use Rattle.clock_words.proofs.Laws.{up-length, up-at}
 
 state-back : (s : State) → stateNo (columnOf s) ≡ s

@@ -19,11 +19,13 @@ use Rattle.base.specs.Choice.{if_then_else_}
 use Rattle.base.proofs.Cases.{by}
 use Rattle.activation.specs.declared.Held.{Held}
 use Rattle.activation.specs.Activation.{nobody}
-use Rattle.clock_words.specs.Numbers.{upTo}
+use Rattle.clock_states.specs.Numbers.{upTo}
 use Rattle.held.proofs.Scan.{take-within}
 use Rattle.clock.specs.declared.Clock.{Clock}
 use Rattle.clock.specs.Book.{Book, bookOf}
-use Rattle.clock_words.specs.Words.{markOf, pairs, statesWord, wordsOf, putIn}
+use Rattle.clock_states.specs.States.{statesWord}
+use Rattle.clock_places.specs.Places.{markOf}
+use Rattle.clock_words.specs.Words.{pairs, wordsOf, putIn}
 
 module _ {A : Type 0} where
   pub up-none : (f : ℕ → A) → upTo 0 f ≡ []

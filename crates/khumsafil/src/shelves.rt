@@ -1,7 +1,8 @@
 // The shelf and its files. The record is 76 numbers that the host lends.
 ghost use mathlib.Core.Path.{_≡_};
 ghost use Rattle.answers.specs.Answers.{lent, out as outOf};
-ghost use Rattle.shelf_host.specs.Lent.{beginLent, offerLent, releaseLent};
+ghost use Rattle.shelf_host.specs.Lent.{beginLent, releaseLent};
+ghost use Rattle.offer_host.specs.Lent.{offerLent};
 ghost use Rattle.ask_host.specs.Lent.{wholeLent, missingLent, copyLent};
 ghost use Rattle.file_host.specs.Lent.{loadLent, saveLent, listLent};
 ghost use Rattle.khumsafil.specs.Shelf.{keyOf};
@@ -20,7 +21,7 @@ pub extern "C" fn khumsafil_shelf_begin(words: &mut [u16], store: &mut [u8]) -> 
 pub extern "C" fn khumsafil_shelf_offer(words: &mut [u16], store: &mut [u8], payload: &[u8]) -> u16
     ensures { λ r. ⌜ lent r (now (words .exit)) (now (store .exit)) ≡ offerLent (now (words .entry)) (now (store .entry)) (now (payload .entry)) ⌝ }
 {
-    shelf_host::offer_lent(words, store, payload)
+    offer_host::offer_lent(words, store, payload)
 }
 
 // Whether a table is complete.

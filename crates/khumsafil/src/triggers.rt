@@ -1,7 +1,7 @@
 // Triggers.
 ghost use mathlib.Core.Path.{_≡_};
 ghost use Rattle.trigger.specs.Trigger.{readOf};
-ghost use Rattle.trigger.specs.Belongs.{belongsOf};
+ghost use Rattle.belonging.specs.Belongs.{belongsOf};
 ghost use Rattle.trigger_answers.specs.Trigger.{answerOf, fieldsOf, named};
 
 // Reads the payload as a trigger and puts its numbers at the front of the buffer, or answers the refusal.

@@ -1,7 +1,6 @@
 -- What a layer's call promised of the record that the numbers are, told of the numbers.
---   offer-told, release-told, begin-told     calls that leave a record
---   repeat-told, add-told                    the frequent steps of an offer
-use mathlib.Core.Path.{_≡_, refl, sym, ap, _∙_}
+--   release-told, begin-told
+use mathlib.Core.Path.{_≡_, sym, ap, _∙_}
 use mathlib.Core.List.{List}
 use Prim.Native.Nat.{ℕ}
 use Rattle.answers.specs.Answers.{Lent, lent}
@@ -11,50 +10,18 @@ use Rattle.shelf.specs.declared.Shelf.{Shelf}
 use lib.ListN.{length}
 use borrow.Author.Tests.{eq-eqb}
 use Rattle.berth.specs.Berth.{storeSize}
-use Rattle.berth.specs.Calls.{putIn}
-use Rattle.offer.proofs.Stands.{put-at}
-use Rattle.offer_quick.specs.Frequent.{frequentOf}
-use Rattle.shelf_places.specs.Places.{lengthPut}
-use Rattle.offer_quick.specs.declared.Frequent.the-variants.{Repeats, Adds}
-use Rattle.offer_quick.proofs.Made.{repeat-made, add-made}
-use Rattle.shelf_places.proofs.Here.{counted}
-use Rattle.shelf_places.proofs.Numbers.{put-after}
 use Rattle.shelf_words.specs.Words.{count, shelfAt, wordsAfter}
 use Rattle.begin.specs.Begin as Begin
 use Rattle.begin.specs.declared.Beginning.{Beginning}
-use Rattle.offer.specs.Offer as Offer
-use Rattle.offer.specs.declared.Offered.{Offered}
 use Rattle.release.specs.Release as Release
 use Rattle.release.specs.declared.Released.{Released}
-use Rattle.shelf_host.specs.Lent.{beginLent, offered, offerLent, released, releaseLent}
+use Rattle.shelf_host.specs.Lent.{beginLent, released, releaseLent}
 
 module _ (w st : List ℕ) (sh : Shelf) (read : sh ≡ shelfAt w) where
-  pub offer-told : (p : List ℕ) (a : Offer.After) (said : Offered) (l : Lent) → a ≡ Offer.offerOf sh st p → a .said ≡ said → l ≡ offered w a said → l ≡ offerLent w st p
-  unfolding offerLent
-  offer-told p a said l e q r =
-      r ∙ ap (offered w a) (sym q) ∙ ap (λ (b : Offer.After). offered w b (b .said)) (e ∙ ap (λ s. Offer.offerOf s st p) read)
-
   pub release-told : (key : Key) (a : Release.After) (said : Released) (l : Lent) → a ≡ Release.releaseOf sh st key → a .said ≡ said → l ≡ released w a said → l ≡ releaseLent w st key
   unfolding releaseLent
   release-told key a said l e q r =
       r ∙ ap (released w a) (sym q) ∙ ap (λ (b : Release.After). released w b (b .said)) (e ∙ ap (λ s. Release.releaseOf s st key) read)
-
--- the frequent steps, told of the numbers
-module _ (w st p : List ℕ) where
-  pub repeat-told : frequentOf (shelfAt w) st p ≡ Repeats → lent 1024 w st ≡ offerLent w st p
-  repeat-told e =
-      let m = repeat-made (shelfAt w) st p e in
-      offer-told w st (shelfAt w) refl p (Offer.offerOf (shelfAt w) st p) Offered.Repeat (lent 1024 w st) refl (m .0) (ap (λ x. lent 1024 w x) (sym (m .1)))
-
-  pub add-told : (q n : ℕ) (w' st' : List ℕ) → frequentOf (shelfAt w) st p ≡ Adds q n → st' ≡ putIn st q n p → w' ≡ lengthPut w q n (length p) → lent 768 w' st' ≡ offerLent w st p
-  add-told q n w' st' e s t =
-      let m = add-made (shelfAt w) st p q n e in
-      let r = m .3 in
-      let words : w' ≡ wordsAfter w (Offer.offerOf (shelfAt w) st p .shelf) =
-      t ∙ put-after w q n (length p) (counted w (r .sound)) (r .place) (r .number) ∙ ap (wordsAfter w) (sym (m .1)) in
-      let store : st' ≡ Offer.offerOf (shelfAt w) st p .store = s ∙ put-at st q (r .whole) (r .place) n (r .number) p (r .size) ∙ sym (m .2) in
-      offer-told w st (shelfAt w) refl p (Offer.offerOf (shelfAt w) st p) Offered.Added (lent 768 w' st') refl (m .0)
-      (ap (λ x. lent 768 x st') words ∙ ap (λ x. lent 768 (wordsAfter w (Offer.offerOf (shelfAt w) st p .shelf)) x) store)
 
 pub begin-told : (w st : List ℕ) → length st ≡ storeSize → length w ≡ count → (r : Beginning) (st' : List ℕ) → Begin.after r st' ≡ Begin.beginOf st →
     (w' : List ℕ) → w' ≡ wordsAfter w (r .shelf) → lent 0 w' st' ≡ beginLent w st

@@ -6,7 +6,7 @@ use native.Mathlib.Omega.{arith}
 use lib.Dec.{eqb}
 use borrow.Author.Tests.{eqb-true, ne-eqb}
 use Rattle.base.proofs.Cases.{by, unlike}
-use Rattle.trigger.specs.Fields.{wrongLength}
+use Rattle.trigger_faults.specs.Fields.{wrongLength}
 
 module _ (type n : ℕ) (some : n ≡ 0 → ⊥) (allowed : wrongLength type n ≡ false) where
   pub no-none : type ≡ 0 → ⊥

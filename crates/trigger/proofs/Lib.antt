@@ -1,6 +1,1 @@
-pub mod Gathers
-pub mod Tables
-pub mod Truth
-pub mod Exits
 pub mod Lengths
-pub mod Ids

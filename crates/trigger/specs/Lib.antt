@@ -1,4 +1,2 @@
-pub mod Fields
 pub mod Trigger
-pub mod Belongs
 pub mod Layout

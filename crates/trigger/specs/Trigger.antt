@@ -1,12 +1,10 @@
 -- Document 01, "A trigger" (A/93, clause 6): what a payload says, read as a trigger.
 use Prim.Native.Nat.{ℕ, _+_, _-_}
-use mathlib.Core.Path.{_≡_}
-use mathlib.Core.List.{List, _++_}
-use mathlib.Core.Bool.{Bool}
+use mathlib.Core.List.{List}
 use lib.Dec.{eqb}
-use Rattle.base.specs.Choice.{Row, first, if_then_else_}
+use Rattle.base.specs.Choice.{first, if_then_else_}
 use Rattle.base.specs.Bytes.{byte, word}
-use Rattle.trigger.specs.Fields.{headFaults, targetFaults, userFaults, headFault, targetFault, userFault}
+use Rattle.trigger_faults.specs.Fields.{idLength, targetAt, userAt, faults}
 use Rattle.trigger.specs.declared.Extent.{Extent}
 use Rattle.trigger.specs.declared.Module.{Module}
 use Rattle.trigger.specs.declared.Reserved.{Reserved}
@@ -17,16 +15,6 @@ use Rattle.trigger.specs.declared.Answer.{Answer}
 -- n bytes from a place
 abbrev pub extent : ℕ → ℕ → Extent
 extent place n = record { place = place; length = n }
-
--- the application id's length; the places of the target's type and of the user data's length
-abbrev pub idLength : List ℕ → ℕ
-idLength s = word s 1
-
-abbrev pub targetAt : List ℕ → ℕ
-targetAt s = 3 + idLength s
-
-abbrev pub userAt : List ℕ → ℕ
-userAt s = targetAt s + 3 + word s (targetAt s + 1)
 
 -- when the application id's length is 0 the description is 0 and the id has place 3, length 0
 unfoldable pub descriptionOf : List ℕ → ℕ
@@ -69,16 +57,7 @@ triggerOf s =
       user = userOf s (userAt s);
     }
 
--- no part of a payload has a fault
-pub record Sound (s : List ℕ) : Type 0 where
-  pub head : headFault s ≡ 0
-  pub target : targetFault s (targetAt s) ≡ 0
-  pub user : userFault s (userAt s) ≡ 0
-
--- 26, then field by field
-abbrev pub faults : List ℕ → List Row
-faults s = headFaults s ++ (targetFaults s (targetAt s) ++ userFaults s (userAt s))
-
+-- the first fault from the left, or the trigger
 unfoldable pub readOf : List ℕ → Answer
 readOf s = first Answer.Refused (faults s) (Answer.Trigger (triggerOf s))
 

@@ -3,58 +3,20 @@
 ghost use mathlib.Core.Path.{_≡_};
 ghost use Prim.Native.Nat.{_+_, _≤_};
 ghost use lib.ListN.{length};
-ghost use Rattle.base.specs.Bytes.{word, same};
-ghost use Rattle.trigger.specs.Fields.{headFault, targetFault, userFault, wrongLength, isUri, someHigh};
-ghost use Rattle.trigger.specs.Belongs.{belongsOf};
-ghost use Rattle.trigger.specs.Trigger.{targetAt, userAt, descriptionOf, idOf, moduleOf, targetOf, triggerOf, Sound, readOf};
+ghost use Rattle.base.specs.Bytes.{word};
+ghost use Rattle.trigger_faults.specs.Fields.{headFault, targetFault, targetAt, userAt, Sound};
+ghost use Rattle.trigger.specs.Trigger.{descriptionOf, idOf, moduleOf, targetOf, triggerOf, readOf};
+use trigger_faults::ABSOLUTE_URI;
+use trigger_faults::HTTP_URI;
+use trigger_faults::LENGTH;
+use trigger_faults::LID_URI;
+use trigger_faults::MODULE;
+use trigger_faults::NAME_AT;
+use trigger_faults::TAP;
+use trigger_faults::TARGET_HEAD;
 
-// Refusals.
-const CUT_OFF: u8 = 20;
-
-const OTHER_EVENT: u8 = 21;
-
-const FORBIDDEN_ID_LENGTH: u8 = 22;
-
-const WRONG_TARGET_LENGTH: u8 = 23;
-
-const HIGH_URI_BYTE: u8 = 24;
-
-const BYTES_LEFT: u8 = 25;
-
-const TOO_LONG: u8 = 26;
-
-const LARGEST: usize = 4096;
-
-const TRIGGER_EVENT: u8 = 0;
-
-const HIGHEST_ASCII: u8 = 127;
-
-// Places and sizes of fields: what an application id's length counts begins at the one, and the id itself at the other;
-// a target begins with its type and length; a length has two bytes.
-const NAME_AT: usize = 3;
-
+// Where an application id begins, behind its description.
 const ID_AT: usize = 5;
-
-const TARGET_HEAD: usize = 3;
-
-const LENGTH: usize = 2;
-
-const MODULE_LENGTH: usize = 6;
-
-const TAP_LENGTH: usize = 2;
-
-// Target types.
-const NONE: u8 = 0;
-
-const MODULE: u8 = 1;
-
-const TAP: u8 = 2;
-
-const ABSOLUTE_URI: u8 = 3;
-
-const LID_URI: u8 = 4;
-
-const HTTP_URI: u8 = 5;
 
 // Bytes of the payload, by place and length.
 pub struct Extent {
@@ -111,118 +73,6 @@ fn word_at(payload: &[u8], at: usize) -> u16
     ensures { λ r. ⌜ r ≡ word (now (payload .entry)) at ⌝ }
 {
     (payload[at] as u16) * 256 + (payload[at + 1] as u16)
-}
-
-// Whether a target type forbids a length.
-fn is_wrong_length(kind: u8, count: usize) -> bool
-    ensures { λ r. ⌜ r ≡ wrongLength kind count ⌝ }
-{
-    if count == 0 {
-        return false;
-    }
-    match kind {
-        NONE => true,
-        MODULE => count != MODULE_LENGTH,
-        TAP => count != TAP_LENGTH,
-        _ => false,
-    }
-}
-
-fn is_uri(kind: u8) -> bool
-    ensures { λ r. ⌜ r ≡ isUri kind ⌝ }
-{
-    if kind < ABSOLUTE_URI {
-        return false;
-    }
-    kind <= HTTP_URI
-}
-
-// Whether a byte above 127 is among those of a part. All are looked at: a loop without an exit is one of wide steps.
-fn is_high(payload: &[u8], at: usize, count: usize) -> bool
-    requires { ⌜ at + count ≤ length (now payload) ⌝ }
-    ensures { λ r. ⌜ r ≡ someHigh (now (payload .entry)) at count ⌝ }
-{
-    let mut high = false;
-    let mut i = 0;
-    while i < count {
-        high = high | (HIGHEST_ASCII < payload[at + i]);
-        i += 1;
-    }
-    high
-}
-
-// The fault of a payload up to its application id, or 0.
-fn head_fault(payload: &[u8]) -> u8
-    ensures { λ r. ⌜ r ≡ headFault (now (payload .entry)) ⌝ }
-{
-    let size = payload.len();
-    if LARGEST < size {
-        return TOO_LONG;
-    }
-    if size < 1 {
-        return CUT_OFF;
-    }
-    if payload[0] != TRIGGER_EVENT {
-        return OTHER_EVENT;
-    }
-    if size < NAME_AT {
-        return CUT_OFF;
-    }
-    let length = wide(word_at(payload, 1));
-    if length == 1 {
-        return FORBIDDEN_ID_LENGTH;
-    }
-    if size < NAME_AT + length {
-        return CUT_OFF;
-    }
-    0
-}
-
-// The fault of a target whose type stands at a place, or 0.
-fn target_fault(payload: &[u8], at: usize) -> u8
-    requires { ⌜ at ≤ 65538 ⌝ }
-    ensures { λ r. ⌜ r ≡ targetFault (now (payload .entry)) at ⌝ }
-{
-    let size = payload.len();
-    if size < at + TARGET_HEAD {
-        return CUT_OFF;
-    }
-    let kind = payload[at];
-    let length = wide(word_at(payload, at + 1));
-    let after = at + TARGET_HEAD + length;
-    let wrong = is_wrong_length(kind, length);
-    if wrong {
-        return WRONG_TARGET_LENGTH;
-    }
-    if size < after {
-        return CUT_OFF; // in the target's bytes
-    }
-    if is_uri(kind) {
-        if is_high(payload, at + TARGET_HEAD, length) {
-            return HIGH_URI_BYTE;
-        }
-    }
-    0
-}
-
-// The fault of user data whose length stands at a place, or 0.
-fn user_fault(payload: &[u8], at: usize) -> u8
-    requires { ⌜ at ≤ 131076 ⌝ }
-    ensures { λ r. ⌜ r ≡ userFault (now (payload .entry)) at ⌝ }
-{
-    let size = payload.len();
-    if size < at + LENGTH {
-        return CUT_OFF;
-    }
-    let length = wide(word_at(payload, at));
-    let end = at + LENGTH + length;
-    if size < end {
-        return CUT_OFF;
-    }
-    if end < size {
-        return BYTES_LEFT;
-    }
-    0
 }
 
 // The description of a payload whose application id has a length.
@@ -316,59 +166,11 @@ fn trigger_of(payload: &[u8], at: usize, tail: usize) -> Trigger
 pub fn read_trigger(payload: &[u8]) -> Answer
     ensures { λ r. ⌜ r ≡ readOf (now (payload .entry)) ⌝ }
 {
-    let head = head_fault(payload);
-    if head != 0 {
-        return Answer::Refused(head);
+    let fault = trigger_faults::fault(payload);
+    if fault != 0 {
+        return Answer::Refused(fault);
     }
     let at = NAME_AT + wide(word_at(payload, 1));
-    let aim = target_fault(payload, at);
-    if aim != 0 {
-        return Answer::Refused(aim);
-    }
     let tail = at + TARGET_HEAD + wide(word_at(payload, at + 1));
-    let left = user_fault(payload, tail);
-    if left != 0 {
-        return Answer::Refused(left);
-    }
     Answer::Trigger(trigger_of(payload, at, tail))
-}
-
-// Whether two runs of bytes are the same. All are looked at, as in `is_high`.
-fn is_same(found: &[u8], id: &[u8]) -> bool
-    ensures { λ r. ⌜ r ≡ same (now (found .entry)) (now (id .entry)) ⌝ }
-{
-    let count = found.len();
-    if count != id.len() {
-        return false;
-    }
-    let mut equal = true;
-    let mut i = 0;
-    while i < count {
-        equal = equal & (found[i] == id[i]);
-        i += 1;
-    }
-    equal
-}
-
-// Whether a trigger that was read from a payload belongs to the application with an id. Any trigger may be handed in with
-// any payload: one that names an application by bytes that do not lie in the payload belongs to none.
-pub fn belongs(payload: &[u8], trigger: Trigger, application: &[u8]) -> bool
-    ensures { λ r. ⌜ r ≡ belongsOf (now (payload .entry)) trigger (now (application .entry)) ⌝ }
-{
-    let idlength = trigger.idlength;
-    if idlength == 0 {
-        return true;
-    }
-    let id = trigger.id;
-    let place = id.place;
-    let count = id.length;
-    let size = payload.len();
-    if size < place {
-        return false;
-    }
-    if size - place < count {
-        return false;
-    }
-    let end = place + count;
-    is_same(&payload[place..end], application)
 }

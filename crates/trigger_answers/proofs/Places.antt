@@ -13,7 +13,7 @@ use Rattle.trigger.specs.declared.Extent.{Extent}
 use Rattle.trigger.specs.declared.Target.{Target}
 use Rattle.trigger.specs.declared.Trigger.{Trigger}
 use Rattle.trigger.specs.Trigger.{readOf}
-use Rattle.trigger.specs.Belongs.{belongsOf}
+use Rattle.belonging.specs.Belongs.{belongsOf}
 use Rattle.trigger_laws.specs.Places.{TargetLies}
 use Rattle.trigger_laws.proofs.Places.{placed}
 use Rattle.trigger_laws.proofs.Clean.{reads-clean}

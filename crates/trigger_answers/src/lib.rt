@@ -4,7 +4,7 @@ ghost use mathlib.Core.List.{_++_};
 ghost use Prim.Native.Nat.{_≤_, _<_};
 ghost use lib.ListN.{length, drop};
 ghost use Rattle.trigger.specs.Trigger.{readOf};
-ghost use Rattle.trigger.specs.Belongs.{belongsOf};
+ghost use Rattle.belonging.specs.Belongs.{belongsOf};
 ghost use Rattle.trigger_answers.specs.Trigger.{aimOf, numbersOf, answerOf, fieldsOf, Narrow, NarrowTarget, NarrowTrigger, named};
 use trigger::Answer;
 use trigger::Extent;
@@ -159,5 +159,5 @@ pub fn trigger_belongs(
         target: Target::None,
         user,
     };
-    trigger::belongs(payload, trigger, application)
+    belonging::belongs(payload, trigger, application)
 }

@@ -17,7 +17,7 @@ use Rattle.base.proofs.Same.{same-refl, same-equal}
 use Rattle.trigger.specs.declared.Answer.{Answer}
 use Rattle.trigger.specs.declared.Trigger.{Trigger}
 use Rattle.trigger.specs.Trigger.{readOf}
-use Rattle.trigger.specs.Belongs.{isId, belongsOf}
+use Rattle.belonging.specs.Belongs.{isId, belongsOf}
 use Rattle.trigger_laws.specs.Places.{Placed}
 use Rattle.trigger_laws.proofs.Places.{placed}
 

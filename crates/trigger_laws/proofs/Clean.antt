@@ -13,10 +13,10 @@ use Rattle.base.specs.Bytes.{word}
 use Rattle.base.proofs.Cases.{same-or}
 use Rattle.trigger.specs.declared.Answer.{Answer}
 use Rattle.trigger.specs.declared.Trigger.{Trigger}
-use Rattle.trigger.specs.Fields.{headFaults, targetFaults, userFaults, headFault, targetFault, userFault}
-use Rattle.trigger.specs.Trigger.{targetAt, userAt, triggerOf, readOf}
-use Rattle.trigger.proofs.Tables.{goes}
-use Rattle.trigger.proofs.Exits.{Head, Aimed, Ended, head-sound, target-sound, user-sound, read-head, read-target, read-user, read-on}
+use Rattle.trigger_faults.specs.Fields.{headFaults, targetFaults, userFaults, headFault, targetFault, userFault, targetAt, userAt}
+use Rattle.trigger.specs.Trigger.{triggerOf, readOf}
+use Rattle.trigger_faults.proofs.Tables.{goes}
+use Rattle.trigger_faults.proofs.Exits.{Head, Aimed, Ended, head-sound, target-sound, user-sound, read-head, read-target, read-user, read-on}
 
 pub record Clean (s : List ℕ) : Type 0 where
   pub head : Head s
@@ -47,12 +47,14 @@ no-user s at h =
     (le-ltb _ _ (h .sized), (le-ltb (length s) (at + 2 + word s at) (omega arith), (le-ltb (at + 2 + word s at) (length s) (omega arith), tt))))
 
 pub clean-reads : (s : List ℕ) → Clean s → readOf s ≡ Answer.Trigger (triggerOf s)
-clean-reads s c = sym (read-on s (no-head s (c .head)) (no-target s (targetAt s) (c .target)) (no-user s (userAt s) (c .user)))
+unfolding readOf
+clean-reads s c = sym (read-on Answer.Refused (Answer.Trigger (triggerOf s)) s (no-head s (c .head)) (no-target s (targetAt s) (c .target)) (no-user s (userAt s) (c .user)))
 
 never : {P : Type 0} (n : ℕ) (t : Trigger) → Answer.Refused n ≡ Answer.Trigger t → P
 never n t e = absurd (let z : _≡_ {A = ℕ} 0 1 = cc in omega arith)
 
 pub reads-clean : (s : List ℕ) (t : Trigger) → readOf s ≡ Answer.Trigger t → Clean s × (t ≡ triggerOf s)
+unfolding readOf
 reads-clean s t e =
     ⊎-elim
     (λ h.
@@ -60,11 +62,11 @@ reads-clean s t e =
     (λ a.
     ⊎-elim
     (λ u.
-    let q : Answer.Trigger (triggerOf s) ≡ Answer.Trigger t = read-on s h a u ∙ e in
+    let q : Answer.Trigger (triggerOf s) ≡ Answer.Trigger t = read-on Answer.Refused (Answer.Trigger (triggerOf s)) s h a u ∙ e in
     (record { head = head-sound s h; target = target-sound s (targetAt s) a; user = user-sound s (userAt s) u }, cc))
-    (λ z. never (userFault s (userAt s)) t (read-user s h a (userFault s (userAt s)) refl z ∙ e))
+    (λ z. never (userFault s (userAt s)) t (read-user Answer.Refused (Answer.Trigger (triggerOf s)) s h a (userFault s (userAt s)) refl z ∙ e))
     (same-or (userFault s (userAt s)) 0))
-    (λ z. never (targetFault s (targetAt s)) t (read-target s h (targetFault s (targetAt s)) refl z ∙ e))
+    (λ z. never (targetFault s (targetAt s)) t (read-target Answer.Refused (Answer.Trigger (triggerOf s)) s h (targetFault s (targetAt s)) refl z ∙ e))
     (same-or (targetFault s (targetAt s)) 0))
-    (λ z. never (headFault s) t (read-head s (headFault s) refl z ∙ e))
+    (λ z. never (headFault s) t (read-head Answer.Refused (Answer.Trigger (triggerOf s)) s (headFault s) refl z ∙ e))
     (same-or (headFault s) 0)

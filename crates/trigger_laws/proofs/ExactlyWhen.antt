@@ -18,8 +18,8 @@ use Rattle.base.specs.Tables.{Rule, _says_, None, above, said, Agree, Decides}
 use Rattle.base.proofs.Tables.{words, less, same, not-so, and-so, passed, among}
 use Rattle.base.proofs.Below.{some-found, some-which}
 use Rattle.trigger.specs.declared.Answer.{Answer}
-use Rattle.trigger.specs.Fields.{wrongLength, isUri, someHigh}
-use Rattle.trigger.specs.Trigger.{idLength, targetAt, userAt, triggerOf, faults, readOf, numberOf}
+use Rattle.trigger_faults.specs.Fields.{wrongLength, isUri, someHigh, idLength, targetAt, userAt, faults}
+use Rattle.trigger.specs.Trigger.{triggerOf, readOf, numberOf}
 use Rattle.trigger_laws.specs.Repeats.{Given, alone}
 use Rattle.trigger_laws.proofs.Repeats.{given-so, given-alone}
 

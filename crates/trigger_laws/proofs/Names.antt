@@ -15,7 +15,8 @@ use Rattle.base.specs.Bytes.{byte, word, part}
 use Rattle.base.specs.Octets.{Octets}
 use Rattle.base.proofs.Cases.{by}
 use Rattle.base.proofs.Bytes.{word-high, word-low, word-fits, word-part, length-part}
-use Rattle.trigger.specs.Trigger.{idLength, descriptionOf, idOf, extent}
+use Rattle.trigger_faults.specs.Fields.{idLength}
+use Rattle.trigger.specs.Trigger.{descriptionOf, idOf, extent}
 use Rattle.trigger.specs.Layout.{Application, nameBytes, FitName, twoBytes, descriptionIn, idIn}
 use Rattle.trigger_laws.specs.Message.{nameFrom, nameIn}
 

@@ -15,10 +15,10 @@ use Rattle.base.specs.Octets.{Octets}
 use Rattle.base.proofs.Bytes.{length-part, octets-part}
 use Rattle.trigger.specs.declared.Answer.{Answer}
 use Rattle.trigger.specs.declared.Trigger.{Trigger}
-use Rattle.trigger.specs.Fields.{wrongLength, isUri, someHigh}
-use Rattle.trigger.specs.Trigger.{idLength, targetAt, userAt, targetOf, triggerOf, readOf}
+use Rattle.trigger_faults.specs.Fields.{wrongLength, isUri, someHigh, idLength, targetAt, userAt}
+use Rattle.trigger.specs.Trigger.{targetOf, triggerOf, readOf}
 use Rattle.trigger.specs.Layout.{Application, Message, Fit, nameBytes, aimType, aimBytes, laid, bytesOf, answerOf}
-use Rattle.trigger.proofs.Exits.{Head, Aimed, Ended}
+use Rattle.trigger_faults.proofs.Exits.{Head, Aimed, Ended}
 use Rattle.trigger_laws.specs.Message.{nameFrom, aimFrom, nameIn, targetBytesIn, userIn, messageOf}
 use Rattle.trigger_laws.proofs.Laid.{name-length, name-part, type-byte, target-length, target-part, user-length, user-part, whole-length}
 use Rattle.trigger_laws.proofs.Clean.{Clean, clean-reads, reads-clean}

@@ -1,6 +1,6 @@
 -- Two answers that keep a promise are equal.
 --   one-reading      of `trigger::read_trigger`
---   one-belonging    of `trigger::belongs`
+--   one-belonging    of `belonging::belongs`
 use mathlib.Core.Path.{_≡_, sym, _∙_}
 use mathlib.Core.Bool.{Bool}
 use mathlib.Core.List.{List}
@@ -8,7 +8,7 @@ use Prim.Native.Nat.{ℕ}
 use Rattle.trigger.specs.declared.Answer.{Answer}
 use Rattle.trigger.specs.declared.Trigger.{Trigger}
 use Rattle.trigger.specs.Trigger.{readOf}
-use Rattle.trigger.specs.Belongs.{belongsOf}
+use Rattle.belonging.specs.Belongs.{belongsOf}
 
 pub one-reading : (s : List ℕ) (x y : Answer) → x ≡ readOf s → y ≡ readOf s → x ≡ y
 one-reading s x y p q = p ∙ sym q

@@ -12,9 +12,9 @@ use lib.Seq.{drop-cons, drop-drop, drop-length}
 use Rattle.base.specs.Bytes.{byte, word, part}
 use Rattle.base.specs.Octets.{Octets}
 use Rattle.base.proofs.Bytes.{word-high, word-low, length-part}
-use Rattle.trigger.specs.Trigger.{idLength, targetAt, userAt}
+use Rattle.trigger_faults.specs.Fields.{idLength, targetAt, userAt}
 use Rattle.trigger.specs.Layout.{twoBytes, counted, laid}
-use Rattle.trigger.proofs.Exits.{Head, Aimed, Ended}
+use Rattle.trigger_faults.proofs.Exits.{Head, Aimed, Ended}
 use Rattle.trigger_laws.specs.Message.{nameIn, targetBytesIn, userIn}
 use Rattle.trigger_laws.proofs.Clean.{Clean}
 

@@ -5,7 +5,7 @@ use lib.ListN.{length, drop}
 use lib.Dec.{eqb}
 use Rattle.base.specs.Choice.{if_then_else_}
 use Rattle.base.specs.Bytes.{byte, word, part}
-use Rattle.trigger.specs.Trigger.{idLength, targetAt, userAt}
+use Rattle.trigger_faults.specs.Fields.{idLength, targetAt, userAt}
 use Rattle.trigger.specs.Layout.{Application, Aim, Message}
 
 -- the bytes that the application id length counts

@@ -81,13 +81,14 @@ fn reached() -> Vec<String> {
 }
 
 /// Each number of refusal has one name and one number, in the header, the wrapper and the Rattle source. There it
-/// stands by that name, or in the crate whose name it begins with.
+/// stands by that name, or in a crate whose name's first word it begins with.
 #[test]
 fn refusals_agree() {
     let mut rattle: BTreeMap<String, Vec<u64>> = BTreeMap::new();
     for name in reached() {
         let folder = top("crates").join(&name);
-        let layer = name.trim_end_matches('s').to_uppercase();
+        let word = name.split('_').next().expect("a first word");
+        let layer = word.trim_end_matches('s').to_uppercase();
         for file in files(&folder, ".rt") {
             for (name, number) in numbers_in_rattle(&text(&file)) {
                 let longer = format!("{layer}_{name}");

@@ -1,7 +1,7 @@
 -- `application_in` is a part of the word.
 use borrow.Author.Needs.{needs}
 use mathlib.Core.Path.{refl}
-use Rattle.clock_words.specs.Words.{heldIn}
+use Rattle.clock_places.specs.Places.{heldIn}
 use Rattle.clock_host.proofs.application_in.Statement.{statement}
 use Rattle.clock_host.proofs.application_in.Tie as tie
 

@@ -1,7 +1,7 @@
 -- `is_one` compares the three that make an activation.
 use borrow.Author.Needs.{needs}
 use Rattle.activation.specs.Activation.{alike}
-use Rattle.clock_words.specs.Words.{heldIn}
+use Rattle.clock_places.specs.Places.{heldIn}
 use Rattle.clock_host.proofs.is_one.Statement.{statement}
 use Rattle.clock_host.proofs.is_one.Tie as tie
 

@@ -1,7 +1,7 @@
 -- `is_wrong` is the one expression.
 use mathlib.Core.Path.{sym}
 use borrow.Author.Needs.{needs}
-use Rattle.clock_words.specs.Words.{heldIn}
+use Rattle.clock_places.specs.Places.{heldIn}
 use Rattle.clock_host.proofs.Places.{wrong-by}
 use Rattle.clock_host.proofs.is_wrong.Statement.{statement}
 use Rattle.clock_host.proofs.is_wrong.Tie as tie

@@ -7,7 +7,7 @@ use Rattle.base.proofs.Tests.{told}
 use Rattle.rule.specs.declared.App.{App}
 use Rattle.rule.specs.Rule.{applied}
 use Rattle.clock.specs.declared.Heard.{Heard}
-use Rattle.clock_words.specs.Words.{statesWord}
+use Rattle.clock_states.specs.States.{statesWord}
 use Rattle.clock_host.specs.Lent.{lent}
 use Rattle.clock_host.proofs.Exits.{few, lent-unsized, lent-35, lent-30, lent-32, lent-33, lent-34, lent-applied, lent-waiting}
 use Rattle.clock_host.proofs.offer_lent.Statement.{statement}

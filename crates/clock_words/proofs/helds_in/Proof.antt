@@ -3,7 +3,7 @@ use mathlib.Core.Path.{_≡_, sym, _∙_}
 use Prim.Native.Nat.{_≤_, _-_, _+_, _*_}
 use native.Mathlib.Omega.{arith}
 use lib.ListN.{length, take, length-set}
-use Rattle.clock_words.specs.Numbers.{upTo}
+use Rattle.clock_states.specs.Numbers.{upTo}
 use Rattle.clock_words.specs.Words.{heldsIn, placeIn}
 use Rattle.clock_words.proofs.Laws.{up-none, fill-more, fill-whole}
 use borrow.Author.Needs.{needs}

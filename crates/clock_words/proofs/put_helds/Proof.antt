@@ -4,7 +4,8 @@ use mathlib.Core.List.{_++_}
 use Prim.Native.Nat.{_≤_, _-_, _+_, _*_}
 use native.Mathlib.Omega.{arith}
 use lib.ListN.{length, take, length-set}
-use Rattle.clock_words.specs.Words.{pairs, markOf}
+use Rattle.clock_places.specs.Places.{markOf}
+use Rattle.clock_words.specs.Words.{pairs}
 use Rattle.clock_words.proofs.Laws.{one-there, put-start, put-more, put-done}
 use borrow.Author.Needs.{needs}
 use Rattle.clock_words.proofs.put_helds.Statement.{statement}

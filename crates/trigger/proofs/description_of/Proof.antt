@@ -8,7 +8,7 @@ use denote.Ref.{now}
 use lib.ListN.{length}
 use Rattle.base.specs.Bytes.{word}
 use Rattle.trigger.specs.Trigger.{descriptionOf}
-use Rattle.trigger.proofs.Exits.{Head, head-sound}
+use Rattle.trigger_faults.proofs.Exits.{Head, head-sound}
 use Rattle.trigger.proofs.description_of.Statement.{statement}
 use Rattle.trigger.proofs.description_of.Tie as tie
 use Rattle.trigger.proofs.description_of.Reads as reads

@@ -1,72 +1,45 @@
--- `trigger::read_trigger` meets its contract: each part's fault decides, and the places are the definition's. Assumes nothing.
+-- `trigger::read_trigger` meets its contract: the first fault decides, and the places are the definition's. Assumes nothing.
 use borrow.Author.Needs.{needs}
 use native.Mathlib.Omega.{arith}
-use mathlib.Core.Path.{_≡_, sym, ap, _∙_}
-use Prim.Native.Nat.{ℕ, _+_, _≤_}
+use mathlib.Core.Path.{_≡_, sym, _∙_}
+use Prim.Native.Nat.{_+_, _≤_}
 use denote.Ref.{now}
 use lib.ListN.{length}
-use Rattle.trigger.specs.Fields.{headFault, targetFault, userFault}
-use Rattle.trigger.specs.Trigger.{Sound, targetAt, userAt}
-use Rattle.trigger.proofs.Exits.{head-sound, target-sound, read-head, read-target, read-user, read-on}
+use Rattle.trigger_faults.specs.Fields.{firstFault, targetAt, userAt, faults, Sound}
+use Rattle.trigger_faults.proofs.Tables.{stops}
+use Rattle.trigger_faults.proofs.Exits.{head-sound, target-sound, read-on, sound}
+use Rattle.trigger.specs.Trigger.{readOf}
+use Rattle.trigger.specs.declared.Answer.{Answer}
 use Rattle.trigger.proofs.read_trigger.Statement.{statement}
 use Rattle.trigger.proofs.read_trigger.Tie as tie
-use Rattle.trigger.proofs.read_trigger.Reads as reads
-use Rattle.trigger.proofs.read_trigger.Lts as lts
-use Rattle.trigger.proofs.head_fault.Reads as head-fault-reads
-use Rattle.trigger.proofs.target_fault.Reads as target-fault-reads
-use Rattle.trigger.proofs.trigger_of.Reads as trigger-of-reads
-use Rattle.trigger.proofs.user_fault.Reads as user-fault-reads
-use Rattle.trigger.proofs.wide.Reads as wide-reads
-use Rattle.trigger.proofs.word_at.Reads as word-at-reads
 
--- the head has no fault
-head : (c : tie.Else1) → headFault (now (c .before .before .before .args .payload)) ≡ 0
-head c = sym (c .before .head-fault .ensures) ∙ c .if1 .left
+-- no part has a fault
+whole : (c : tie.Else1) → Sound (now (c .before .before .before .args .payload))
+whole c = sound _ (sym (c .before .fault .ensures) ∙ c .if1 .left)
 
 -- the place of the target's type
 place : (c : tie.After-wide) → 3 + c .wide .result ≡ targetAt (now (c .before .before .before .before .before .args .payload))
 place c = rw (c .wide .ensures, c .before .word-at .ensures)
 
--- the target's fault
-aim : (c : tie.After-target-fault)
-    → c .target-fault .result
-    ≡ targetFault (now (c .before .before .before .before .before .before .args .payload)) (targetAt (now (c .before .before .before .before .before .before .args .payload)))
-aim c = c .target-fault .ensures ∙ rw (place (c .before))
-
-aimed : (c : tie.Else2) → targetFault (now (c .before .before .before .before .before .before .before .args .payload)) (targetAt (now (c .before .before .before .before .before .before .before .args .payload))) ≡ 0
-aimed c = sym (aim (c .before)) ∙ c .if2 .left
-
 -- the place of the user data's length
-end : (c : tie.After-wide2) → 3 + c .before .before .before .before .wide .result + 3 + c .wide2 .result ≡ userAt (now (c .before .before .before .before .before .before .before .before .before .args .payload))
-end c = rw (c .wide2 .ensures, c .before .word-at2 .ensures, place (c .before .before .before .before))
+end : (c : tie.After-wide2) → 3 + c .before .before .wide .result + 3 + c .wide2 .result ≡ userAt (now (c .before .before .before .before .before .before .before .args .payload))
+end c = rw (c .wide2 .ensures, c .before .word-at2 .ensures, place (c .before .before))
 
--- the user data's fault
-left : (c : tie.After-user-fault) → c .user-fault .result ≡ userFault (now (c .before .before .before .before .before .before .before .before .before .before .args .payload)) (userAt (now (c .before .before .before .before .before .before .before .before .before .before .args .payload)))
-left c = c .user-fault .ensures ∙ rw (end (c .before))
-
-whole : (c : tie.Else3) → Sound (now (c .before .before .before .before .before .before .before .before .before .before .before .args .payload))
-whole c = record { head = head (c .before .before .before .before .before .before .before .before); target = aimed (c .before .before .before .before); user = sym (left (c .before)) ∙ c .if3 .left }
-
-head-fault-requires : tie.Need-head-fault-requires
-head-fault-requires c κs = search needs
+fault-requires : tie.Need-fault-requires
+fault-requires c κs = search needs
 
 returns : tie.Need-returns
-returns c = read-head _ _ (c .before .head-fault .ensures) (c .if1 .taken)
+unfolding readOf firstFault
+returns c = stops Answer.Refused (faults (now (c .before .before .before .args .payload))) _ _ (c .before .fault .ensures) (c .if1 .taken)
 
 word-at-requires : tie.Need-word-at-requires
-word-at-requires c κs = head-sound _ (head c) .sized
+word-at-requires c κs = head-sound _ (whole c .head) .sized
 
 wide-requires : tie.Need-wide-requires
 wide-requires c κs = search needs
 
 add-at : tie.Need-add-at
 add-at c = search needs
-
-target-fault-requires : tie.Need-target-fault-requires
-target-fault-requires c κs = search needs
-
-returns-2 : tie.Need-returns-2
-returns-2 c = read-target _ (head (c .before .before .before .before)) _ (aim (c .before)) (c .if2 .taken)
 
 add-tail : tie.Need-add-tail
 add-tail c = search needs
@@ -75,7 +48,10 @@ add-word-at : tie.Need-add-word-at
 add-word-at c = search needs
 
 word-at-requires-2 : tie.Need-word-at-requires-2
-word-at-requires-2 c κs = let h : targetAt (now (c .before .before .before .before .before .before .before .args .payload)) + 3 ≤ length (now (c .before .before .before .before .before .before .before .args .payload)) = target-sound _ _ (aimed c) .sized in let e = place (c .before .before) in omega arith
+word-at-requires-2 c κs =
+    let h : targetAt (now (c .before .before .before .before .before .args .payload)) + 3 ≤ length (now (c .before .before .before .before .before .args .payload)) = target-sound _ _ (whole (c .before .before) .target) .sized in
+    let e = place c in
+    omega arith
 
 wide-requires-2 : tie.Need-wide-requires-2
 wide-requires-2 c κs = search needs
@@ -83,35 +59,28 @@ wide-requires-2 c κs = search needs
 add-tail-2 : tie.Need-add-tail-2
 add-tail-2 c = search needs
 
-user-fault-requires : tie.Need-user-fault-requires
-user-fault-requires c κs = search needs
-
-returns-3 : tie.Need-returns-3
-returns-3 c = read-user _ (head (c .before .before .before .before .before .before .before .before)) (aimed (c .before .before .before .before)) _ (left (c .before)) (c .if3 .taken)
-
 trigger-of-requires : tie.Need-trigger-of-requires
-trigger-of-requires c κs = (whole c, place (c .before .before .before .before .before .before), end (c .before .before))
+trigger-of-requires c κs = (whole (c .before .before .before .before), place (c .before .before), end c)
 
-returns-4 : tie.Need-returns-4
-returns-4 c = rw (c .trigger-of .ensures) (read-on _ (whole (c .before) .head) (whole (c .before) .target) (whole (c .before) .user))
+returns-2 : tie.Need-returns-2
+unfolding readOf
+returns-2 c =
+    rw (c .trigger-of .ensures)
+    (read-on Answer.Refused _ _ (whole (c .before .before .before .before .before) .head) (whole (c .before .before .before .before .before) .target) (whole (c .before .before .before .before .before) .user))
 
 pub read-trigger-spec : {M : Type 1} → statement M
 read-trigger-spec =
     tie.close
     (tie.spec
-    head-fault-requires
+    fault-requires
     returns
     word-at-requires
     wide-requires
     add-at
-    target-fault-requires
-    returns-2
     add-tail
     add-word-at
     word-at-requires-2
     wide-requires-2
     add-tail-2
-    user-fault-requires
-    returns-3
     trigger-of-requires
-    returns-4)
+    returns-2)

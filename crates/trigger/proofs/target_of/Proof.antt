@@ -7,7 +7,7 @@ use Prim.Native.Nat.{_+_}
 use denote.Ref.{now}
 use Rattle.base.specs.Bytes.{word}
 use Rattle.trigger.specs.Trigger.{targetOf}
-use Rattle.trigger.proofs.Exits.{Aimed, target-sound}
+use Rattle.trigger_faults.proofs.Exits.{Aimed, target-sound}
 use Rattle.trigger.proofs.Lengths.{module-six, tap-two}
 use Rattle.trigger.proofs.target_of.Statement.{statement}
 use Rattle.trigger.proofs.target_of.Tie as tie

@@ -5,8 +5,9 @@ use mathlib.Core.Path.{_≡_, sym, _∙_}
 use Prim.Native.Nat.{_+_, _≤_}
 use denote.Ref.{now}
 use lib.ListN.{length}
-use Rattle.trigger.specs.Trigger.{userAt, triggerOf}
-use Rattle.trigger.proofs.Exits.{head-sound, user-sound}
+use Rattle.trigger_faults.specs.Fields.{userAt}
+use Rattle.trigger.specs.Trigger.{triggerOf}
+use Rattle.trigger_faults.proofs.Exits.{head-sound, user-sound}
 use Rattle.trigger.proofs.trigger_of.Statement.{statement}
 use Rattle.trigger.proofs.trigger_of.Tie as tie
 use Rattle.trigger.proofs.trigger_of.Reads as reads

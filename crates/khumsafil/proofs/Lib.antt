@@ -1,2 +1,0 @@
--- What is proved of the boundary's answers beside the functions' promises.
-pub mod Written

@@ -1,0 +1,4 @@
+pub mod Gathers
+pub mod Tables
+pub mod Truth
+pub mod Exits
