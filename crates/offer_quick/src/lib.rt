@@ -2,6 +2,8 @@
 use section::Header;
 use section::Reading;
 use shelf::Key;
+use shelf_words::HEAD;
+use shelf_words::PLACE;
 ghost use mathlib.Core.Path.{_≡_};
 ghost use Prim.Native.Nat.{_+_, _<_, _≤_};
 ghost use lib.Dec.{eqb};
@@ -22,11 +24,6 @@ pub enum Frequent {
     Adds(usize, usize),
     Other,
 }
-
-// The numbers of a place, and those before its lengths.
-const PLACE: usize = 19;
-
-const HEAD: usize = 3;
 
 // Whether a section is what stands in the store from a place on. It reads all of it: without a way out at each byte the compiler
 // compares many at a time.

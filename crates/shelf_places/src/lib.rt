@@ -2,6 +2,8 @@
 // a section, and a whole table.
 use shelf::Key;
 use shelf::Place;
+use shelf_words::HEAD;
+use shelf_words::PLACE;
 ghost use mathlib.Core.Path.{_≡_};
 ghost use mathlib.Core.Bool.{not};
 ghost use Prim.Native.Nat.{_+_, _/_, _<_, _≤_};
@@ -12,11 +14,6 @@ ghost use Rattle.berth.specs.Berth.{places, sections};
 ghost use Rattle.shelf.specs.Record.{hasKey};
 ghost use Rattle.shelf_words.specs.Words.{count, over, placeIn};
 ghost use Rattle.shelf_places.specs.Places.{placeAmong, freeAmong, lengthPut, tablePut, tidied, allTidied};
-
-// The numbers of a place, and those before its lengths.
-const PLACE: usize = 19;
-
-const HEAD: usize = 3;
 
 // Whether place p is taken and has that key. The extension is asked first: it tells most tables apart.
 fn has_key(words: &[u16], p: usize, key: Key) -> bool

@@ -1,5 +1,6 @@
 // Whether a lent record is spoiled (18), told from its 76 numbers. One pass over the numbers shows that a record as the library
 // leaves it is sound; where the pass does not show it, the record is asked in full.
+use shelf_words::PLACE;
 ghost use mathlib.Core.Path.{_≡_};
 ghost use mathlib.Core.Bool.{true, false, not};
 ghost use Prim.Native.Nat.{_+_, _*_, _%_, _<_, _≤_};
@@ -11,9 +12,6 @@ ghost use Rattle.shelf.specs.Record.{spoiledOf};
 ghost use Rattle.shelf.specs.Parts.{Named, nothingHeld, orFour};
 ghost use Rattle.shelf_words.specs.Words.{count, placeIn, shelfIn, shelfAt};
 ghost use Rattle.shelf_quick.specs.Quick.{FineHead, FineLengths, keyNumber, twoAlike};
-
-// The numbers of a place.
-const PLACE: usize = 19;
 
 // A version is at most 31, so a number that has it above a table id is under 32 × 256. A last is at most 15, a held length from 8
 // to 1,024.

@@ -10,8 +10,10 @@ ghost use lib.Seq.{paste};
 ghost use Rattle.base.specs.Bytes.{part};
 ghost use Rattle.shelf_words.specs.Words.{noRecord, placeIn, shelfIn, shelfAt, placeWords, over, wordsAfter, putAt, placeSet};
 
-// The numbers of a place, of its sections, and of a record.
-const PLACE: usize = 19;
+// The numbers of a place, those of them that stand before its lengths, its sections, and the numbers of a record.
+pub const PLACE: usize = 19;
+
+pub const HEAD: usize = 3;
 
 const SECTIONS: usize = 16;
 
@@ -44,7 +46,7 @@ fn place_in(words: &[u16], p: usize) -> Place
     let third = words[at + 2];
     let last = (third % 256) as u8;
     let taken = third / 256 != 0;
-    let lengths = lengths_from(words, at + 3);
+    let lengths = lengths_from(words, at + HEAD);
     let key = Key { table, extension };
     Place {
         taken,
@@ -120,7 +122,7 @@ fn put_place(words: &mut [u16], p: usize, place: Place)
     words[at] = key.table as u16 + 256 * (place.version as u16);
     words[at + 1] = key.extension;
     words[at + 2] = place.last as u16 + flag;
-    put_lengths(words, at + 3, lengths);
+    put_lengths(words, at + HEAD, lengths);
 }
 
 // Puts a place into the numbers of a record. What names no place of 76 numbers changes nothing.
