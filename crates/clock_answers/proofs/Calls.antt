@@ -3,7 +3,6 @@
 --   offer-255, offer-answered                                    of an offer
 --   move-35, move-refused, move-applied                          of a move
 --   few                                                          a move applies at most 32
---   time-35, time-asked, state-35, state-asked                   of the two questions
 use mathlib.Core.Path.{_≡_, refl, sym, ap, subst, _∙_}
 use mathlib.Core.Bool.{Bool, true, false}
 use mathlib.Core.List.{List, [], _∷_}
@@ -23,17 +22,15 @@ use Rattle.clock.specs.declared.Clock.{Clock}
 use Rattle.clock.specs.declared.Heard.{Heard}
 use Rattle.clock.specs.declared.Moved.{Moved}
 use Rattle.clock.specs.declared.Advanced.{Advanced}
-use Rattle.clock.specs.declared.AskedTime.{AskedTime}
-use Rattle.clock.specs.declared.AskedState.{AskedState}
 use Rattle.clock.specs.Book.{Book, bookOf, fresh, Answered}
 use Rattle.clock.specs.Offer.{offerIn}
 use Rattle.clock.specs.Move.{moveIn, MoveSays, faults, refused, advanced}
-use Rattle.clock.specs.Ask.{timeIn, stateIn}
 use Rattle.clock_places.specs.Places.{actionNo}
 use Rattle.clock_words.specs.Words.{heldsIn, placeIn, clockIn, putIn}
 use Rattle.clock_words.proofs.Laws.{up-length}
 use Rattle.clock_host.specs.Lent.{Lent, lent, after, offerLent}
-use Rattle.clock_answers.specs.Clock.{Called, unchanged, bookIn, activation, freshCall, heardCall, offerCall, moveCall, timeWord, timeCall, stateWord, stateCall}
+use Rattle.clock_questions.specs.Clock.{bookIn}
+use Rattle.clock_answers.specs.Clock.{Called, unchanged, activation, freshCall, heardCall, offerCall, moveCall}
 
 -- a call that was answered and put its record
 abbrev pub put : List ℕ → ℕ → Clock → Called
@@ -47,22 +44,6 @@ module _ (w : List ℕ) where
   pub fresh-put : (c : Clock) → length w ≡ 67 → bookOf c ≡ fresh → put w 0 c ≡ freshCall w
   unfolding freshCall putIn
   fresh-put c z e = rw (eq-eqb _ _ z, e)
-
-  pub time-35 : (length w ≡ 67 → ⊥) → 35 ≡ timeCall w
-  unfolding timeCall
-  time-35 n = rw (ne-eqb _ _ n)
-
-  pub time-asked : length w ≡ 67 → (c : Clock) → c ≡ clockIn w → (r : AskedTime) → r ≡ timeIn (bookOf c) → timeWord r ≡ timeCall w
-  unfolding timeCall
-  time-asked z c e r a = rw (eq-eqb _ _ z, a, e)
-
-  pub state-35 : (n : ℕ) → (length w ≡ 67 → ⊥) → 35 ≡ stateCall w n
-  unfolding stateCall
-  state-35 n h = rw (ne-eqb _ _ h)
-
-  pub state-asked : (n : ℕ) → length w ≡ 67 → (c : Clock) → c ≡ clockIn w → (r : AskedState) → r ≡ stateIn (bookOf c) n → stateWord r ≡ stateCall w n
-  unfolding stateCall
-  state-asked n z c e r a = rw (eq-eqb _ _ z, a, e)
 
 -- an offer's answer in a number
 abbrev pub heardNo : Heard → ℕ

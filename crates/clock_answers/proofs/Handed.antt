@@ -35,7 +35,8 @@ use Rattle.clock_places.specs.Places.{heldIn}
 use Rattle.clock_words.specs.Words.{placeIn, heldsIn, clockIn, wordsOf}
 use Rattle.clock_words.proofs.Laws.{up-length}
 use Rattle.clock_words.proofs.Back.{Fits, Whole, back}
-use Rattle.clock_answers.specs.Clock.{bookIn, activation, heardIn, offerCall, movedIn, moveCall}
+use Rattle.clock_questions.specs.Clock.{bookIn}
+use Rattle.clock_answers.specs.Clock.{activation, heardIn, offerCall, movedIn, moveCall}
 use Rattle.clock_answers.proofs.Calls.{only-fewer, held-few}
 
 module _ {A : Type 0} (P : A → Type 0) where

@@ -1,22 +1,17 @@
--- How the boundary lends a clock: the record in words, and each call's answer in a number.
+-- How the boundary lends a clock: the record in words, and the answer of each call that may change it in a number.
 use Prim.Native.Nat.{ℕ, _*_, _^_}
-use mathlib.Core.Bool.{Bool, not}
 use mathlib.Core.List.{List, [], _∷_}
-use lib.Dec.{ltb, eqb}
-use lib.ListN.{length}
-use Rattle.base.specs.Choice.{if_then_else_, Row, _if_, first}
-use Rattle.rule.specs.Rule.{columnOf}
+use lib.Dec.{ltb}
+use Rattle.base.specs.Choice.{_if_, first}
 use Rattle.activation.specs.declared.Activation.{Activation}
 use Rattle.clock.specs.declared.Heard.{Heard}
 use Rattle.clock.specs.declared.Moved.{Moved}
-use Rattle.clock.specs.declared.AskedTime.{AskedTime}
-use Rattle.clock.specs.declared.AskedState.{AskedState}
-use Rattle.clock.specs.Book.{Book, bookOf, fresh, Answered}
+use Rattle.clock.specs.Book.{Book, fresh, Answered}
 use Rattle.clock.specs.Offer.{offerIn}
 use Rattle.clock.specs.Move.{moveIn}
-use Rattle.clock.specs.Ask.{timeIn, stateIn}
 use Rattle.clock_places.specs.Places.{actionNo}
-use Rattle.clock_words.specs.Words.{size, clockIn, wordsOf}
+use Rattle.clock_words.specs.Words.{wordsOf}
+use Rattle.clock_questions.specs.Clock.{unsized, bookIn}
 
 -- what a call answers, and what it leaves in the words
 pub record Called : Type 0 where
@@ -26,14 +21,6 @@ pub record Called : Type 0 where
 -- a refused call leaves them as they were
 abbrev pub unchanged : List ℕ → ℕ → Called
 unchanged w n = record { answer = n; words = w }
-
--- another number of words than 67 is no record, and a record that is none is spoiled
-abbrev pub unsized : List ℕ → Bool
-unsized w = not (eqb (length w) size)
-
--- what the words say
-abbrev pub bookIn : List ℕ → Book
-bookIn w = bookOf (clockIn w)
 
 unfoldable pub freshCall : List ℕ → Called
 freshCall w = first (unchanged w) (35 if unsized w ∷ []) (record { answer = 0; words = wordsOf fresh })
@@ -67,19 +54,3 @@ movedIn w r = movedCall w (r .answer) (r .book)
 
 unfoldable pub moveCall : List ℕ → ℕ → Called
 moveCall w to = first (unchanged w) (35 if unsized w ∷ []) (movedIn w (moveIn (bookIn w) to))
-
--- from bit 32 of the answer: the time
-abbrev pub timeWord : AskedTime → ℕ
-timeWord (AskedTime.At t) = t * 2 ^ 32
-timeWord (AskedTime.Refused n) = n
-
-unfoldable pub timeCall : List ℕ → ℕ
-timeCall w = first (λ n. n) (35 if unsized w ∷ []) (timeWord (timeIn (bookIn w)))
-
--- from bit 8 of the answer: the state, 0 to 3 in document 01's order
-abbrev pub stateWord : AskedState → ℕ
-stateWord (AskedState.In s) = columnOf s * 2 ^ 8
-stateWord (AskedState.Refused n) = n
-
-unfoldable pub stateCall : List ℕ → ℕ → ℕ
-stateCall w application = first (λ n. n) (35 if unsized w ∷ []) (stateWord (stateIn (bookIn w) application))

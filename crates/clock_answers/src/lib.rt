@@ -1,18 +1,14 @@
-// The clock's calls over a record that the host lends in 67 words, each answered in one number.
+// The calls that may change a clock, over a record that the host lends in 67 words, each answered in one number.
 ghost use mathlib.Core.Path.{_≡_};
-ghost use Rattle.clock_answers.specs.Clock.{freshCall, offerCall, moveCall, timeCall, stateCall};
+ghost use Rattle.clock_answers.specs.Clock.{freshCall, offerCall, moveCall};
 use activation::Activation;
-use clock::AskedState;
-use clock::AskedTime;
 use clock::Clock;
 use clock::Heard;
 use clock::Moved;
+use clock_questions::NO_RECORD;
 
 // What a call answers that was done and has nothing else to tell.
 const DONE: u8 = 0;
-
-// The words are no record.
-const NO_RECORD: u8 = 35;
 
 // A number that is no action: the boundary's own, since the layer's actions have no numbers.
 const NO_SUCH_ACTION: u16 = 255;
@@ -26,8 +22,6 @@ const WAITING: u16 = 512;
 
 // What a field is multiplied by to begin at that bit of the answer.
 const BIT_8: u16 = 256;
-
-const BIT_32: u64 = 4294967296;
 
 // Makes the words a fresh clock.
 pub fn clock_fresh(words: &mut [u32]) -> u8
@@ -82,35 +76,5 @@ pub fn clock_move(words: &mut [u32], to: u32) -> u16
             clock_words::put(next, words);
             n as u16 * BIT_8
         }
-    }
-}
-
-// The clock's time.
-pub fn clock_time(words: &[u32]) -> u64
-    ensures { λ r. ⌜ r ≡ timeCall (now (words .entry)) ⌝ }
-{
-    if words.len() != clock_words::WORDS {
-        return NO_RECORD as u64;
-    }
-    let clock = clock_words::record_in(words);
-    let asked = clock.time_now();
-    match asked {
-        AskedTime::At(t) => t as u64 * BIT_32,
-        AskedTime::Refused(n) => n as u64,
-    }
-}
-
-// The state of an application.
-pub fn application_state(words: &[u32], application: u8) -> u16
-    ensures { λ r. ⌜ r ≡ stateCall (now (words .entry)) application ⌝ }
-{
-    if words.len() != clock_words::WORDS {
-        return NO_RECORD as u16;
-    }
-    let clock = clock_words::record_in(words);
-    let asked = clock.state_of(application);
-    match asked {
-        AskedState::In(s) => clock_states::state_number(s) as u16 * BIT_8,
-        AskedState::Refused(n) => n as u16,
     }
 }

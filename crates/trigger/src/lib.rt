@@ -12,6 +12,7 @@ use trigger_faults::LENGTH;
 use trigger_faults::LID_URI;
 use trigger_faults::MODULE;
 use trigger_faults::NAME_AT;
+use trigger_faults::Parts;
 use trigger_faults::TAP;
 use trigger_faults::TARGET_HEAD;
 
@@ -166,11 +167,9 @@ fn trigger_of(payload: &[u8], at: usize, tail: usize) -> Trigger
 pub fn read_trigger(payload: &[u8]) -> Answer
     ensures { λ r. ⌜ r ≡ readOf (now (payload .entry)) ⌝ }
 {
-    let fault = trigger_faults::fault(payload);
-    if fault != 0 {
-        return Answer::Refused(fault);
+    let parts = trigger_faults::parts_of(payload);
+    match parts {
+        Parts::Faulty(n) => Answer::Refused(n),
+        Parts::Placed(at, tail) => Answer::Trigger(trigger_of(payload, at, tail)),
     }
-    let at = NAME_AT + wide(word_at(payload, 1));
-    let tail = at + TARGET_HEAD + wide(word_at(payload, at + 1));
-    Answer::Trigger(trigger_of(payload, at, tail))
 }

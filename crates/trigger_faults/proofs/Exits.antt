@@ -1,20 +1,22 @@
 -- Laws on the faults of a trigger, part by part.
 --   head-sound, target-sound, user-sound        what holds where a part has no fault
 --   read-head, read-target, read-user, read-on  what the table of all faults answers, by the parts' faults
---   fault-head, fault-target, fault-user        the first fault, by the parts'
---   sound                                       without a fault no part has one
+--   refused-so, parted                          what the answer of `parts_of` says
+--   placed                                      what is answered where no part has a fault
 use mathlib.Core.Path.{_≡_, refl, sym, ap, _∙_}
 use mathlib.Core.Bool.{Bool, true, false, _&&_}
-use mathlib.Core.List.{List, _++_}
+use mathlib.Core.List.{List, [], _∷_, _++_}
 use Prim.Native.Nat.{ℕ, _+_, _<_, _≤_}
 use native.Mathlib.Omega.{arith}
 use lib.ListN.{length}
 use lib.Dec.{eqb}
 use borrow.Author.Tests.{ltb-true, ltb-false, eqb-true, eqb-false, not-false}
-use Rattle.base.specs.Choice.{first}
+use Rattle.base.specs.Choice.{Row, first}
+use Rattle.base.proofs.Cases.{by}
 use Rattle.base.specs.Bytes.{byte, word}
-use Rattle.trigger_faults.specs.Fields.{headFaults, targetFaults, userFaults, headFault, targetFault, userFault, firstFault, wrongLength, isUri, someHigh, targetAt, userAt, faults, Sound}
-use Rattle.trigger_faults.proofs.Tables.{first-split, stops, goes, passed, passed-left, passed-right}
+use Rattle.trigger_faults.specs.declared.Parts.{Parts}
+use Rattle.trigger_faults.specs.Fields.{headFaults, targetFaults, userFaults, headFault, targetFault, userFault, partsOf, wrongLength, isUri, someHigh, targetAt, userAt, faults, Sound}
+use Rattle.trigger_faults.proofs.Tables.{first-split, stops, goes, Passed, passed, passed-left, passed-right}
 
 pub record Head (s : List ℕ) : Type 0 where
   pub small : length s ≤ 4096
@@ -98,26 +100,58 @@ module _ {A : Type 0} (refused : ℕ → A) (other : A) (s : List ℕ) where
       unfolding userFault
       read-on u = goes refused (userFaults s (userAt s)) _ (passed (userFaults s (userAt s)) refl u) ∙ after-target
 
+module _ {A : Type 0} (refused : ℕ → A) (other : A) (p q : ℕ) where
+  faulty : (rows : List Row) (n : ℕ) → first Parts.Faulty rows (Parts.Placed p q) ≡ Parts.Faulty n → refused n ≡ first refused rows other
+  faulty [] n e = absurd (let z : _≡_ {A = ℕ} 0 1 = cc in omega arith)
+  faulty (r ∷ rows) n e =
+      let ih = faulty rows n in
+      by (r .when)
+      (λ t. rw t (let h : Parts.Faulty (r .no) ≡ Parts.Faulty n = rw t at e in let k : n ≡ r .no = cc in ap refused k))
+      (λ f. rw f (ih (rw f at e)))
+
+-- what the places say that a table without a fault leads to
+record Clear (rows : List Row) (p q at tail : ℕ) : Type 0 where
+  pub none : Passed rows
+  pub target : at ≡ p
+  pub user : tail ≡ q
+
+clear : (rows : List Row) (p q at tail : ℕ) → first Parts.Faulty rows (Parts.Placed p q) ≡ Parts.Placed at tail → Clear rows p q at tail
+clear [] p q at tail e = record { none = tt; target = cc; user = cc }
+clear (r ∷ rows) p q at tail e =
+    let ih = clear rows p q at tail in
+    by (r .when)
+    (λ t. absurd (let h : Parts.Faulty (r .no) ≡ Parts.Placed at tail = rw t at e in let z : _≡_ {A = ℕ} 0 1 = cc in omega arith))
+    (λ f. let c = ih (rw f at e) in record { none = (f, c .none); target = c .target; user = c .user })
+
+-- a payload without a fault, and the places of its parts
+pub record Parted (s : List ℕ) (at tail : ℕ) : Type 0 where
+  pub sound : Sound s
+  pub target : at ≡ targetAt s
+  pub user : tail ≡ userAt s
+
 module _ (s : List ℕ) where
-  pub fault-head : (n : ℕ) → n ≡ headFault s → (n ≡ 0 → ⊥) → n ≡ firstFault s
-  unfolding firstFault
-  fault-head n e z = read-head (λ k. k) 0 s n e z
+  pub refused-so : {A : Type 0} (refused : ℕ → A) (other : A) (n : ℕ) → partsOf s ≡ Parts.Faulty n → refused n ≡ first refused (faults s) other
+  unfolding partsOf
+  refused-so refused other n e = faulty refused other (targetAt s) (userAt s) (faults s) n e
 
-  pub fault-target : headFault s ≡ 0 → (n : ℕ) → n ≡ targetFault s (targetAt s) → (n ≡ 0 → ⊥) → n ≡ firstFault s
-  unfolding firstFault
-  fault-target h n e z = read-target (λ k. k) 0 s h n e z
-
-  pub fault-user : headFault s ≡ 0 → targetFault s (targetAt s) ≡ 0 → userFault s (userAt s) ≡ firstFault s
-  unfolding firstFault userFault
-  fault-user h t = after-target (λ k. k) 0 s h t
-
-  pub sound : firstFault s ≡ 0 → Sound s
-  unfolding firstFault headFault targetFault userFault
-  sound e =
-      let p = passed (faults s) refl e in
-      let q = passed-right (headFaults s) (targetFaults s (targetAt s) ++ userFaults s (userAt s)) p in
+  pub parted : (at tail : ℕ) → partsOf s ≡ Parts.Placed at tail → Parted s at tail
+  unfolding partsOf headFault targetFault userFault
+  parted at tail e =
+      let c = clear (faults s) (targetAt s) (userAt s) at tail e in
+      let q = passed-right (headFaults s) (targetFaults s (targetAt s) ++ userFaults s (userAt s)) (c .none) in
       record {
-        head = sym (goes (λ k. k) (headFaults s) 0 (passed-left (headFaults s) (targetFaults s (targetAt s) ++ userFaults s (userAt s)) p));
-        target = sym (goes (λ k. k) (targetFaults s (targetAt s)) 0 (passed-left (targetFaults s (targetAt s)) (userFaults s (userAt s)) q));
-        user = sym (goes (λ k. k) (userFaults s (userAt s)) 0 (passed-right (targetFaults s (targetAt s)) (userFaults s (userAt s)) q));
+        sound = record {
+          head = sym (goes (λ k. k) (headFaults s) 0 (passed-left (headFaults s) (targetFaults s (targetAt s) ++ userFaults s (userAt s)) (c .none)));
+          target = sym (goes (λ k. k) (targetFaults s (targetAt s)) 0 (passed-left (targetFaults s (targetAt s)) (userFaults s (userAt s)) q));
+          user = sym (goes (λ k. k) (userFaults s (userAt s)) 0 (passed-right (targetFaults s (targetAt s)) (userFaults s (userAt s)) q));
+        };
+        target = c .target;
+        user = c .user;
       }
+
+  pub placed : (at tail : ℕ) → at ≡ targetAt s → tail ≡ userAt s → Sound s → Parts.Placed at tail ≡ partsOf s
+  unfolding partsOf
+  placed at tail a t h =
+      ap (λ x. Parts.Placed x tail) a
+      ∙ ap (λ x. Parts.Placed (targetAt s) x) t
+      ∙ read-on Parts.Faulty (Parts.Placed (targetAt s) (userAt s)) s (h .head) (h .target) (h .user)

@@ -9,6 +9,7 @@ use lib.Dec.{ltb, leb, eqb}
 use Rattle.base.specs.Choice.{Row, _if_, first}
 use Rattle.base.specs.Bytes.{byte, word}
 use Rattle.base.specs.Below.{some}
+use Rattle.trigger_faults.specs.declared.Parts.{Parts}
 
 -- the trigger ends inside a field that goes up to a place
 abbrev pub cut : List ℕ → ℕ → Bool
@@ -90,5 +91,6 @@ pub record Sound (s : List ℕ) : Type 0 where
 abbrev pub faults : List ℕ → List Row
 faults s = headFaults s ++ (targetFaults s (targetAt s) ++ userFaults s (userAt s))
 
-unfoldable pub firstFault : List ℕ → ℕ
-firstFault s = faultOf (faults s)
+-- the first fault, or the places of the parts
+unfoldable pub partsOf : List ℕ → Parts
+partsOf s = first Parts.Faulty (faults s) (Parts.Placed (targetAt s) (userAt s))

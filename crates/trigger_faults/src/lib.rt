@@ -1,9 +1,9 @@
-// Whether a payload is a trigger: the first fault from the left, field by field.
+// Whether a payload is a trigger: the first fault from the left, field by field, or where its parts are.
 ghost use mathlib.Core.Path.{_≡_};
 ghost use Prim.Native.Nat.{_+_, _≤_};
 ghost use lib.ListN.{length};
 ghost use Rattle.base.specs.Bytes.{word};
-ghost use Rattle.trigger_faults.specs.Fields.{headFault, targetFault, userFault, wrongLength, isUri, someHigh, firstFault};
+ghost use Rattle.trigger_faults.specs.Fields.{headFault, targetFault, userFault, wrongLength, isUri, someHigh, partsOf};
 
 // Refusals.
 const CUT_OFF: u8 = 20;
@@ -50,6 +50,13 @@ pub const ABSOLUTE_URI: u8 = 3;
 pub const LID_URI: u8 = 4;
 
 pub const HTTP_URI: u8 = 5;
+
+pub enum Parts {
+    // The number of the first fault.
+    Faulty(u8),
+    // Where the target's type and where the user data's length stands, in a payload without a fault.
+    Placed(usize, usize),
+}
 
 fn wide(x: u16) -> usize
     ensures { λ r. ⌜ r ≡ x ⌝ }
@@ -177,19 +184,23 @@ fn user_fault(payload: &[u8], at: usize) -> u8
     0
 }
 
-// The fault of a payload that is no trigger, or 0.
-pub fn fault(payload: &[u8]) -> u8
-    ensures { λ r. ⌜ r ≡ firstFault (now (payload .entry)) ⌝ }
+// The places of a payload's parts, or the first fault from the left.
+pub fn parts_of(payload: &[u8]) -> Parts
+    ensures { λ r. ⌜ r ≡ partsOf (now (payload .entry)) ⌝ }
 {
     let head = head_fault(payload);
     if head != 0 {
-        return head;
+        return Parts::Faulty(head);
     }
     let at = NAME_AT + wide(word_at(payload, 1));
     let aim = target_fault(payload, at);
     if aim != 0 {
-        return aim;
+        return Parts::Faulty(aim);
     }
     let tail = at + TARGET_HEAD + wide(word_at(payload, at + 1));
-    user_fault(payload, tail)
+    let left = user_fault(payload, tail);
+    if left != 0 {
+        return Parts::Faulty(left);
+    }
+    Parts::Placed(at, tail)
 }

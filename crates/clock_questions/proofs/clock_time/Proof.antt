@@ -1,10 +1,10 @@
 -- `clock_time` meets its promise.
 use mathlib.Core.Path.{sym, ap, _∙_}
-use Rattle.clock_answers.specs.Clock.{timeWord}
-use Rattle.clock_answers.proofs.Calls.{time-35, time-asked}
+use Rattle.clock_questions.specs.Clock.{timeWord}
+use Rattle.clock_questions.proofs.Calls.{time-35, time-asked}
 use borrow.Author.Needs.{needs}
-use Rattle.clock_answers.proofs.clock_time.Statement.{statement}
-use Rattle.clock_answers.proofs.clock_time.Tie as tie
+use Rattle.clock_questions.proofs.clock_time.Statement.{statement}
+use Rattle.clock_questions.proofs.clock_time.Tie as tie
 
 cast-result : tie.Need-cast-result
 cast-result c = search needs

@@ -1,11 +1,11 @@
 -- `application_state` meets its promise.
 use mathlib.Core.Path.{sym, ap, _∙_}
 use Prim.Native.Nat.{ℕ, _*_}
-use Rattle.clock_answers.specs.Clock.{stateWord}
-use Rattle.clock_answers.proofs.Calls.{state-35, state-asked}
+use Rattle.clock_questions.specs.Clock.{stateWord}
+use Rattle.clock_questions.proofs.Calls.{state-35, state-asked}
 use borrow.Author.Needs.{needs}
-use Rattle.clock_answers.proofs.application_state.Statement.{statement}
-use Rattle.clock_answers.proofs.application_state.Tie as tie
+use Rattle.clock_questions.proofs.application_state.Statement.{statement}
+use Rattle.clock_questions.proofs.application_state.Tie as tie
 
 cast-result : tie.Need-cast-result
 cast-result c = search needs

@@ -1,16 +1,17 @@
--- `trigger_faults::fault` meets its contract: each part's fault decides, and the places are the definition's. Assumes nothing.
+-- `trigger_faults::parts_of` meets its contract: each part's fault decides, and the places are the definition's. Assumes nothing.
 use borrow.Author.Needs.{needs}
 use native.Mathlib.Omega.{arith}
 use mathlib.Core.Path.{_≡_, sym, ap, _∙_}
 use Prim.Native.Nat.{ℕ, _+_, _≤_}
 use denote.Ref.{now}
 use lib.ListN.{length}
-use Rattle.trigger_faults.specs.Fields.{headFault, targetFault, userFault, targetAt, userAt}
-use Rattle.trigger_faults.proofs.Exits.{head-sound, target-sound, fault-head, fault-target, fault-user}
-use Rattle.trigger_faults.proofs.fault.Statement.{statement}
-use Rattle.trigger_faults.proofs.fault.Tie as tie
-use Rattle.trigger_faults.proofs.fault.Reads as reads
-use Rattle.trigger_faults.proofs.fault.Lts as lts
+use Rattle.trigger_faults.specs.Fields.{headFault, targetFault, userFault, targetAt, userAt, Sound, partsOf}
+use Rattle.trigger_faults.specs.declared.Parts.{Parts}
+use Rattle.trigger_faults.proofs.Exits.{head-sound, target-sound, read-head, read-target, read-user, placed}
+use Rattle.trigger_faults.proofs.parts_of.Statement.{statement}
+use Rattle.trigger_faults.proofs.parts_of.Tie as tie
+use Rattle.trigger_faults.proofs.parts_of.Reads as reads
+use Rattle.trigger_faults.proofs.parts_of.Lts as lts
 use Rattle.trigger_faults.proofs.head_fault.Reads as head-fault-reads
 use Rattle.trigger_faults.proofs.target_fault.Reads as target-fault-reads
 use Rattle.trigger_faults.proofs.user_fault.Reads as user-fault-reads
@@ -38,11 +39,19 @@ aimed c = sym (aim (c .before)) ∙ c .if2 .left
 end : (c : tie.After-wide2) → 3 + c .before .before .before .before .wide .result + 3 + c .wide2 .result ≡ userAt (now (c .before .before .before .before .before .before .before .before .before .args .payload))
 end c = rw (c .wide2 .ensures, c .before .word-at2 .ensures, place (c .before .before .before .before))
 
+-- the user data's fault
+left : (c : tie.After-user-fault) → c .user-fault .result ≡ userFault (now (c .before .before .before .before .before .before .before .before .before .before .args .payload)) (userAt (now (c .before .before .before .before .before .before .before .before .before .before .args .payload)))
+left c = c .user-fault .ensures ∙ rw (end (c .before))
+
+whole : (c : tie.Else3) → Sound (now (c .before .before .before .before .before .before .before .before .before .before .before .args .payload))
+whole c = record { head = head (c .before .before .before .before .before .before .before .before); target = aimed (c .before .before .before .before); user = sym (left (c .before)) ∙ c .if3 .left }
+
 head-fault-requires : tie.Need-head-fault-requires
 head-fault-requires c κs = search needs
 
 returns : tie.Need-returns
-returns c = fault-head _ _ (c .before .head-fault .ensures) (c .if1 .taken)
+unfolding partsOf
+returns c = read-head Parts.Faulty _ _ _ (c .before .head-fault .ensures) (c .if1 .taken)
 
 word-at-requires : tie.Need-word-at-requires
 word-at-requires c κs = head-sound _ (head c) .sized
@@ -57,7 +66,8 @@ target-fault-requires : tie.Need-target-fault-requires
 target-fault-requires c κs = search needs
 
 returns-2 : tie.Need-returns-2
-returns-2 c = fault-target _ (head (c .before .before .before .before)) _ (aim (c .before)) (c .if2 .taken)
+unfolding partsOf
+returns-2 c = read-target Parts.Faulty _ _ (head (c .before .before .before .before)) _ (aim (c .before)) (c .if2 .taken)
 
 add-tail : tie.Need-add-tail
 add-tail c = search needs
@@ -78,12 +88,14 @@ user-fault-requires : tie.Need-user-fault-requires
 user-fault-requires c κs = search needs
 
 returns-3 : tie.Need-returns-3
-returns-3 c =
-    c .user-fault .ensures
-    ∙ rw (end (c .before)) (fault-user _ (head (c .before .before .before .before .before .before .before)) (aimed (c .before .before .before)))
+unfolding partsOf
+returns-3 c = read-user Parts.Faulty _ _ (head (c .before .before .before .before .before .before .before .before)) (aimed (c .before .before .before .before)) _ (left (c .before)) (c .if3 .taken)
 
-pub fault-spec : {M : Type 1} → statement M
-fault-spec =
+returns-4 : tie.Need-returns-4
+returns-4 c = placed _ _ _ (place (c .before .before .before .before .before .before)) (end (c .before .before)) (whole c)
+
+pub parts-of-spec : {M : Type 1} → statement M
+parts-of-spec =
     tie.close
     (tie.spec
     head-fault-requires
@@ -99,4 +111,5 @@ fault-spec =
     wide-requires-2
     add-tail-2
     user-fault-requires
-    returns-3)
+    returns-3
+    returns-4)
