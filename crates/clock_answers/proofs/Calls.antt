@@ -28,9 +28,9 @@ use Rattle.clock.specs.Move.{moveIn, MoveSays, faults, refused, advanced}
 use Rattle.clock_places.specs.Places.{actionNo}
 use Rattle.clock_words.specs.Words.{heldsIn, placeIn, clockIn, putIn}
 use Rattle.clock_words.proofs.Laws.{up-length}
-use Rattle.clock_host.specs.Lent.{Lent, lent, after, offerLent}
+use Rattle.clock_host.specs.Lent.{lent, offerLent}
 use Rattle.clock_questions.specs.Clock.{bookIn}
-use Rattle.clock_answers.specs.Clock.{Called, unchanged, activation, freshCall, heardCall, offerCall, moveCall}
+use Rattle.clock_answers.specs.Clock.{Called, unchanged, freshCall, heardNo, numbered, offerCall, moveCall}
 
 -- a call that was answered and put its record
 abbrev pub put : List ℕ → ℕ → Clock → Called
@@ -45,20 +45,6 @@ module _ (w : List ℕ) where
   unfolding freshCall putIn
   fresh-put c z e = rw (eq-eqb _ _ z, e)
 
--- an offer's answer in a number
-abbrev pub heardNo : Heard → ℕ
-heardNo Heard.Applied = 1 * 2 ^ 8
-heardNo Heard.Waiting = 2 * 2 ^ 8
-heardNo (Heard.Refused n) = n
-
-abbrev pub numbered : Lent → Called
-numbered l = record { answer = heardNo (l .answer); words = l .words }
-
-same : (w : List ℕ) (x : Heard) (b : Book) → numbered (after w x b) ≡ heardCall w x b
-same w Heard.Applied b = refl
-same w Heard.Waiting b = refl
-same w (Heard.Refused n) b = refl
-
 module _ (w : List ℕ) (application event action time : ℕ) where
   abbrev call : Called
   call = offerCall w application event action time
@@ -68,18 +54,13 @@ module _ (w : List ℕ) (application event action time : ℕ) where
   offer-255 h = rw (lt-ltb _ _ h)
 
   module _ (h : action ≤ 3) where
-    offer-lent : numbered (offerLent w (activation application event action time)) ≡ call
-    unfolding offerCall offerLent
-    offer-lent =
-        let r = offerIn (bookIn w) (activation application event action time) in
-        by (eqb (length w) 67) (λ t. rw (le-ltb _ _ h, t) (same w (r .answer) (r .book))) (λ f. rw (le-ltb _ _ h, f))
-
     pub offer-answered : (x : Action) → x ≡ actionNo action → (r : Heard) (v : List ℕ)
         → lent r v ≡ offerLent w (record { application = application; event = event; action = x; time = time })
         → record { answer = heardNo r; words = v } ≡ call
+    unfolding offerCall
     offer-answered x q r v e =
         ap numbered (e ∙ ap (λ (y : Action). offerLent w (record { application = application; event = event; action = y; time = time })) q)
-        ∙ offer-lent
+        ∙ rw (le-ltb _ _ h)
 
 -- those that pass are no more than all
 pub only-fewer : {A : Type 0} (p : A → Bool) (l : List A) → length (onlyOf p l) ≤ length l

@@ -36,7 +36,8 @@ use Rattle.clock_words.specs.Words.{placeIn, heldsIn, clockIn, wordsOf}
 use Rattle.clock_words.proofs.Laws.{up-length}
 use Rattle.clock_words.proofs.Back.{Fits, Whole, back}
 use Rattle.clock_questions.specs.Clock.{bookIn}
-use Rattle.clock_answers.specs.Clock.{activation, heardIn, offerCall, movedIn, moveCall}
+use Rattle.clock_answers.specs.Clock.{activation, offerCall, movedIn, moveCall}
+use Rattle.clock_host.specs.Lent.{heard, offerLent}
 use Rattle.clock_answers.proofs.Calls.{only-fewer, held-few}
 
 module _ {A : Type 0} (P : A → Type 0) where
@@ -118,7 +119,7 @@ kept to b s =
 module _ (w : List ℕ) (z : length w ≡ 67) where
   -- the words that an answer to an offer leaves, and that to a move, are its record
   abbrev Heard-back : Answered Heard → Type 0
-  Heard-back r = bookIn (heardIn w r .words) ≡ r .book
+  Heard-back r = bookIn (heard w r .words) ≡ r .book
 
   abbrev Moved-back : Answered Moved → Type 0
   Moved-back r = bookIn (movedIn w r .words) ≡ r .book
@@ -160,7 +161,7 @@ module _ (w : List ℕ) (z : length w ≡ 67) where
 
   pub offer-handed : (application event action time : ℕ) → application < 2 ^ 8 → event < 2 ^ 16 → action ≤ 3
       → bookIn (offerCall w application event action time .words) ≡ offerIn (bookIn w) (activation application event action time) .book
-  unfolding offerCall
+  unfolding offerCall offerLent
   offer-handed application event action time p e h =
       rw (le-ltb _ _ h, eq-eqb _ _ z)
       (offer-back (activation application event action time) (record { event = e; application = p }))

@@ -7,10 +7,10 @@ use Rattle.activation.specs.declared.Activation.{Activation}
 use Rattle.clock.specs.declared.Heard.{Heard}
 use Rattle.clock.specs.declared.Moved.{Moved}
 use Rattle.clock.specs.Book.{Book, fresh, Answered}
-use Rattle.clock.specs.Offer.{offerIn}
 use Rattle.clock.specs.Move.{moveIn}
 use Rattle.clock_places.specs.Places.{actionNo}
 use Rattle.clock_words.specs.Words.{wordsOf}
+use Rattle.clock_host.specs.Lent.{Lent, offerLent}
 use Rattle.clock_questions.specs.Clock.{unsized, bookIn}
 
 -- what a call answers, and what it leaves in the words
@@ -25,14 +25,14 @@ unchanged w n = record { answer = n; words = w }
 unfoldable pub freshCall : List ℕ → Called
 freshCall w = first (unchanged w) (35 if unsized w ∷ []) (record { answer = 0; words = wordsOf fresh })
 
--- from bit 8 of the answer: 1 applied, 2 waiting
-abbrev pub heardCall : List ℕ → Heard → Book → Called
-heardCall w Heard.Applied b = record { answer = 1 * 2 ^ 8; words = wordsOf b }
-heardCall w Heard.Waiting b = record { answer = 2 * 2 ^ 8; words = wordsOf b }
-heardCall w (Heard.Refused n) b = unchanged w n
+-- an offer's answer in a number: from bit 8 up 1 applied, 2 waiting
+abbrev pub heardNo : Heard → ℕ
+heardNo Heard.Applied = 1 * 2 ^ 8
+heardNo Heard.Waiting = 2 * 2 ^ 8
+heardNo (Heard.Refused n) = n
 
-abbrev pub heardIn : List ℕ → Answered Heard → Called
-heardIn w r = heardCall w (r .answer) (r .book)
+abbrev pub numbered : Lent → Called
+numbered l = record { answer = heardNo (l .answer); words = l .words }
 
 abbrev pub activation : ℕ → ℕ → ℕ → ℕ → Activation
 activation application event action time = record { application = application; event = event; action = actionNo action; time = time }
@@ -41,8 +41,8 @@ activation application event action time = record { application = application; e
 unfoldable pub offerCall : List ℕ → ℕ → ℕ → ℕ → ℕ → Called
 offerCall w application event action time =
     first (unchanged w)
-    (255 if ltb 3 action ∷ 35 if unsized w ∷ [])
-    (heardIn w (offerIn (bookIn w) (activation application event action time)))
+    (255 if ltb 3 action ∷ [])
+    (numbered (offerLent w (activation application event action time)))
 
 -- from bit 8 of the answer: how many were applied
 abbrev pub movedCall : List ℕ → Moved → Book → Called

@@ -1,7 +1,7 @@
 -- `clock_offer` meets its promise: a number that is no action, and then what the offer over the words answers.
 use mathlib.Core.Path.{_≡_, sym, ap, _∙_}
-use Rattle.clock_answers.specs.Clock.{Called, unchanged, offerCall}
-use Rattle.clock_answers.proofs.Calls.{heardNo, offer-255, offer-answered}
+use Rattle.clock_answers.specs.Clock.{Called, unchanged, heardNo, offerCall}
+use Rattle.clock_answers.proofs.Calls.{offer-255, offer-answered}
 use borrow.Author.Needs.{needs}
 use Rattle.clock_answers.proofs.clock_offer.Statement.{statement}
 use Rattle.clock_answers.proofs.clock_offer.Tie as tie
