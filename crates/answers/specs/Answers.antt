@@ -19,7 +19,7 @@ pub record Out : Type 0 where
 abbrev pub out : ℕ → List ℕ → Out
 out code bytes = record { code = code; out = bytes }
 
--- such a call answers from bit 8 up how many bytes now stand at the output's front: 65,535 at most, which is more than any section,
--- file or listing has
+-- such a call answers from bit 8 up how many bytes now stand at the output's front, in 16 bits: no section, file or listing has
+-- more than 65,535
 abbrev pub sizeCode : ℕ → ℕ
 sizeCode n = 256 * (n % 65536)

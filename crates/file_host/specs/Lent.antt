@@ -12,6 +12,7 @@ use Rattle.save.specs.declared.Saved.{Saved}
 use Rattle.listing.specs.Listing as Listing
 use Rattle.listing.specs.declared.Listed.{Listed}
 
+-- a load that is done answers 0 and puts the record into the numbers; one that is refused answers its number and leaves them
 abbrev pub loaded : List ℕ → Load.After → Loaded → Lent
 loaded words a Loaded.Done = lent 0 (wordsAfter words (a .shelf)) (a .store)
 loaded words a (Loaded.Refused n) = lent n words (a .store)
@@ -19,9 +20,11 @@ loaded words a (Loaded.Refused n) = lent n words (a .store)
 abbrev pub loadedBy : List ℕ → Load.After → Lent
 loadedBy words a = loaded words a (a .said)
 
+-- loading a file on lent numbers: the layer's `loadOf` of the record that they are
 unfoldable pub loadLent : List ℕ → List ℕ → List ℕ → Lent
 loadLent words store file = loadedBy words (Load.loadOf (shelfAt words) store file)
 
+-- a save answers the file's size from bit 8 up, or its refusal
 abbrev pub savedCode : Saved → ℕ
 savedCode (Saved.Bytes n) = sizeCode n
 savedCode (Saved.Refused n) = n
@@ -29,10 +32,11 @@ savedCode (Saved.Refused n) = n
 abbrev pub saveOut : Save.Save → Out
 saveOut c = out (savedCode (c .said)) (c .out)
 
+-- saving a table from lent numbers: the layer's `saveOf` of the record that they are
 unfoldable pub saveLent : List ℕ → List ℕ → Key → List ℕ → Out
 saveLent words store key bytes = saveOut (Save.saveOf (shelfAt words) store key bytes)
 
--- the listing of a file needs no shelf
+-- a listing answers the text's size from bit 8 up, or 15
 abbrev pub listedCode : Listed → ℕ
 listedCode (Listed.Bytes n) = sizeCode n
 listedCode (Listed.Refused n) = n
@@ -40,5 +44,6 @@ listedCode (Listed.Refused n) = n
 abbrev pub listOut : Listing.Listing → Out
 listOut c = out (listedCode (c .said)) (c .out)
 
+-- listing a file, which needs no shelf
 unfoldable pub listLent : List ℕ → List ℕ → Out
 listLent file bytes = listOut (Listing.listOf file bytes)

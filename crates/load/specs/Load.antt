@@ -33,7 +33,7 @@ pub record After : Type 0 where
 abbrev pub after : Loading → List ℕ → After
 after r store = record { said = r .answer; shelf = r .shelf; store = store }
 
--- a refused call gives the number alone
+-- a refused call gives the number, and the record as it was
 abbrev pub refused : Shelf → ℕ → Loading
 refused shelf n = record { answer = Loaded.Refused n; shelf = shelf }
 
@@ -51,11 +51,11 @@ storedBelow (suc k) file starts lengths store p =
     else put (storedBelow k file starts lengths store p) p k (part file (getD starts k 0) (getD lengths k 0))
 
 module _ (shelf : Shelf) (store file : List ℕ) where
-  -- .. and leaves the store as it was
+  -- a refused call also leaves the store as it was
   abbrev pub no : ℕ → After
   no n = after (refused shelf n) store
 
-  -- 13, 9; else the lowest free place gets the table, and each berth the section and zeros
+  -- 13, 9; else the lowest free place gets the table, and the berth of each of its sections that section and zeros
   unfoldable pub tableOf : Scanned → Header → After
   tableOf scanned h =
       first no
@@ -66,11 +66,12 @@ module _ (shelf : Shelf) (store file : List ℕ) where
         store = storedBelow sections file (scanned .starts) (scanned .lengths) store (freeOf shelf);
       })
 
-  -- the first fault of the file from the left
+  -- the file's table, or the number of its first fault from the left
   abbrev pub answered : Scanned → Scan → After
   answered scanned (Scan.Table h) = tableOf scanned h
   answered scanned (Scan.Refused n) = no n
 
+  -- what a load leaves: 17, 18, then what the file says
   unfoldable pub loadOf : After
   loadOf =
       first no

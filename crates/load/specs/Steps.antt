@@ -19,7 +19,7 @@ Within file starts lengths last =
     → (getD lengths n 0 ≡ 0)
     ⊎ ((getD starts n 0 + getD lengths n 0 ≤ length file) × (getD lengths n 0 ≤ berthSize) × (n ≤ last)))
 
--- there is a section of that size, and it lies in a file of a length
+-- a section of some size is there, and lies from its start on within a file of `total` bytes
 unfoldable pub liesIn : ℕ → ℕ → ℕ → Bool
 liesIn total start size = not (eqb size 0) && leb (start + size) total
 
@@ -31,6 +31,6 @@ placedBelow (suc k) store p file starts lengths =
     putIn (placedBelow k store p file starts lengths) p k (part file (getD starts k 0) (getD lengths k 0))
     else placedBelow k store p file starts lengths
 
--- .. of a count of sections, which is at most 16
+-- .. of the first `count` sections; none is put where the count is above 16
 unfoldable pub eachStored : List ℕ → ℕ → List ℕ → List ℕ → List ℕ → ℕ → List ℕ
 eachStored store p file starts lengths count = if ltb sections count then store else placedBelow count store p file starts lengths

@@ -19,7 +19,7 @@ placeAmong words key = if eqb (length words) count then placeOf (shelfIn words) 
 unfoldable pub freeAmong : List ℕ → ℕ
 freeAmong words = if eqb (length words) count then freeOf (shelfIn words) else places
 
--- a place with another length at number n
+-- a place with another length of its section n
 abbrev pub lengthened : Place → ℕ → ℕ → Place
 lengthened place n size =
     record {
@@ -45,13 +45,14 @@ unfoldable pub tablePut : List ℕ → ℕ → Place → List ℕ
 tablePut words p place =
     if eqb (length words) count && ltb p places then wordsAfter words (withPlace (shelfIn words) p place) else words
 
--- a last and whether its place is taken, as a record that is put into numbers has them
+-- a place's third number as putting the record back makes it: its last, and 1 above it where anything stands above it
 abbrev pub marked : ℕ → ℕ
 marked third = third % 256 + over (not (eqb (third / 256) 0))
 
--- the numbers with place p's last and mark as they are put
+-- the numbers with that third number in place p
 unfoldable pub tidied : List ℕ → ℕ → List ℕ
 tidied words p = set words (perPlace * p + 2) (marked (getD words (perPlace * p + 2) 0))
 
+-- .. in all four places
 unfoldable pub allTidied : List ℕ → List ℕ
 allTidied words = tidied (tidied (tidied (tidied words 0) 1) 2) 3

@@ -30,7 +30,7 @@ isUri type = leb 3 type && leb type 5
 unfoldable pub someHigh : List ℕ → ℕ → ℕ → Bool
 someHigh s at n = some n (λ k. ltb 127 (byte s (at + k)))
 
--- event type 8; application id length 16; description 16 and id, which that length counts
+-- 26; event type 8; application id length 16; description 16 and id, which that length counts
 abbrev pub headFaults : List ℕ → List Row
 headFaults s =
     26 if ltb 4096 (length s)
@@ -58,7 +58,7 @@ userFaults s at =
     ∷ 25 if ltb (at + 2 + word s at) (length s)
     ∷ []
 
--- the number of the first row that holds, 0 where none does
+-- the number of the first row that holds, 0 where none does; then of each of the three parts
 abbrev pub faultOf : List Row → ℕ
 faultOf rows = first (λ n. n) rows 0
 
@@ -91,6 +91,6 @@ pub record Sound (s : List ℕ) : Type 0 where
 abbrev pub faults : List ℕ → List Row
 faults s = headFaults s ++ (targetFaults s (targetAt s) ++ userFaults s (userAt s))
 
--- the first fault, or the places of the parts
+-- the first fault, or the places of the target's type and of the user data's length
 unfoldable pub partsOf : List ℕ → Parts
 partsOf s = first Parts.Faulty (faults s) (Parts.Placed (targetAt s) (userAt s))
