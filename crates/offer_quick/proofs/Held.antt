@@ -1,7 +1,7 @@
 -- The frequent steps, case by case as the code comes to them.
 --   in-shelf, most-in                                        76 numbers are a record, and its held lengths
 --   compared, compared-end, stood                            the bytes that stand in a berth, compared
---   other-version, other-last, adds, other-size, repeats     a held key
+--   other-version, other-last, adds, differs, settles     a held key
 --   other-store, spoiled-record, not-read, not-held, found   an offer
 use mathlib.Core.Path.{_≡_, refl, sym, ap, subst, _∙_}
 use mathlib.Core.Bool.{Bool, true, false, not, _&&_}
@@ -13,6 +13,7 @@ use lib.ListN.{length, getD}
 use lib.Seq.{getD-take, getD-drop}
 use lib.Bits.{bitOr, bitXor}
 use borrow.Author.Tests.{eq-eqb, ne-eqb}
+use Rattle.base.specs.Choice.{if_then_else_}
 use Rattle.base.specs.Bytes.{byte, same}
 use Rattle.base.specs.Below.{every}
 use Rattle.base.proofs.Below.{every-next}
@@ -112,13 +113,18 @@ module _ (shelf : Shelf) (store payload : List ℕ) (p : ℕ) (h : Header) (x : 
       adds z = rw (e, eq-eqb (x .version) (h .version) v, eq-eqb (x .last) (h .last) l, eq-eqb (lengthAt x (h .number)) 0 z)
 
       module _ (z : lengthAt x (h .number) ≡ 0 → ⊥) where
-        pub repeats : same (standing store p (h .number) (lengthAt x (h .number))) payload ≡ true → Repeats ≡ told
+        repeats : same (standing store p (h .number) (lengthAt x (h .number))) payload ≡ true → Repeats ≡ told
         unfolding heldOf
         repeats s = rw (e, eq-eqb (x .version) (h .version) v, eq-eqb (x .last) (h .last) l, ne-eqb (lengthAt x (h .number)) 0 z, s)
 
         pub differs : same (standing store p (h .number) (lengthAt x (h .number))) payload ≡ false → Other ≡ told
         unfolding heldOf
         differs s = rw (e, eq-eqb (x .version) (h .version) v, eq-eqb (x .last) (h .last) l, ne-eqb (lengthAt x (h .number)) 0 z, s)
+
+        -- the comparison settles it
+        pub settles : (t : Bool) → same (standing store p (h .number) (lengthAt x (h .number))) payload ≡ t → (if t then Repeats else Other) ≡ told
+        settles true s = repeats s
+        settles false s = differs s
 
 -- what no offer of a refused one is
 refused-other : (shelf : Shelf) (r : Reading) (n : ℕ) → Other ≡ frequentBy shelf r (Offered.Refused n)

@@ -1,12 +1,17 @@
 -- `offer_quick::held_step` meets its promise: each `return` is a case of the definition.
-use mathlib.Core.Path.{sym, _∙_}
+use mathlib.Core.Path.{_≡_, sym, _∙_}
+use mathlib.Core.Bool.{Bool, true, false}
+use Rattle.base.specs.Choice.{if_then_else_}
+use Rattle.offer.specs.Offer.{heldOf}
+use Rattle.offer_quick.specs.Frequent.{frequentAt}
+use Rattle.offer_quick.specs.declared.Frequent.the-variants.{Repeats, Other}
 use Prim.Native.Nat.{_+_, _*_}
 use native.Mathlib.Omega.{arith}
 use borrow.Author.Needs.{needs}
 use Rattle.shelf_quick.proofs.Places.{length-in}
 use Rattle.shelf_words.specs.Words.{placeIn, shelfIn}
 use Rattle.shelf_places.proofs.Here.{place-at}
-use Rattle.offer_quick.proofs.Held.{stood, other-length, other-version, other-last, adds, repeats, differs}
+use Rattle.offer_quick.proofs.Held.{stood, other-length, other-version, other-last, adds, differs, settles}
 use Rattle.offer_quick.proofs.held_step.Statement.{statement}
 use Rattle.offer_quick.proofs.held_step.Tie as tie
 
@@ -29,14 +34,7 @@ returns c =
     let q = c .before .before .before .before .before .before .pre in
     let w = a .words .now in
     let size = length-in w (a .p) (a .header .number) (q .3) in
-    other-version
-    (shelfIn w)
-    (a .store .now)
-    (a .payload .now)
-    (a .p)
-    (a .header)
-    (placeIn w (a .p))
-    (place-at w (a .p) (q .2))
+    other-version _ _ _ _ _ _ (place-at w (a .p) (q .2))
     (c .if1 .taken)
 
 cast-last : tie.Need-cast-last
@@ -58,14 +56,7 @@ returns-2 c =
     let q = c .before .before .before .before .before .before .before .before .before .pre in
     let w = a .words .now in
     let size = length-in w (a .p) (a .header .number) (q .3) in
-    other-last
-    (shelfIn w)
-    (a .store .now)
-    (a .payload .now)
-    (a .p)
-    (a .header)
-    (placeIn w (a .p))
-    (place-at w (a .p) (q .2))
+    other-last _ _ _ _ _ _ (place-at w (a .p) (q .2))
     (c .before .before .before .if1 .left)
     (c .if2 .taken)
 
@@ -94,14 +85,7 @@ returns-3 c =
     let q = c .before .before .before .before .before .before .before .before .before .before .before .before .pre in
     let w = a .words .now in
     let size = length-in w (a .p) (a .header .number) (q .3) in
-    adds
-    (shelfIn w)
-    (a .store .now)
-    (a .payload .now)
-    (a .p)
-    (a .header)
-    (placeIn w (a .p))
-    (place-at w (a .p) (q .2))
+    adds _ _ _ _ _ _ (place-at w (a .p) (q .2))
     (c .before .before .before .before .before .before .if1 .left)
     (c .before .before .before .if2 .left)
     (size ∙ c .if3 .taken)
@@ -113,14 +97,7 @@ returns-4 c =
     let q = c .before .before .before .before .before .before .before .before .before .before .before .before .before .pre in
     let w = a .words .now in
     let size = length-in w (a .p) (a .header .number) (q .3) in
-    differs
-    (shelfIn w)
-    (a .store .now)
-    (a .payload .now)
-    (a .p)
-    (a .header)
-    (placeIn w (a .p))
-    (place-at w (a .p) (q .2))
+    differs _ _ _ _ _ _ (place-at w (a .p) (q .2))
     (c .before .before .before .before .before .before .before .if1 .left)
     (c .before .before .before .before .if2 .left)
     (λ z. c .before .if3 .left (sym size ∙ z))
@@ -143,45 +120,28 @@ stands-from-requires c κs =
     let same = c .if4 .left in
     omega arith
 
-returns-5 : tie.Need-returns-5
+-- what the comparison of the bytes told settles the step
+settled : (c : tie.After-stands-from) (t : Bool) → c .stands-from .result ≡ t
+    → (if t then Repeats else Other)
+    ≡ frequentAt (c .before .before .before .before .before .before .before .before .before .before .before .before .before .before .args .p) (c .before .before .before .before .before .before .before .before .before .before .before .before .before .before .args .header .number)
+    (heldOf (shelfIn (c .before .before .before .before .before .before .before .before .before .before .before .before .before .before .args .words .now)) (c .before .before .before .before .before .before .before .before .before .before .before .before .before .before .args .store .now) (c .before .before .before .before .before .before .before .before .before .before .before .before .before .before .args .payload .now) (c .before .before .before .before .before .before .before .before .before .before .before .before .before .before .args .p) (c .before .before .before .before .before .before .before .before .before .before .before .before .before .before .args .header) .said)
 unfolding placeIn
-returns-5 c =
-    let a = c .before .before .before .before .before .before .before .before .before .before .before .before .before .before .before .args in
-    let q = c .before .before .before .before .before .before .before .before .before .before .before .before .before .before .before .pre in
-    let w = a .words .now in
-    let size = length-in w (a .p) (a .header .number) (q .3) in
-    repeats
-    (shelfIn w)
-    (a .store .now)
-    (a .payload .now)
-    (a .p)
-    (a .header)
-    (placeIn w (a .p))
-    (place-at w (a .p) (q .2))
-    (c .before .before .before .before .before .before .before .before .before .if1 .left)
-    (c .before .before .before .before .before .before .if2 .left)
-    (λ z. c .before .before .before .if3 .left (sym size ∙ z))
-    (stood (a .store .now) (q .1) (a .p) (a .header .number) (q .2) (q .3) (a .payload .now) (size ∙ c .before .before .if4 .left) (q .4) (c .before .stands-from .ensures) (c .if5 .taken))
+settled c t e =
+    let a = c .before .before .before .before .before .before .before .before .before .before .before .before .before .before .args in
+    let q = c .before .before .before .before .before .before .before .before .before .before .before .before .before .before .pre in
+    let size = length-in (a .words .now) (a .p) (a .header .number) (q .3) in
+    settles _ _ _ _ _ _ (place-at (a .words .now) (a .p) (q .2))
+    (c .before .before .before .before .before .before .before .before .if1 .left)
+    (c .before .before .before .before .before .if2 .left)
+    (λ z. c .before .before .if3 .left (sym size ∙ z))
+    t
+    (stood _ (q .1) _ _ (q .2) (q .3) _ (size ∙ c .before .if4 .left) (q .4) (c .stands-from .ensures) e)
+
+returns-5 : tie.Need-returns-5
+returns-5 c = settled (c .before) true (c .if5 .taken)
 
 returns-6 : tie.Need-returns-6
-unfolding placeIn
-returns-6 c =
-    let a = c .before .before .before .before .before .before .before .before .before .before .before .before .before .before .before .args in
-    let q = c .before .before .before .before .before .before .before .before .before .before .before .before .before .before .before .pre in
-    let w = a .words .now in
-    let size = length-in w (a .p) (a .header .number) (q .3) in
-    differs
-    (shelfIn w)
-    (a .store .now)
-    (a .payload .now)
-    (a .p)
-    (a .header)
-    (placeIn w (a .p))
-    (place-at w (a .p) (q .2))
-    (c .before .before .before .before .before .before .before .before .before .if1 .left)
-    (c .before .before .before .before .before .before .if2 .left)
-    (λ z. c .before .before .before .if3 .left (sym size ∙ z))
-    (stood (a .store .now) (q .1) (a .p) (a .header .number) (q .2) (q .3) (a .payload .now) (size ∙ c .before .before .if4 .left) (q .4) (c .before .stands-from .ensures) (c .if5 .left))
+returns-6 c = settled (c .before) false (c .if5 .left)
 
 pub held-step-spec : {M : Type 1} → statement M
 held-step-spec =
