@@ -3,24 +3,29 @@
 --   kept-16, kept-15   one that is not held is refused 16, one for which the output is too small 15
 --   kept-whole       the table is called complete when every number from 0 to its last is held, and else incomplete
 --   unheld-copied, unheld-whole      of a table that is not held nothing is answered but 14
+--   unheld-14, held-answer           so of every question, and of a held table none is answered 14
 use mathlib.Core.Path.{_≡_, ap, _∙_}
 use mathlib.Core.Bool.{true, false, not}
 use mathlib.Core.List.{List, _++_}
 use Prim.Native.Nat.{ℕ, _+_, _<_, _≤_}
 use native.Mathlib.Omega.{arith}
-use lib.Dec.{eqb}
+use lib.Dec.{eqb, ltb}
 use lib.ListN.{length, drop, List·getD-eq-default}
 use borrow.Author.Tests.{eq-eqb, ne-eqb, le-ltb, lt-ltb}
 use Rattle.base.specs.Choice.{if_then_else_, _if_}
 use Rattle.base.specs.Below.{every}
+use Rattle.base.proofs.Cases.{by}
+use Rattle.base.proofs.Tables.{among}
 use Rattle.berth.specs.Berth.{sections, places, storeSize}
 use Rattle.shelf.specs.Record.{placeAt, holds, placeOf}
 use Rattle.shelf.specs.declared.Key.{Key}
 use Rattle.shelf.proofs.Words.{sound-place}
-use Rattle.ask.specs.Ask.{complete, copy, copyOf, wholeOf}
+use Rattle.ask.specs.Ask.{complete, copy, copiedNo, asked, uncopied, copyFrom, copyOf, wholeOf, missingOf}
 use Rattle.ask.specs.declared.Copied.{Copied}
 use Rattle.ask.specs.declared.Whole.{Whole}
+use Rattle.save.specs.Save.{savedFile, saveOf}
 use Rattle.shelf_laws.specs.State.{State, copyOut, wholeIn}
+use Rattle.shelf_laws.specs.History.{Question, about, reply, replyNo}
 use Rattle.shelf_laws.proofs.Truth.{every-same}
 use Rattle.shelf_laws.proofs.Kept.{Good, Table, Kept, kept-key}
 use Rattle.shelf_laws.proofs.Places.{is-taken}
@@ -85,3 +90,39 @@ module _ (s : State) (g : Good s) (key : Key) where
     pub unheld-whole : wholeIn s key ≡ Whole.Refused 14
     unfolding wholeOf
     unheld-whole = rw (eq-eqb (length s.store) storeSize (g .lent), g .unspoiled, e)
+
+-- a question about a held table is answered, or refused 15 or 16
+pub record Answered (n : ℕ) : Type 0 where
+  pub most : n ≤ 16
+  pub other : n ≡ 14 → ⊥
+
+given : (n : ℕ) → n ≤ 16 → (n ≡ 14 → ⊥) → Answered n
+given n h ne = record { most = h; other = ne }
+
+module _ (s : State) (g : Good s) where
+  pub unheld-14 : (q : Question) → placeOf s.shelf (about q) ≡ places → replyNo (reply s q) ≡ 14
+  unfolding copyOf wholeOf missingOf saveOf
+  unheld-14 (Question.copy key n out) e = rw (eq-eqb (length s.store) storeSize (g .lent), g .unspoiled, e)
+  unheld-14 (Question.whole key) e = rw (eq-eqb (length s.store) storeSize (g .lent), g .unspoiled, e)
+  unheld-14 (Question.missing key) e = rw (eq-eqb (length s.store) storeSize (g .lent), g .unspoiled, e)
+  unheld-14 (Question.save key out) e = rw (eq-eqb (length s.store) storeSize (g .lent), g .unspoiled, e)
+
+  taken : (key : Key) → placeOf s.shelf key < places → eqb (placeOf s.shelf key) places ≡ false
+  taken key i = ne-eqb (placeOf s.shelf key) places (λ e. omega arith)
+
+  pub held-answer : (q : Question) → placeOf s.shelf (about q) < places → Answered (replyNo (reply s q))
+  unfolding copyOf wholeOf missingOf saveOf
+  held-answer (Question.copy key n out) i =
+      rw (eq-eqb (length s.store) storeSize (g .lent), g .unspoiled, taken key i)
+      (among (λ m. copy (Copied.Refused m) out) (λ c. Answered (copiedNo (c .said)))
+      (uncopied (asked s.shelf s.store key) n out) (copyFrom (asked s.shelf s.store key) s.store (placeOf s.shelf key) n out)
+      (given 16 (omega arith) (λ e. omega arith), (given 15 (omega arith) (λ e. omega arith), tt)) (given 0 (omega arith) (λ e. omega arith)))
+  held-answer (Question.whole key) i =
+      rw (eq-eqb (length s.store) storeSize (g .lent), g .unspoiled, taken key i)
+      (by (complete (asked s.shelf s.store key)) (λ b. rw b (given 0 (omega arith) (λ e. omega arith))) (λ b. rw b (given 0 (omega arith) (λ e. omega arith))))
+  held-answer (Question.missing key) i =
+      rw (eq-eqb (length s.store) storeSize (g .lent), g .unspoiled, taken key i)
+      (by (complete (asked s.shelf s.store key)) (λ b. rw b (given 0 (omega arith) (λ e. omega arith))) (λ b. rw b (given 0 (omega arith) (λ e. omega arith))))
+  held-answer (Question.save key out) i =
+      rw (eq-eqb (length s.store) storeSize (g .lent), g .unspoiled, taken key i)
+      (by (ltb (length out) (length (savedFile s.shelf s.store key))) (λ b. rw b (given 15 (omega arith) (λ e. omega arith))) (λ b. rw b (given 0 (omega arith) (λ e. omega arith))))

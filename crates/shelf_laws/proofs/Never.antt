@@ -3,28 +3,26 @@ use mathlib.Core.Path.{_≡_, sym, _∙_}
 use mathlib.Core.List.{List, [], _∷_}
 use Prim.Native.Nat.{ℕ, _≤_}
 use native.Mathlib.Omega.{arith}
-use lib.Dec.{eqb, ltb}
-use lib.ListN.{length}
-use borrow.Author.Tests.{eq-eqb}
+use lib.Dec.{eqb}
+use borrow.Author.Tests.{eqb-true, eqb-false}
 use Rattle.base.proofs.Cases.{by, unlike}
-use Rattle.base.proofs.Tables.{among}
 use Rattle.section.proofs.ExactlyWhen.{refused-range}
-use Rattle.berth.specs.Berth.{places, storeSize}
+use Rattle.berth.specs.Berth.{places}
 use Rattle.shelf.specs.Record.{fresh, placeOf}
 use Rattle.shelf.specs.declared.Key.{Key}
 use Rattle.offer.specs.Offer as Offer
 use Rattle.release.specs.Release as Release
-use Rattle.ask.specs.Ask.{complete, copy, copiedNo, wholeNo, missingNo, asked, uncopied, copyFrom, copyOf, wholeOf, missingOf}
-use Rattle.ask.specs.declared.Copied.{Copied}
 use Rattle.file.specs.declared.Scan.{Scan}
 use Rattle.load.specs.Load as Load
-use Rattle.save.specs.Save as Save
-use Rattle.shelf_laws.specs.State.{State, copyOut, wholeIn, missingIn, saveOut}
-use Rattle.shelf_laws.specs.History.{Question, Call, Entry, reply, replyNo, entry, step, logged, numberIn, Each}
+use Rattle.shelf_laws.specs.State.{State}
+use Rattle.shelf_laws.specs.Laws.{Never17Nor18}
+use Rattle.shelf_laws.specs.History.{Question, about, Call, Entry, reply, replyNo, entry, step, logged, numberIn, Each}
+use Rattle.shelf_laws.proofs.Places.{placed}
 use Rattle.shelf_laws.proofs.Kept.{Good}
 use Rattle.shelf_laws.proofs.Offering as Offering
 use Rattle.shelf_laws.proofs.Released as Releasing
 use Rattle.shelf_laws.proofs.Loaded as Loading
+use Rattle.shelf_laws.proofs.Asked.{unheld-14, held-answer}
 use Rattle.shelf_laws.proofs.Faults.{scan-range}
 use Rattle.shelf_laws.proofs.Histories.{Holds, step-holds, fresh-holds}
 
@@ -70,50 +68,14 @@ module _ (s : State) (g : Good s) where
   released key (Releasing.Goes.refuses _ y) = release-refusal key y
   released key (Releasing.Goes.done _ _ _) = few 0 (omega arith)
 
-  copied : (key : Key) (n : ℕ) (out : List ℕ) → Neither (copiedNo (copyOut s key n out .said))
-  unfolding copyOf
-  copied key n out =
-      rw (eq-eqb (length s.store) storeSize (g .lent), g .unspoiled)
-      (by (eqb (placeOf s.shelf key) places)
-      (λ a. rw a (few 14 (omega arith)))
-      (λ a.
-      rw a
-      (among (λ m. copy (Copied.Refused m) out) (λ c. Neither (copiedNo (c .said)))
-      (uncopied (asked s.shelf s.store key) n out) (copyFrom (asked s.shelf s.store key) s.store (placeOf s.shelf key) n out)
-      (few 16 (omega arith), (few 15 (omega arith), tt)) (few 0 (omega arith)))))
-
-  wholly : (key : Key) → Neither (wholeNo (wholeIn s key))
-  unfolding wholeOf
-  wholly key =
-      rw (eq-eqb (length s.store) storeSize (g .lent), g .unspoiled)
-      (by (eqb (placeOf s.shelf key) places)
-      (λ a. rw a (few 14 (omega arith)))
-      (λ a. by (complete (asked s.shelf s.store key)) (λ b. rw (a, b) (few 0 (omega arith))) (λ b. rw (a, b) (few 0 (omega arith)))))
-
-  lacking : (key : Key) → Neither (missingNo (missingIn s key))
-  unfolding missingOf
-  lacking key =
-      rw (eq-eqb (length s.store) storeSize (g .lent), g .unspoiled)
-      (by (eqb (placeOf s.shelf key) places)
-      (λ a. rw a (few 14 (omega arith)))
-      (λ a. by (complete (asked s.shelf s.store key)) (λ b. rw (a, b) (few 0 (omega arith))) (λ b. rw (a, b) (few 0 (omega arith)))))
-
-  saved : (key : Key) (out : List ℕ) → Neither (Save.numberOf (saveOut s key out .said))
-  unfolding Save.saveOf
-  saved key out =
-      rw (eq-eqb (length s.store) storeSize (g .lent), g .unspoiled)
-      (by (eqb (placeOf s.shelf key) places)
-      (λ a. rw a (few 14 (omega arith)))
-      (λ a.
-      by (ltb (length out) (length (Save.savedFile s.shelf s.store key)))
-      (λ b. rw (a, b) (few 15 (omega arith)))
-      (λ b. rw (a, b) (few 0 (omega arith)))))
-
   replied : (q : Question) → Neither (replyNo (reply s q))
-  replied (Question.copy key n out) = copied key n out
-  replied (Question.whole key) = wholly key
-  replied (Question.missing key) = lacking key
-  replied (Question.save key out) = saved key out
+  replied q =
+      by (eqb (placeOf s.shelf (about q)) places)
+      (λ t. rw (unheld-14 s g q (eqb-true _ _ t)) (few 14 (omega arith)))
+      (λ t.
+      let a : placeOf s.shelf (about q) ≡ places → ⊥ = eqb-false _ _ t in
+      let b : placeOf s.shelf (about q) ≤ places = placed s.shelf (about q) in
+      few (replyNo (reply s q)) (held-answer s g q (omega arith) .most))
 
   neither : (c : Call) → Neither (numberIn (entry s c))
   neither (Call.offer payload) = offered payload (Offering.goes s payload)
@@ -126,6 +88,5 @@ never-from : (s : State) (log : List Entry) → Holds s log → Each (λ e. Neit
 never-from s log h n [] = n
 never-from s log h n (c ∷ cs) = never-from (step s c) (entry s c ∷ log) (step-holds s log h c) (neither s (h .good) c, n) cs
 
-pub never-17-18 : (store : List ℕ) → length store ≡ storeSize → (cs : List Call)
-    → Each (λ e. (numberIn e ≡ 17 → ⊥) × (numberIn e ≡ 18 → ⊥)) (logged (record { shelf = fresh; store = store }) [] cs)
+pub never-17-18 : Never17Nor18
 never-17-18 store lent cs = never-from (record { shelf = fresh; store = store }) [] (fresh-holds store lent) tt cs
