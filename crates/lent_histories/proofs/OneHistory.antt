@@ -1,0 +1,59 @@
+-- A history of calls at the boundary is the layer's history of the same calls.
+--   one-history
+use mathlib.Core.Path.{_≡_, refl, sym, ap, _∙_}
+use mathlib.Core.List.{List, [], _∷_, map}
+use Rattle.shelf_laws.specs.State.{State}
+use Rattle.shelf_laws.specs.History.{Call, Entry, entry, step, after, logged}
+use Rattle.lent_histories.specs.Numbers.{Line, line, lineOf, called, answered, inNumbers}
+use Rattle.lent_histories.specs.History.{Loan, Whole, stateOf, answerTo, leftBy, leftFrom, linesFrom, OfBytes}
+use Rattle.lent_histories.specs.Laws.{SameHistory, OneHistory}
+use Rattle.lent_histories.proofs.Ties.{Ties}
+
+-- an entry is one of its call
+its-call : (s : State) (c : Call) → called (entry s c) ≡ c
+its-call s (Call.offer payload) = refl
+its-call s (Call.load file) = refl
+its-call s (Call.release key) = refl
+its-call s (Call.ask question) = refl
+
+-- the first call of a history, and the others
+module _ (ties : Ties) where
+  first-left : (l : Loan) (c : Call) (cs : List Call) → OfBytes (c ∷ cs) → stateOf (leftBy l c) ≡ step (stateOf l) c
+  first-left l (Call.offer payload) cs b = ties .offers l payload (b .0)
+  first-left l (Call.load file) cs b = ties .loads l file (b .0)
+  first-left l (Call.release key) cs b = ties .releases l key
+  first-left l (Call.ask question) cs b = refl
+
+  others : (c : Call) (cs : List Call) → OfBytes (c ∷ cs) → OfBytes cs
+  others (Call.offer payload) cs b = b .1
+  others (Call.load file) cs b = b .1
+  others (Call.release key) cs b = b
+  others (Call.ask question) cs b = b
+
+  first-line : (l : Loan) (s : State) → stateOf l ≡ s → (c : Call) → line c (answerTo l c) ≡ lineOf (entry s c)
+  first-line l s e c =
+      ap (line c) (ties .answers l c)
+      ∙ ap (λ k. line k (answered (entry (stateOf l) c))) (sym (its-call (stateOf l) c))
+      ∙ ap (λ x. lineOf (entry x c)) e
+
+  left-from : (l : Loan) (s : State) → stateOf l ≡ s → (h : List Call) → OfBytes h → stateOf (leftFrom l h) ≡ after s h
+  left-from l s e [] b = e
+  left-from l s e (c ∷ cs) b =
+      left-from (leftBy l c) (step s c) (first-left l c cs b ∙ ap (λ x. step x c) e) cs (others c cs b)
+
+  lines-from : (l : Loan) (s : State) → stateOf l ≡ s → (lines : List Line) (log : List Entry) → lines ≡ inNumbers log → (h : List Call) → OfBytes h
+      → linesFrom l lines h ≡ inNumbers (logged s log h)
+  lines-from l s e lines log same [] b = same
+  lines-from l s e lines log same (c ∷ cs) b =
+      lines-from (leftBy l c) (step s c) (first-left l c cs b ∙ ap (λ x. step x c) e) (line c (answerTo l c) ∷ lines) (entry s c ∷ log)
+      (ap (λ x. x ∷ lines) (first-line l s e c) ∙ ap (λ x. lineOf (entry s c) ∷ x) same) cs (others c cs b)
+
+  pub one-history : OneHistory
+  one-history l sizes = (
+    ties .begins l sizes .1,
+    λ h b.
+        record {
+          state = left-from _ _ (ties .begins l sizes .0) h b;
+          answers = lines-from _ _ (ties .begins l sizes .0) [] [] refl h b;
+        },
+  )
