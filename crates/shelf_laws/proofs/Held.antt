@@ -2,7 +2,7 @@
 --   held-place           then, and only then, it has a place on the shelf
 --   held-exactly         and every question about it is answered otherwise than 14
 --   released-exactly     and a release of it is done
-use mathlib.Core.Path.{_≡_, refl, sym, _∙_}
+use mathlib.Core.Path.{_≡_, refl, sym, ap, _∙_}
 use mathlib.Core.Bool.{true, false}
 use mathlib.Core.List.{List}
 use Prim.Native.Nat.{ℕ, _<_, _≤_}
@@ -15,12 +15,12 @@ use Rattle.shelf.specs.declared.Key.{Key}
 use Rattle.release.specs.Release.{After}
 use Rattle.release.specs.declared.Released.{Released}
 use Rattle.shelf_laws.specs.State.{State}
-use Rattle.shelf_laws.specs.History.{Question, about, Call, afterAll, logOf}
+use Rattle.shelf_laws.specs.History.{Question, about, replyNo, Call, afterAll, logOf}
 use Rattle.shelf_laws.specs.Log.{heldBy}
 use Rattle.shelf_laws.specs.Laws.{HeldExactly, ReleasedExactly}
 use Rattle.shelf_laws.proofs.Places.{placed}
 use Rattle.shelf_laws.proofs.Kept.{Good}
-use Rattle.shelf_laws.proofs.Asked.{unheld-14, held-answer}
+use Rattle.shelf_laws.proofs.Asked.{refused-14, unheld-reply, Answers, held-answer}
 use Rattle.shelf_laws.proofs.Released.{Refusal, Goes, goes}
 use Rattle.shelf_laws.proofs.Histories.{holds-all}
 
@@ -34,13 +34,26 @@ module _ (h : List Call) (key : Key) where
       let b : placeOf (afterAll h .shelf) key ≤ places = placed (afterAll h .shelf) key in
       omega arith
 
+by-14 : (q : Question) → replyNo (refused-14 q) ≡ 14
+by-14 (Question.copy key n out) = refl
+by-14 (Question.whole key) = refl
+by-14 (Question.missing key) = refl
+by-14 (Question.save key out) = refl
+
+-- a held table is never answered 14
+other : (q : Question) → Answers (λ r. replyNo r ≡ 14 → ⊥) q
+other (Question.copy key n out) = (λ e. omega arith, λ e. omega arith, λ n i bytes e. omega arith)
+other (Question.whole key) = (λ e. omega arith, λ e. omega arith)
+other (Question.missing key) = (λ e. omega arith, λ n e. omega arith)
+other (Question.save key out) = (λ e. omega arith, λ n i bytes e. omega arith)
+
 pub held-exactly : HeldExactly
 held-exactly h q = (
   λ not-14.
       by (heldBy (about q) (logOf h))
       (λ t. t)
-      (λ f. absurd (not-14 (unheld-14 (afterAll h) (holds-all h .good) q (unheld-place h (about q) f)))),
-  λ t. held-answer (afterAll h) (holds-all h .good) q (held-place h (about q) t) .other,
+      (λ f. absurd (not-14 (ap replyNo (unheld-reply (afterAll h) (holds-all h .good) q (unheld-place h (about q) f)) ∙ by-14 q))),
+  λ t. held-answer (afterAll h) (holds-all h .good) (λ r. replyNo r ≡ 14 → ⊥) q (held-place h (about q) t) (other q),
 )
 
 -- one release

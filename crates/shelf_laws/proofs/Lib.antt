@@ -13,6 +13,7 @@ pub mod Loaded
 pub mod Faults
 pub mod Histories
 pub mod Held
+pub mod Ranges
 pub mod Never
 pub mod Complete
 pub mod Reception
