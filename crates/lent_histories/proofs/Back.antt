@@ -1,0 +1,98 @@
+-- The numbers lose nothing: the log that they tell is the layer's.
+--   entry-back    a call's entry comes back out of its line
+--   log-back      and so does a log
+use mathlib.Core.Path.{_≡_, refl, ap, _∙_}
+use mathlib.Core.List.{List, [], _∷_, map}
+use Prim.Native.Nat.{ℕ, _+_, _*_, _/_, _%_, _<_, _≤_}
+use native.Mathlib.Omega.{arith}
+use borrow.Author.Tests.{eq-eqb, ne-eqb}
+use Rattle.offer.specs.declared.Offered.{Offered}
+use Rattle.release.specs.declared.Released.{Released}
+use Rattle.ask.specs.Ask as Ask
+use Rattle.ask.specs.declared.Copied.{Copied}
+use Rattle.ask.specs.declared.Whole.{Whole}
+use Rattle.ask.specs.declared.Missing.{Missing}
+use Rattle.load.specs.declared.Loaded.{Loaded}
+use Rattle.save.specs.Save as Save
+use Rattle.save.specs.declared.Saved.{Saved}
+use Rattle.answers.specs.Answers.{sizeCode}
+use Rattle.ask_host.specs.Lent.{wholeCode, missingCode, copiedCode}
+use Rattle.file_host.specs.Lent.{savedCode}
+use Rattle.shelf_laws.specs.State.{State, offerTo, loadOn, releaseFrom, copyOut, wholeIn, missingIn, saveOut}
+use Rattle.shelf_laws.specs.History.{Question, Call, Entry, offered, loaded, released, asked, copied, wholly, lacking, saved, entry, reply, step, logged, logOf, start}
+use Rattle.shelf_laws.proofs.Ranges.{OfferRange, LoadRange, ReleaseRange, CopyRange, WholeRange, MissingRange, SaveRange, ReplyRange, Range, range}
+use Rattle.shelf_laws.proofs.Histories.{Holds, step-holds, start-holds}
+use Rattle.lent_histories.specs.Numbers.{offeredCode, loadedCode, releasedCode, refusal, replied, answered, called, inNumbers, offeredBy, loadedBy, releasedBy, copiedBy, wholeBy, missingBy, savedBy, replyBy, entryBy, told}
+
+offered-back : (a : Offered) → OfferRange a → offeredBy (offeredCode a) ≡ a
+offered-back Offered.Began r = refl
+offered-back Offered.BeganAgain r = refl
+offered-back Offered.Added r = refl
+offered-back Offered.Repeat r = refl
+offered-back (Offered.Refused n) r =
+    let m : n ≤ 16 = r .1 in
+    rw (ne-eqb n 256 (λ e. omega arith), ne-eqb n 512 (λ e. omega arith), ne-eqb n 768 (λ e. omega arith), ne-eqb n 1024 (λ e. omega arith))
+
+loaded-back : (a : Loaded) → LoadRange a → loadedBy (loadedCode a) ≡ a
+loaded-back Loaded.Done r = refl
+loaded-back (Loaded.Refused n) r = let m : 1 ≤ n = r .0 in rw (ne-eqb n 0 (λ e. omega arith))
+
+released-back : (a : Released) → ReleaseRange a → releasedBy (releasedCode a) ≡ a
+released-back Released.Done r = refl
+released-back (Released.Refused n) r = let m : 1 ≤ n = r .0 in rw (ne-eqb n 0 (λ e. omega arith))
+
+-- a size, and a refusal, in a number
+size-0 : (n : ℕ) → refusal (sizeCode n) ≡ 0
+size-0 n = omega arith
+
+size-back : (n : ℕ) → n < 65536 → sizeCode n / 256 ≡ n
+size-back n h = omega arith
+
+refused-some : (n : ℕ) → (1 ≤ n) × (n ≤ 16) → refusal n ≡ 0 → ⊥
+refused-some n r e = let a : 1 ≤ n = r .0 in let b : n ≤ 16 = r .1 in omega arith
+
+copied-back : (a : Copied) → CopyRange a → copiedBy (copiedCode a) ≡ a
+copied-back (Copied.Bytes n) r = rw (eq-eqb (refusal (sizeCode n)) 0 (size-0 n)) (ap Copied.Bytes (size-back n r))
+copied-back (Copied.Refused n) r = rw (ne-eqb (refusal n) 0 (refused-some n r))
+
+saved-back : (a : Saved) → SaveRange a → savedBy (savedCode a) ≡ a
+saved-back (Saved.Bytes n) r = rw (eq-eqb (refusal (sizeCode n)) 0 (size-0 n)) (ap Saved.Bytes (size-back n r))
+saved-back (Saved.Refused n) r = rw (ne-eqb (refusal n) 0 (refused-some n r))
+
+whole-back : (a : Whole) → WholeRange a → wholeBy (wholeCode a) ≡ a
+whole-back Whole.Complete r = refl
+whole-back Whole.Incomplete r = refl
+whole-back (Whole.Refused n) r = let m : n ≤ 16 = r .1 in rw (ne-eqb n 256 (λ e. omega arith), ne-eqb n 512 (λ e. omega arith))
+
+missing-back : (a : Missing) → MissingRange a → missingBy (missingCode a) ≡ a
+missing-back Missing.Nothing r = refl
+missing-back (Missing.Number n) r =
+    rw (ne-eqb (512 + 65536 * n) 256 (λ e. omega arith), eq-eqb ((512 + 65536 * n) % 65536) 512 (omega arith))
+    (ap Missing.Number (let e : (512 + 65536 * n) / 65536 ≡ n = omega arith in e))
+missing-back (Missing.Refused n) r =
+    let m : n ≤ 16 = r .1 in rw (ne-eqb n 256 (λ e. omega arith), ne-eqb (n % 65536) 512 (λ e. omega arith))
+
+module _ (s : State) where
+  reply-back : (q : Question) → ReplyRange (reply s q) → replyBy q (replied (reply s q)) ≡ reply s q
+  reply-back (Question.copy key n bytes) r =
+      ap (λ a. copied (Ask.copy a (copyOut s key n bytes .out))) (copied-back (copyOut s key n bytes .said) r)
+  reply-back (Question.whole key) r = ap wholly (whole-back (wholeIn s key) r)
+  reply-back (Question.missing key) r = ap lacking (missing-back (missingIn s key) r)
+  reply-back (Question.save key bytes) r =
+      ap (λ a. saved (Save.save a (saveOut s key bytes .out))) (saved-back (saveOut s key bytes .said) r)
+
+  pub entry-back : (c : Call) → Range (entry s c) → entryBy (called (entry s c)) (answered (entry s c)) ≡ entry s c
+  entry-back (Call.offer payload) r = ap (offered payload) (offered-back (offerTo s payload .said) r)
+  entry-back (Call.load file) r = ap (loaded file) (loaded-back (loadOn s file .said) r)
+  entry-back (Call.release key) r = ap (released key) (released-back (releaseFrom s key .said) r)
+  entry-back (Call.ask question) r = ap (asked question) (reply-back question r)
+
+back-from : (s : State) (log : List Entry) → Holds s log → told (inNumbers log) ≡ log → (cs : List Call)
+    → told (inNumbers (logged s log cs)) ≡ logged s log cs
+back-from s log h e [] = e
+back-from s log h e (c ∷ cs) =
+    back-from (step s c) (entry s c ∷ log) (step-holds s log h c)
+    (ap (λ x. x ∷ told (inNumbers log)) (entry-back s c (range s (h .good) c)) ∙ ap (λ l. entry s c ∷ l) e) cs
+
+pub log-back : (h : List Call) → told (inNumbers (logOf h)) ≡ logOf h
+log-back h = back-from start [] start-holds refl h
