@@ -1,3 +1,3 @@
 pub mod Ties
-pub mod OneHistory
 pub mod Back
+pub mod OneHistory

@@ -3,11 +3,12 @@
 use mathlib.Core.Path.{_≡_, refl, sym, ap, _∙_}
 use mathlib.Core.List.{List, [], _∷_, map}
 use Rattle.shelf_laws.specs.State.{State}
-use Rattle.shelf_laws.specs.History.{Call, Entry, entry, step, after, logged}
-use Rattle.lent_histories.specs.Numbers.{Line, line, lineOf, called, answered, inNumbers}
-use Rattle.lent_histories.specs.History.{Loan, Whole, stateOf, answerTo, leftBy, leftFrom, linesFrom, OfBytes}
+use Rattle.shelf_laws.specs.History.{Call, Entry, entry, step, after, logged, logOf, start}
+use Rattle.lent_histories.specs.Numbers.{Line, line, lineOf, called, answered, inNumbers, told}
+use Rattle.lent_histories.specs.History.{Loan, stateOf, answerTo, leftBy, begun, leftFrom, linesFrom, OfBytes, History, linesAfter}
 use Rattle.lent_histories.specs.Laws.{SameHistory, OneHistory}
 use Rattle.lent_histories.proofs.Ties.{Ties}
+use Rattle.lent_histories.proofs.Back.{log-back}
 
 -- an entry is one of its call
 its-call : (s : State) (c : Call) → called (entry s c) ≡ c
@@ -48,12 +49,15 @@ module _ (ties : Ties) where
       lines-from (leftBy l c) (step s c) (first-left l c cs b ∙ ap (λ x. step x c) e) (line c (answerTo l c) ∷ lines) (entry s c ∷ log)
       (ap (λ x. x ∷ lines) (first-line l s e c) ∙ ap (λ x. lineOf (entry s c) ∷ x) same) cs (others c cs b)
 
+  same-history : (h : History) → SameHistory h
+  same-history h =
+      let begins = ties .begins (h .lent) (h .sizes) .0 in
+      let same : linesAfter h ≡ inNumbers (logOf (h .calls)) = lines-from (begun (h .lent)) start begins [] [] refl (h .calls) (h .bytes) in
+      record {
+        state = left-from (begun (h .lent)) start begins (h .calls) (h .bytes);
+        answers = same;
+        log = ap told same ∙ log-back (h .calls);
+      }
+
   pub one-history : OneHistory
-  one-history l sizes = (
-    ties .begins l sizes .1,
-    λ h b.
-        record {
-          state = left-from _ _ (ties .begins l sizes .0) h b;
-          answers = lines-from _ _ (ties .begins l sizes .0) [] [] refl h b;
-        },
-  )
+  one-history = (λ l sizes. ties .begins l sizes .1, same-history)

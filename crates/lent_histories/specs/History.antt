@@ -7,14 +7,15 @@ use lib.ListN.{length}
 use Rattle.base.specs.Octets.{Octets}
 use Rattle.answers.specs.Answers.{Lent, Out, out}
 use Rattle.berth.specs.Berth.{storeSize}
+use Rattle.shelf.specs.declared.Key.{Key}
 use Rattle.shelf_words.specs.Words.{count, shelfAt}
 use Rattle.shelf_host.specs.Lent.{beginLent, releaseLent}
 use Rattle.offer_host.specs.Lent.{offerLent}
 use Rattle.ask_host.specs.Lent.{wholeLent, missingLent, copyLent}
 use Rattle.file_host.specs.Lent.{loadLent, saveLent}
 use Rattle.shelf_laws.specs.State.{State}
-use Rattle.shelf_laws.specs.History.{Question, Call, copy, whole, missing, save, offer, load, release, ask}
-use Rattle.lent_histories.specs.Numbers.{Line, line}
+use Rattle.shelf_laws.specs.History.{Question, Call, Entry, copy, whole, missing, save, offer, load, release, ask}
+use Rattle.lent_histories.specs.Numbers.{Line, line, told}
 
 -- what a host lends: the record's numbers and the store
 pub record Loan : Type 0 where
@@ -69,13 +70,6 @@ abbrev pub linesFrom : Loan → List Line → List Call → List Line
 linesFrom l lines [] = lines
 linesFrom l lines (c ∷ cs) = linesFrom (leftBy l c) (line c (answerTo l c) ∷ lines) cs
 
--- a history on a shelf that is begun on what is lent
-abbrev pub left : Loan → List Call → Loan
-left l h = leftFrom (begun l) h
-
-abbrev pub lines : Loan → List Call → List Line
-lines l h = linesFrom (begun l) [] h
-
 -- payloads and files are of bytes, as all are that a host can lend
 abbrev pub OfBytes : List Call → Type 0
 OfBytes [] = Unit {0}
@@ -83,3 +77,47 @@ OfBytes (offer payload ∷ cs) = Octets payload × OfBytes cs
 OfBytes (load file ∷ cs) = Octets file × OfBytes cs
 OfBytes (release key ∷ cs) = OfBytes cs
 OfBytes (ask question ∷ cs) = OfBytes cs
+
+-- a history: what was lent to begin a shelf on, whatever stood in it, and the calls that followed
+pub record History : Type 0 where
+  pub lent : Loan
+  pub sizes : Whole lent
+  pub calls : List Call
+  pub bytes : OfBytes calls
+
+module _ (h : History) where
+  -- what it leaves
+  abbrev pub leftAfter : Loan
+  leftAfter = leftFrom (begun (h .lent)) (h .calls)
+
+  -- each call with its number
+  abbrev pub linesAfter : List Line
+  linesAfter = linesFrom (begun (h .lent)) [] (h .calls)
+
+  -- the log that the numbers tell
+  abbrev pub logAfter : List Entry
+  logAfter = told linesAfter
+
+  -- what is answered to the next call, and what it leaves
+  abbrev pub replyAfter : Question → Out
+  replyAfter = replyTo leftAfter
+
+  abbrev pub wholeAfter : Key → ℕ
+  wholeAfter key = wholeLent (leftAfter .words) (leftAfter .store) key
+
+  abbrev pub copyAfter : Key → ℕ → List ℕ → Out
+  copyAfter key n bytes = copyLent (leftAfter .words) (leftAfter .store) key n bytes
+
+  abbrev pub saveAfter : Key → List ℕ → Out
+  saveAfter key bytes = saveLent (leftAfter .words) (leftAfter .store) key bytes
+
+  abbrev pub offerAfter : List ℕ → Lent
+  offerAfter payload = offerLent (leftAfter .words) (leftAfter .store) payload
+
+  abbrev pub loadAfter : List ℕ → Lent
+  loadAfter file = loadLent (leftAfter .words) (leftAfter .store) file
+
+-- so of every line
+abbrev pub EachLine : (Line → Type 0) → List Line → Type 0
+EachLine p [] = Unit {0}
+EachLine p (l ∷ ls) = p l × EachLine p ls
