@@ -1,17 +1,21 @@
 -- The numbers lose nothing: the log that they tell is the layer's.
---   entry-back    a call's entry comes back out of its line
---   log-back      and so does a log
+--   ..-back                        an answer comes back out of its number
+--   entry-number, reply-number     the low 8 bits are the paper's number
+--   entry-back, log-back           a call's entry comes back out of its line, and a log out of its lines
 use mathlib.Core.Path.{_≡_, refl, ap, _∙_}
 use mathlib.Core.List.{List, [], _∷_, map}
 use Prim.Native.Nat.{ℕ, _+_, _*_, _/_, _%_, _<_, _≤_}
 use native.Mathlib.Omega.{arith}
 use borrow.Author.Tests.{eq-eqb, ne-eqb}
+use Rattle.offer.specs.Offer as Offer
 use Rattle.offer.specs.declared.Offered.{Offered}
+use Rattle.release.specs.Release as Release
 use Rattle.release.specs.declared.Released.{Released}
 use Rattle.ask.specs.Ask as Ask
 use Rattle.ask.specs.declared.Copied.{Copied}
 use Rattle.ask.specs.declared.Whole.{Whole}
 use Rattle.ask.specs.declared.Missing.{Missing}
+use Rattle.load.specs.Load as Load
 use Rattle.load.specs.declared.Loaded.{Loaded}
 use Rattle.save.specs.Save as Save
 use Rattle.save.specs.declared.Saved.{Saved}
@@ -19,12 +23,12 @@ use Rattle.answers.specs.Answers.{sizeCode}
 use Rattle.ask_host.specs.Lent.{wholeCode, missingCode, copiedCode}
 use Rattle.file_host.specs.Lent.{savedCode}
 use Rattle.shelf_laws.specs.State.{State, offerTo, loadOn, releaseFrom, copyOut, wholeIn, missingIn, saveOut}
-use Rattle.shelf_laws.specs.History.{Question, Call, Entry, offered, loaded, released, asked, copied, wholly, lacking, saved, entry, reply, step, logged, logOf, start}
+use Rattle.shelf_laws.specs.History.{Question, Call, Reply, replyNo, numberIn, Entry, offered, loaded, released, asked, copied, wholly, lacking, saved, entry, reply, step, logged, logOf, start}
 use Rattle.shelf_laws.proofs.Ranges.{OfferRange, LoadRange, ReleaseRange, CopyRange, WholeRange, MissingRange, SaveRange, ReplyRange, Range, range}
 use Rattle.shelf_laws.proofs.Histories.{Holds, step-holds, start-holds}
 use Rattle.lent_histories.specs.Numbers.{offeredCode, loadedCode, releasedCode, refusal, replied, answered, called, inNumbers, offeredBy, loadedBy, releasedBy, copiedBy, wholeBy, missingBy, savedBy, replyBy, entryBy, told}
 
-offered-back : (a : Offered) → OfferRange a → offeredBy (offeredCode a) ≡ a
+pub offered-back : (a : Offered) → OfferRange a → offeredBy (offeredCode a) ≡ a
 offered-back Offered.Began r = refl
 offered-back Offered.BeganAgain r = refl
 offered-back Offered.Added r = refl
@@ -33,7 +37,7 @@ offered-back (Offered.Refused n) r =
     let m : n ≤ 16 = r .1 in
     rw (ne-eqb n 256 (λ e. omega arith), ne-eqb n 512 (λ e. omega arith), ne-eqb n 768 (λ e. omega arith), ne-eqb n 1024 (λ e. omega arith))
 
-loaded-back : (a : Loaded) → LoadRange a → loadedBy (loadedCode a) ≡ a
+pub loaded-back : (a : Loaded) → LoadRange a → loadedBy (loadedCode a) ≡ a
 loaded-back Loaded.Done r = refl
 loaded-back (Loaded.Refused n) r = let m : 1 ≤ n = r .0 in rw (ne-eqb n 0 (λ e. omega arith))
 
@@ -42,10 +46,10 @@ released-back Released.Done r = refl
 released-back (Released.Refused n) r = let m : 1 ≤ n = r .0 in rw (ne-eqb n 0 (λ e. omega arith))
 
 -- a size, and a refusal, in a number
-size-0 : (n : ℕ) → refusal (sizeCode n) ≡ 0
+pub size-0 : (n : ℕ) → refusal (sizeCode n) ≡ 0
 size-0 n = omega arith
 
-size-back : (n : ℕ) → n < 65536 → sizeCode n / 256 ≡ n
+pub size-back : (n : ℕ) → n < 65536 → sizeCode n / 256 ≡ n
 size-back n h = omega arith
 
 refused-some : (n : ℕ) → (1 ≤ n) × (n ≤ 16) → refusal n ≡ 0 → ⊥
@@ -59,7 +63,7 @@ saved-back : (a : Saved) → SaveRange a → savedBy (savedCode a) ≡ a
 saved-back (Saved.Bytes n) r = rw (eq-eqb (refusal (sizeCode n)) 0 (size-0 n)) (ap Saved.Bytes (size-back n r))
 saved-back (Saved.Refused n) r = rw (ne-eqb (refusal n) 0 (refused-some n r))
 
-whole-back : (a : Whole) → WholeRange a → wholeBy (wholeCode a) ≡ a
+pub whole-back : (a : Whole) → WholeRange a → wholeBy (wholeCode a) ≡ a
 whole-back Whole.Complete r = refl
 whole-back Whole.Incomplete r = refl
 whole-back (Whole.Refused n) r = let m : n ≤ 16 = r .1 in rw (ne-eqb n 256 (λ e. omega arith), ne-eqb n 512 (λ e. omega arith))
@@ -71,6 +75,52 @@ missing-back (Missing.Number n) r =
     (ap Missing.Number (let e : (512 + 65536 * n) / 65536 ≡ n = omega arith in e))
 missing-back (Missing.Refused n) r =
     let m : n ≤ 16 = r .1 in rw (ne-eqb n 256 (λ e. omega arith), ne-eqb (n % 65536) 512 (λ e. omega arith))
+
+-- the low 8 bits are the paper's number
+offered-number : (a : Offered) → OfferRange a → refusal (offeredCode a) ≡ Offer.numberOf a
+offered-number Offered.Began r = refl
+offered-number Offered.BeganAgain r = refl
+offered-number Offered.Added r = refl
+offered-number Offered.Repeat r = refl
+offered-number (Offered.Refused n) r = let m : n ≤ 16 = r .1 in omega arith
+
+loaded-number : (a : Loaded) → LoadRange a → refusal (loadedCode a) ≡ Load.numberOf a
+loaded-number Loaded.Done r = refl
+loaded-number (Loaded.Refused n) r = let m : n ≤ 16 = r .1 in omega arith
+
+released-number : (a : Released) → ReleaseRange a → refusal (releasedCode a) ≡ Release.numberOf a
+released-number Released.Done r = refl
+released-number (Released.Refused n) r = let m : n ≤ 16 = r .1 in omega arith
+
+copied-number : (a : Copied) → CopyRange a → refusal (copiedCode a) ≡ Ask.copiedNo a
+copied-number (Copied.Bytes n) r = size-0 n
+copied-number (Copied.Refused n) r = let m : n ≤ 16 = r .1 in omega arith
+
+whole-number : (a : Whole) → WholeRange a → refusal (wholeCode a) ≡ Ask.wholeNo a
+whole-number Whole.Complete r = refl
+whole-number Whole.Incomplete r = refl
+whole-number (Whole.Refused n) r = let m : n ≤ 16 = r .1 in omega arith
+
+missing-number : (a : Missing) → MissingRange a → refusal (missingCode a) ≡ Ask.missingNo a
+missing-number Missing.Nothing r = refl
+missing-number (Missing.Number n) r = let e : (512 + 65536 * n) % 256 ≡ 0 = omega arith in e
+missing-number (Missing.Refused n) r = let m : n ≤ 16 = r .1 in omega arith
+
+saved-number : (a : Saved) → SaveRange a → refusal (savedCode a) ≡ Save.numberOf a
+saved-number (Saved.Bytes n) r = size-0 n
+saved-number (Saved.Refused n) r = let m : n ≤ 16 = r .1 in omega arith
+
+pub reply-number : (a : Reply) → ReplyRange a → refusal (replied a .code) ≡ replyNo a
+reply-number (copied c) r = copied-number (c .said) r
+reply-number (wholly said) r = whole-number said r
+reply-number (lacking said) r = missing-number said r
+reply-number (saved c) r = saved-number (c .said) r
+
+pub entry-number : (e : Entry) → Range e → refusal (answered e .code) ≡ numberIn e
+entry-number (offered payload said) r = offered-number said r
+entry-number (loaded file said) r = loaded-number said r
+entry-number (released key said) r = released-number said r
+entry-number (asked question said) r = reply-number said r
 
 module _ (s : State) where
   reply-back : (q : Question) → ReplyRange (reply s q) → replyBy q (replied (reply s q)) ≡ reply s q
