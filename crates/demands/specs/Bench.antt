@@ -1,21 +1,34 @@
 -- Document 02, request 1, of the functions that a host calls: "Offered to a fresh shelf in any order, the sections make a complete table
 -- whose joined bodies are the given body." The theorems are in proofs/Bench.
-use Prim.Native.Nat.{ℕ, zero, suc, _+_, _/_, _≤_}
+use Prim.Native.Nat.{ℕ, zero, suc, _+_, _/_, _<_, _≤_}
 use mathlib.Core.Path.{_≡_}
 use mathlib.Core.List.{List, [], _++_}
 use lib.ListN.{length, take, drop}
+use Rattle.base.specs.Octets.{Octets}
 use Rattle.answers.specs.Answers.{Out, out, sizeCode}
 use Rattle.shelf.specs.declared.Key.{Key}
 use Rattle.writer.specs.Writer.{lastOf, written}
 use Rattle.writer.specs.declared.Label.{Label}
 use Rattle.writer_laws.specs.Offers.{keyOf, offersOf}
 use Rattle.writer_laws.specs.Laws.{InAnyOrder}
-use Rattle.lent_histories.specs.History.{History, wholeAfter, copyAfter}
+use Rattle.lent_histories.specs.History.{Loan, Whole, History, wholeAfter, copyAfter}
 use Rattle.demands.specs.Shelf.{complete}
 
 -- the histories in which the sections with these numbers are offered, one after the other
 abbrev pub Offering : Label → List ℕ → List ℕ → History → Type 0
 Offering label body ks h = h .calls ≡ offersOf label body ks
+
+-- a label and a body of bytes, as all are that a host can hand over
+pub record InBytes (label : Label) (body : List ℕ) : Type 0 where
+  pub table : label .table < 256
+  pub extension : label .extension < 65536
+  pub octets : Octets body
+
+-- for these there is such a history, on whatever is lent
+abbrev pub CanBeOffered : Type 0
+CanBeOffered =
+    InAnyOrder (λ label body ks.
+    InBytes label body → (l : Loan) → Whole l → (h : History) × (h .lent ≡ l) × Offering label body ks h)
 
 -- the table is called complete
 abbrev pub CompleteTable : Type 0
