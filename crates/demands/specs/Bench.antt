@@ -11,7 +11,7 @@ use Rattle.writer.specs.Writer.{lastOf, written}
 use Rattle.writer.specs.declared.Label.{Label}
 use Rattle.writer_laws.specs.Offers.{keyOf, offersOf}
 use Rattle.writer_laws.specs.Laws.{InAnyOrder}
-use Rattle.lent_histories.specs.History.{Loan, Whole, History, wholeAfter, copyAfter}
+use Rattle.lent_histories.specs.History.{Loan, Sized, History, wholeAfter, copyAfter}
 use Rattle.demands.specs.Shelf.{complete}
 
 -- the histories in which the sections with these numbers are offered, one after the other
@@ -28,7 +28,7 @@ pub record InBytes (label : Label) (body : List ℕ) : Type 0 where
 abbrev pub CanBeOffered : Type 0
 CanBeOffered =
     InAnyOrder (λ label body ks.
-    InBytes label body → (l : Loan) → Whole l → (h : History) × (h .lent ≡ l) × Offering label body ks h)
+    InBytes label body → (l : Loan) → Sized l → (h : History) × (h .lent ≡ l) × Offering label body ks h)
 
 -- the table is called complete
 abbrev pub CompleteTable : Type 0

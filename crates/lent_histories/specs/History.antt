@@ -23,7 +23,7 @@ pub record Loan : Type 0 where
   pub store : List ℕ
 
 -- they are as many as a record and a store have, whatever stands in them
-pub record Whole (l : Loan) : Type 0 where
+pub record Sized (l : Loan) : Type 0 where
   pub numbers : length l.words ≡ count
   pub bytes : length l.store ≡ storeSize
 
@@ -81,7 +81,7 @@ OfBytes (ask question ∷ cs) = OfBytes cs
 -- a history: what was lent to begin a shelf on, whatever stood in it, and the calls that followed
 pub record History : Type 0 where
   pub lent : Loan
-  pub sizes : Whole lent
+  pub sizes : Sized lent
   pub calls : List Call
   pub bytes : OfBytes calls
 

@@ -4,7 +4,7 @@ use mathlib.Core.Path.{_≡_}
 use Rattle.shelf_host.specs.Lent.{beginLent}
 use Rattle.shelf_laws.specs.History.{afterAll, logOf}
 use Rattle.lent_histories.specs.Numbers.{inNumbers}
-use Rattle.lent_histories.specs.History.{Loan, Whole, stateOf, History, leftAfter, linesAfter, logAfter}
+use Rattle.lent_histories.specs.History.{Loan, Sized, stateOf, History, leftAfter, linesAfter, logAfter}
 
 -- after a history at the boundary the record that the numbers are, and the store, are those after the layer's history of the same
 -- calls; every answer is the number for that history's answer; and the log that the numbers tell is that history's
@@ -15,4 +15,4 @@ pub record SameHistory (h : History) : Type 0 where
 
 -- so it is of every history; and a beginning on numbers and a store of the right sizes is accepted
 abbrev pub OneHistory : Type 0
-OneHistory = ((l : Loan) → Whole l → beginLent l.words l.store .code ≡ 0) × ((h : History) → SameHistory h)
+OneHistory = ((l : Loan) → Sized l → beginLent l.words l.store .code ≡ 0) × ((h : History) → SameHistory h)
