@@ -20,7 +20,7 @@ use Rattle.base.specs.Tables.{Decides}
 use Rattle.base.proofs.Cases.{by, unlike}
 use Rattle.base.proofs.Tables.{same, not-so}
 use Rattle.shelf.specs.Record.{lengthAt, holds}
-use Rattle.shelf.specs.declared.Place.{Place}
+use Rattle.shelf.specs.Record.{Place}
 use Rattle.shelf.proofs.Words.{Held}
 use Rattle.ask.specs.Ask.{complete, lowestMissing}
 

@@ -15,7 +15,7 @@ use Rattle.berth.specs.Calls.{wipedWhereIn}
 use Rattle.berth.proofs.Laid.{zeros-length, zeros-add}
 use Rattle.berth.proofs.Steps.{is-place, wiped-whole}
 use Rattle.shelf.specs.Record.{fresh}
-use Rattle.shelf.specs.declared.Shelf.{Shelf}
+use Rattle.shelf.specs.Record.{Shelf}
 use Rattle.begin.specs.Begin.{beginOf}
 use Rattle.begin.specs.declared.Begun.{Begun}
 

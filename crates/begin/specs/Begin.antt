@@ -8,7 +8,7 @@ use Rattle.base.specs.Choice.{Row, _if_, first}
 use Rattle.base.specs.Bytes.{zeros}
 use Rattle.berth.specs.Berth.{storeSize}
 use Rattle.shelf.specs.Record.{fresh}
-use Rattle.shelf.specs.declared.Shelf.{Shelf}
+use Rattle.shelf.specs.Record.{Shelf}
 use Rattle.begin.specs.declared.Begun.{Begun}
 use Rattle.begin.specs.declared.Beginning.{Beginning}
 

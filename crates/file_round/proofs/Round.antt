@@ -13,8 +13,8 @@ use Rattle.section.specs.declared.Header.{Header}
 use Rattle.berth.specs.Berth.{places}
 use Rattle.shelf.specs.Record.{placeAt, lengthAt, placeOf, freeOf}
 use Rattle.shelf.specs.declared.Key.{Key}
-use Rattle.shelf.specs.declared.Place.{Place}
-use Rattle.offer.specs.Offer.{keyOf}
+use Rattle.shelf.specs.Record.{Place}
+use Rattle.shelf.specs.Record.{keyOf}
 use Rattle.ask.specs.Ask.{holdingOf, uncopied, copy, Copy, complete, lowestMissing}
 use Rattle.ask.specs.declared.Copied.{Copied}
 use Rattle.ask.specs.declared.Holding.{Holding}

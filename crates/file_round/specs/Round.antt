@@ -8,7 +8,7 @@ use Rattle.section.specs.declared.Reading.the-variants.{Sound}
 use Rattle.berth.specs.Berth.{sections, places, standing}
 use Rattle.shelf.specs.Record.{placeAt, lengthAt, holds, placeOf}
 use Rattle.shelf.specs.declared.Key.{Key}
-use Rattle.offer.specs.Offer.{keyOf}
+use Rattle.shelf.specs.Record.{keyOf}
 use Rattle.shelf_laws.specs.State.{State}
 
 -- the bytes that stand for section n of place p, by its held length

@@ -12,7 +12,7 @@ ghost use mathlib.Core.Path.{_≡_};
 ghost use Prim.Native.Nat.{_+_};
 ghost use lib.ListN.{length};
 ghost use Rattle.berth.specs.Berth.{storeSize};
-ghost use Rattle.offer.specs.Offer.{keyOf};
+ghost use Rattle.shelf.specs.Record.{keyOf};
 ghost use Rattle.load.specs.Steps.{Within, liesIn, eachStored};
 ghost use Rattle.load.specs.Load.{refused as refusedOf, after, loadedPlace, tableOf, loadOf};
 

@@ -23,14 +23,15 @@ use Rattle.section.specs.declared.Reading.{Reading}
 use Rattle.section.specs.declared.Reading.the-variants as reading
 use Rattle.section.proofs.Laws.{SoundFacts, sound-facts}
 use Rattle.shelf.specs.Record.{placeAt, withPlace, lengthAt, holds, spoiledOf, placeOf, freeOf}
-use Rattle.shelf.specs.declared.Place.{Place}
-use Rattle.shelf.specs.declared.Shelf.{Shelf}
+use Rattle.shelf.specs.Record.{Place}
+use Rattle.shelf.specs.Record.{Shelf}
 use Rattle.shelf.proofs.Find.{place-le, place-taken, free-le}
 use Rattle.shelf.proofs.Words.{SoundPlace, sound-place}
 use Rattle.offer.specs.declared.Offered.{Offered}
 use Rattle.offer.specs.declared.Step.{Step}
 use Rattle.offer.specs.declared.Step.the-variants.{Refuse, Repeats, Begins, BeginsAgain, Adds}
-use Rattle.offer.specs.Offer.{After, keyOf, begunPlace, addedPlace, newOf, heldOf, soundOf, readingOf, offerOf}
+use Rattle.offer.specs.Offer.{After, begunPlace, addedPlace, newOf, heldOf, soundOf, readingOf, offerOf}
+use Rattle.shelf.specs.Record.{keyOf}
 use Rattle.offer.specs.Steps.{heldStep, newStep, soundStep, readingStep, stepOf, done}
 use Rattle.offer.proofs.Stands.{put-at, wiped-at, stands-at}
 

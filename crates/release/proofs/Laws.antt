@@ -23,8 +23,8 @@ use Rattle.berth.specs.Berth.{berthSize, sections, places, standing}
 use Rattle.berth.proofs.Berths.{where-picked, where-spared}
 use Rattle.shelf.specs.Record.{Same, noPlace, freePlace, placeAt, withPlace, placeOf}
 use Rattle.shelf.specs.declared.Key.{Key}
-use Rattle.shelf.specs.declared.Place.{Place}
-use Rattle.shelf.specs.declared.Shelf.{Shelf}
+use Rattle.shelf.specs.Record.{Place}
+use Rattle.shelf.specs.Record.{Shelf}
 use Rattle.ask.specs.Ask.{unasked, holdingOf}
 use Rattle.ask.specs.declared.Holding.{Holding}
 use Rattle.ask.proofs.ExactlyWhen.{asked-table, asked-decided}

@@ -11,7 +11,7 @@ use Rattle.berth.specs.Calls.{wipedWhereIn}
 use Rattle.berth.proofs.Steps.{is-place, wiped-where}
 use Rattle.shelf.specs.Record.{freePlace, fresh, placeAt, withPlace, placeOf}
 use Rattle.shelf.specs.declared.Key.{Key}
-use Rattle.shelf.specs.declared.Shelf.{Shelf}
+use Rattle.shelf.specs.Record.{Shelf}
 use Rattle.ask.specs.Ask.{holdingOf}
 use Rattle.ask.specs.declared.Holding.{Holding}
 use Rattle.ask.proofs.Held.{held, asked-refused, asked-held}

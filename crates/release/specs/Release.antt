@@ -6,7 +6,7 @@ use Rattle.base.specs.Choice.{first}
 use Rattle.berth.specs.Berth.{sections, wipedWhere}
 use Rattle.shelf.specs.Record.{freePlace, withPlace, placeOf}
 use Rattle.shelf.specs.declared.Key.{Key}
-use Rattle.shelf.specs.declared.Shelf.{Shelf}
+use Rattle.shelf.specs.Record.{Shelf}
 use Rattle.ask.specs.Ask.{unasked}
 use Rattle.release.specs.declared.Released.{Released}
 use Rattle.release.specs.declared.Releasing.{Releasing}

@@ -18,7 +18,7 @@ use Rattle.berth.specs.Berth.{berthSize, sections, laid}
 use Rattle.berth.proofs.Laid.{laid-length, laid-beside}
 use Rattle.shelf.specs.Record.{placeAt}
 use Rattle.shelf.specs.declared.Key.{Key}
-use Rattle.shelf.specs.declared.Shelf.{Shelf}
+use Rattle.shelf.specs.Record.{Shelf}
 use Rattle.ask.specs.Ask.{holdingOf}
 use Rattle.ask.specs.declared.Holding.{Holding}
 use Rattle.ask.proofs.Held.{held, asked-refused, asked-held}

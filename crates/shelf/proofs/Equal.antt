@@ -16,8 +16,8 @@ use Rattle.base.specs.Below.{some, lowest}
 use Rattle.base.proofs.Cases.{by, same-or}
 use Rattle.berth.specs.Berth.{places, sections}
 use Rattle.shelf.specs.declared.Key.{Key}
-use Rattle.shelf.specs.declared.Place.{Place}
-use Rattle.shelf.specs.declared.Shelf.{Shelf}
+use Rattle.shelf.specs.Record.{Place}
+use Rattle.shelf.specs.Record.{Shelf}
 use Rattle.shelf.specs.Record.{noPlace, placeAt, withPlace, wrongAt, holds, sameKey, spoiledPlace, alike, spoiledOf, hasKey, placeOf, freeOf, Same}
 
 -- tests that agree below n
