@@ -41,6 +41,9 @@ module _ (words : List ℕ) (fits : length words ≡ 84) where
     unfolding headPut
     head-put key version last = rw (eq-eqb (length words) 84 fits, lt-ltb p 4 hp)
 
+    pub head-fits : (key : Key) (version last : ℕ) → length (headIn words p key version last) ≡ 84
+    head-fits key version last = row-length words p _ (key .extension) version last 0 ∙ fits
+
     pub freed-lent : shelfAt (freedIn words p) ≡ withPlace (shelfAt words) p freePlace
     freed-lent =
         at-count (freedIn words p) (row-length words p p 0 0 0 1 ∙ fits)
@@ -65,12 +68,9 @@ module _ (words : List ℕ) (fits : length words ≡ 84) where
       abbrev head : List ℕ
       head = headIn words p key version last
 
-      pub head-fits : length head ≡ 84
-      head-fits = row-length words p _ (key .extension) version last 0 ∙ fits
-
       pub head-lent : shelfAt head ≡ withPlace (shelfAt words) p (emptyTable key version last)
       head-lent =
-          at-count head head-fits
+          at-count head (head-fits key version last)
           ∙ head-shelf words fits p hp key version last ht hv hl
           ∙ ap (λ s. withPlace s p (emptyTable key version last)) (sym (at-count words fits))
 
@@ -99,6 +99,6 @@ pub begun-lent :
     ≡ withPlace (shelfAt words) p (withLength (emptyTable key version last) n size)
 begun-lent words fits p hp key version last n size ht hv hl hn hs =
     let h = headIn words p key version last in
-    held-lent h (head-fits words fits p hp key version last ht hv hl) p hp n hn size hs (head-taken words fits p hp key version last ht hv hl)
+    held-lent h (head-fits words fits p hp key version last) p hp n hn size hs (head-taken words fits p hp key version last ht hv hl)
     ∙ rw (head-now words fits p hp key version last ht hv hl, head-lent words fits p hp key version last ht hv hl)
     (with-with (shelfAt words) p (emptyTable key version last) (withLength (emptyTable key version last) n size))

@@ -195,3 +195,35 @@ module _ (words : List ℕ) (p : ℕ) (fits : length words ≡ 84) (hp : p < 4) 
   pub among-length : (n : ℕ) → n < 16 → lengthAmong words p n ≡ lengthIn words p n
   unfolding lengthAmong
   among-length n h = rw (has-section n h)
+
+-- what was read in the numbers, against what a section says
+module _ (words : List ℕ) (p : ℕ) (fits : length words ≡ 84) (hp : p < 4) (t : takenIn words p ≡ true) where
+  version-is : placeAt (shelfIn words) p .version ≡ capped (getD words (66 + 4 * p) 0)
+  unfolding tableIn
+  version-is = ap (λ x. x .version) (table-at words p hp t)
+
+  last-is : placeAt (shelfIn words) p .last ≡ capped (getD words (67 + 4 * p) 0)
+  unfolding tableIn
+  last-is = ap (λ x. x .last) (table-at words p hp t)
+
+  module _ {a b v : ℕ} (e : b ≡ v) (l : v < 255) where
+    same-capped : (x : ℕ) → a ≡ x → a ≡ b → capped x ≡ v
+    same-capped x d q = eqb-true (capped x) v (capped-same x v l ∙ eq-eqb x v (sym d ∙ q ∙ e))
+
+    other-capped : (x : ℕ) → a ≡ x → (a ≡ b → ⊥) → capped x ≡ v → ⊥
+    other-capped x d q z = eqb-false x v (ne-eqb x v (λ y. q (d ∙ y ∙ sym e))) (eqb-true x v (sym (capped-same x v l) ∙ eq-eqb (capped x) v z))
+
+    pub version-same : a ≡ versionAmong words p → a ≡ b → placeAt (shelfIn words) p .version ≡ v
+    version-same d q = version-is ∙ same-capped (getD words (66 + 4 * p) 0) (d ∙ among-version words p fits hp) q
+
+    pub version-other : a ≡ versionAmong words p → (a ≡ b → ⊥) → placeAt (shelfIn words) p .version ≡ v → ⊥
+    version-other d q z = other-capped (getD words (66 + 4 * p) 0) (d ∙ among-version words p fits hp) q (sym version-is ∙ z)
+
+    pub last-same : a ≡ lastAmong words p → a ≡ b → placeAt (shelfIn words) p .last ≡ v
+    last-same d q = last-is ∙ same-capped (getD words (67 + 4 * p) 0) (d ∙ among-last words p fits hp) q
+
+    pub last-other : a ≡ lastAmong words p → (a ≡ b → ⊥) → placeAt (shelfIn words) p .last ≡ v → ⊥
+    last-other d q z = other-capped (getD words (67 + 4 * p) 0) (d ∙ among-last words p fits hp) q (sym last-is ∙ z)
+
+  pub length-same : {c n : ℕ} (m : ℕ) → m < 16 → n ≡ m → c ≡ lengthAmong words p n → c ≡ lengthAt (placeAt (shelfIn words) p) m
+  length-same m h e q = q ∙ ap (lengthAmong words p) e ∙ among-length words p fits hp m h ∙ sym (length-at words p m hp h t)
