@@ -40,13 +40,13 @@ returns : tie.Need-returns
 returns c = sym (whole-refused _ _ _ _ (told (c .before .before .before .held-in .ensures) (c .before .holding .given .1)))
 
 returns-2 : tie.Need-returns-2
-returns-2 c = 
+returns-2 c =
     let e = (told (c .before .before .before .before .before .before .before .before .held-in .ensures) (c .before .before .before .before .before .before .holding2 .given .1)) in
     let l = c .before .before .before .wide .ensures ∙ c .before .before .before .before .last-of .ensures in
     sym (whole-lacks _ _ _ _ e _ (gap-read _ _ _ _ e (c .before .before .mask-of .ensures) l (c .before .first-gap .ensures)) (rw (← last-read _ _ _ _ e l) (c .if1 .taken)))
 
 returns-3 : tie.Need-returns-3
-returns-3 c = 
+returns-3 c =
     let e = (told (c .before .before .before .before .before .before .before .before .held-in .ensures) (c .before .before .before .before .before .before .holding2 .given .1)) in
     let l = c .before .before .before .wide .ensures ∙ c .before .before .before .before .last-of .ensures in
     sym (whole-complete _ _ _ _ e _ (gap-read _ _ _ _ e (c .before .before .mask-of .ensures) l (c .before .first-gap .ensures)) (rw (← last-read _ _ _ _ e l) (c .if1 .left)))

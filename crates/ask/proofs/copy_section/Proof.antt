@@ -30,13 +30,13 @@ wide-requires : tie.Need-wide-requires
 wide-requires c κs = search needs
 
 returns : tie.Need-returns
-returns c = 
+returns c =
     let e = (told (c .before .before .before .before .before .before .held-in .ensures) (c .before .before .before .before .holding2 .given .1)) in
     let n = c .before .wide .ensures ∙ length-read _ _ _ _ e _ (c .before .before .length-of .ensures) in
     sym (copy-16 _ _ _ _ e _ _ _ n (c .if1 .taken))
 
 returns-2 : tie.Need-returns-2
-returns-2 c = 
+returns-2 c =
     let e = (told (c .before .before .before .before .before .before .before .held-in .ensures) (c .before .before .before .before .before .holding2 .given .1)) in
     let n = c .before .before .wide .ensures ∙ length-read _ _ _ _ e _ (c .before .before .before .length-of .ensures) in
     sym (copy-15 _ _ _ _ e _ _ _ n (c .before .if1 .left) (c .if2 .taken))
@@ -51,7 +51,7 @@ same-length : tie.Need-same-length
 same-length c = search needs
 
 returns-4 : tie.Need-returns-4
-returns-4 c = 
+returns-4 c =
     let e = (told (c .before .before .before .before .before .before .before .before .before .before .before .held-in .ensures) (c .before .before .before .before .before .before .before .before .before .holding2 .given .1)) in
     let n = c .before .before .before .before .before .before .wide .ensures ∙ length-read _ _ _ _ e _ (c .before .before .before .before .before .before .before .length-of .ensures) in
     ap (copy _) (c .before .before .copy-out .ensures)

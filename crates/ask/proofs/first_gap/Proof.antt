@@ -31,7 +31,7 @@ shr-if1 : tie.Need-shr-if1 Inv-loop μ-loop
 shr-if1 c = search needs
 
 returns : tie.Need-returns Inv-loop μ-loop
-returns c = 
+returns c =
     let k = c .before .before .loop in
     sym (lowest-found _ _ (k .n) (omega arith) (k .inv .1) (rw (ne-eqb _ 1 (zero-one (c .if1 .taken)))))
 
@@ -42,12 +42,12 @@ loop-less : tie.Need-loop-less Inv-loop μ-loop
 loop-less c = search needs
 
 loop-again : tie.Need-loop-again Inv-loop μ-loop
-loop-again c = 
+loop-again c =
     let k = c .before .before .loop in
     (search needs, lowest-more _ (k .n) (k .inv .1) (rw (eq-eqb _ 1 (odd _ (c .if1 .left)))))
 
 returns-2 : tie.Need-returns-2 Inv-loop μ-loop
-returns-2 c = 
+returns-2 c =
     let k = c .before .loop in
     let e : k .n ≡ c .before .before .args .last + 1 = omega arith in
     e ∙ sym (lowest-at _ _ e (k .inv .1))

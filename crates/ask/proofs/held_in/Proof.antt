@@ -24,12 +24,12 @@ place-of-requires : tie.Need-place-of-requires
 place-of-requires c κs = search needs
 
 returns-3 : tie.Need-returns-3
-returns-3 c = 
+returns-3 c =
     let s = told (c .before .before .before .is-spoiled .ensures) (c .before .before .if2 .left) in
     sym (in-14 _ _ _ (c .before .before .before .before .if1 .left) s (told (place-read _ _ s (c .before .place-of .ensures .0)) (c .if3 .taken)))
 
 returns-4 : tie.Need-returns-4
-returns-4 c = 
+returns-4 c =
     let s = told (c .before .before .before .is-spoiled .ensures) (c .before .before .if2 .left) in
     sym (in-place _ _ _ (c .before .before .before .before .if1 .left) s _ (place-read _ _ s (c .before .place-of .ensures .0)) (c .if3 .left))
 

@@ -37,7 +37,7 @@ first-gap-requires : tie.Need-first-gap-requires
 first-gap-requires c κs = last-low _ _ _ _ (told (c .before .before .before .before .before .before .held-in .ensures) (c .before .before .before .before .holding2 .given .1)) (c .before .wide .ensures ∙ c .before .before .last-of .ensures)
 
 cast-t14 : tie.Need-cast-t14
-cast-t14 c = 
+cast-t14 c =
     let l = last-low _ _ _ _ (told (c .before .before .before .before .before .before .before .before .held-in .ensures) (c .before .before .before .before .before .before .holding2 .given .1)) (c .before .before .before .wide .ensures ∙ c .before .before .before .before .last-of .ensures) in
     omega (arith, l)
 
@@ -45,13 +45,13 @@ returns : tie.Need-returns
 returns c = sym (missing-refused _ _ _ _ (told (c .before .before .before .held-in .ensures) (c .before .holding .given .1)))
 
 returns-2 : tie.Need-returns-2
-returns-2 c = 
+returns-2 c =
     let e = (told (c .before .before .before .before .before .before .before .before .held-in .ensures) (c .before .before .before .before .before .before .holding2 .given .1)) in
     let l = c .before .before .before .wide .ensures ∙ c .before .before .before .before .last-of .ensures in
     sym (missing-lowest _ _ _ _ e _ (gap-read _ _ _ _ e (c .before .before .mask-of .ensures) l (c .before .first-gap .ensures)) (rw (← last-read _ _ _ _ e l) (c .if1 .taken)))
 
 returns-3 : tie.Need-returns-3
-returns-3 c = 
+returns-3 c =
     let e = (told (c .before .before .before .before .before .before .before .before .held-in .ensures) (c .before .before .before .before .before .before .holding2 .given .1)) in
     let l = c .before .before .before .wide .ensures ∙ c .before .before .before .before .last-of .ensures in
     sym (missing-nothing _ _ _ _ e _ (gap-read _ _ _ _ e (c .before .before .mask-of .ensures) l (c .before .first-gap .ensures)) (rw (← last-read _ _ _ _ e l) (c .if1 .left)))
