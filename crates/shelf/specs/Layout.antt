@@ -101,3 +101,6 @@ maskAmong words p = if hasPlace (length words) p then getD words (80 + p) 0 else
 
 unfoldable pub lengthAmong : List ℕ → ℕ → ℕ → ℕ
 lengthAmong words p n = if hasSection (length words) p n then lengthIn words p n else 0
+
+abbrev pub lengthsAmong : List ℕ → ℕ → List ℕ
+lengthsAmong words p = listed sections (lengthAmong words p)

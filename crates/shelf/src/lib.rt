@@ -11,7 +11,7 @@ ghost use lib.ListN.{length, getD};
 ghost use Rattle.berth.specs.Berth.{places, sections};
 ghost use Rattle.shelf.specs.Record.{keyOf, hasKey};
 ghost use Rattle.base.specs.Bits.{bit};
-ghost use Rattle.shelf.specs.Layout.{count, heldLength, placeIn, placeAmong, freeAmong, versionAmong, lastAmong, maskAmong, lengthAmong};
+ghost use Rattle.shelf.specs.Layout.{count, heldLength, placeIn, placeAmong, freeAmong, versionAmong, lastAmong, maskAmong, lengthAmong, lengthsAmong};
 ghost use Rattle.shelf.specs.Writes.{heldIn, rowIn, heldPut, headPut, freedPut, freshPut, freshNumber};
 
 // What tells one table from another.
@@ -164,6 +164,19 @@ pub fn length_of(words: &[u16], p: usize, n: usize) -> u16
         return 0;
     }
     held_length(words[MASKS + p], n, words[SECTIONS * p + n])
+}
+
+// The lengths of its sixteen sections.
+pub fn lengths_of(words: &[u16], p: usize) -> [u16; 16]
+    ensures { λ r. ⌜ r ≡ lengthsAmong (now (words .entry)) p ⌝ }
+{
+    let mut lengths = [0u16; 16];
+    let mut n: usize = 0;
+    while n < SECTIONS {
+        lengths[n] = length_of(words, p, n);
+        n += 1;
+    }
+    lengths
 }
 
 fn with_bit(mask: u16, n: usize) -> u16
