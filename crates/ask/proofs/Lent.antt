@@ -2,7 +2,7 @@
 --   place-read, read-count        the place, and that there are 84 numbers
 --   last-read, last-low           its last number
 --   gap-read                      its lowest missing number
---   length-read, length-past      the length of a section
+--   length-read, length-past, lengths-read      the length of a section, and all sixteen
 use mathlib.Core.Path.{_≡_, refl, sym, ap, _∙_}
 use mathlib.Core.Bool.{Bool, true, false, not}
 use mathlib.Core.List.{List}
@@ -16,8 +16,8 @@ use Rattle.base.specs.Below.{lowest}
 use Rattle.base.proofs.Cases.{by}
 use Rattle.shelf.specs.Record.{placeAt, lengthAt, holds, spoiledOf, placeOf}
 use Rattle.shelf.specs.declared.Key.{Key}
-use Rattle.shelf.specs.Layout.{capped, lengthIn, lengthsIn, takenIn, tableIn, shelfIn, shelfAt, placeAmong, lastAmong, maskAmong, lengthAmong}
-use Rattle.shelf.proofs.Lists.{length-listed}
+use Rattle.shelf.specs.Layout.{capped, lengthIn, lengthsIn, takenIn, tableIn, shelfIn, shelfAt, placeAmong, lastAmong, maskAmong, lengthAmong, lengthsAmong}
+use Rattle.shelf.proofs.Lists.{length-listed, listed-same}
 use Rattle.shelf.proofs.Numbers.{at-count, spoiled-count, taken-at, table-at, held-at, length-at, among-place, among-last, among-mask, among-length}
 use Rattle.shelf.proofs.Equal.{lowest-alike}
 use Rattle.ask.specs.Ask.{holdingOf, lowestMissing}
@@ -99,3 +99,21 @@ odd m d = omega (arith, d)
 
 pub zero-one : {n : ℕ} → n ≡ 0 → n ≡ 1 → ⊥
 zero-one e q = omega arith
+
+-- the sixteen lengths of a table that is held
+pub lengths-read :
+    (words : List ℕ)
+    (size : ℕ)
+    (key : Key)
+    (p : ℕ)
+    (e : holdingOf (shelfAt words) size key ≡ Holding.In p)
+    {l : List ℕ}
+    → l ≡ lengthsAmong words p
+    → l ≡ placeAt (shelfAt words) p .lengths
+unfolding tableIn lengthsIn
+lengths-read words size key p e q =
+    let n = read-count words size key p e in
+    let i = held (shelfAt words) size key p e in
+    q
+    ∙ listed-same 16 (lengthAmong words p) (lengthIn words p) (λ k h. among-length words p n (i .place) k h)
+    ∙ ap (λ x. x .lengths) (sym (read-table words size key p e))

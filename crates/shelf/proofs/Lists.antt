@@ -35,3 +35,8 @@ filled-more l i f x s h e k b =
 pub filled-all : (l : List ℕ) (n i : ℕ) (f : ℕ → ℕ) → i ≡ n → length l ≡ n → Filled l i f → l ≡ listed n f
 filled-all l n i f e s h =
     ext-getD 0 l (listed n f) (s ∙ sym (length-listed n f)) (λ k b. h k (omega arith) ∙ sym (getD-listed n f k (omega arith)))
+
+pub listed-same : (n : ℕ) (f g : ℕ → ℕ) → ((k : ℕ) → k < n → f k ≡ g k) → listed n f ≡ listed n g
+listed-same n f g e =
+    ext-getD 0 (listed n f) (listed n g) (length-listed n f ∙ sym (length-listed n g))
+    (λ k h. let l : k < n = omega (arith, length-listed n f) in getD-listed n f k l ∙ e k l ∙ sym (getD-listed n g k l))

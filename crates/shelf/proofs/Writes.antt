@@ -23,12 +23,7 @@ use Rattle.base.specs.Bits.{bit}
 use Rattle.shelf.specs.Layout.{heldLength, capped, listed, lengthsIn, tableIn, takenIn, placeIn, shelfIn}
 use Rattle.shelf.specs.Writes.{heldIn, rowIn, freedIn, headIn, headPut, freshNumber, freshWords, emptyTable, withLength}
 use Rattle.base.proofs.Bits.{bit-set, bit-kept}
-use Rattle.shelf.proofs.Lists.{length-listed, getD-listed}
-
-listed-same : (n : ℕ) (f g : ℕ → ℕ) → ((k : ℕ) → k < n → f k ≡ g k) → listed n f ≡ listed n g
-listed-same n f g e =
-    ext-getD 0 (listed n f) (listed n g) (length-listed n f ∙ sym (length-listed n g))
-    (λ k h. let l : k < n = omega (arith, length-listed n f) in getD-listed n f k l ∙ e k l ∙ sym (getD-listed n g k l))
+use Rattle.shelf.proofs.Lists.{length-listed, getD-listed, listed-same}
 
 -- the numbers of a place are alike in v and w
 pub record Alike (v w : List ℕ) (p : ℕ) : Type 0 where
