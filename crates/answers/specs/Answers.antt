@@ -1,5 +1,5 @@
 -- What a call over numbers that a host lends leaves; its answer is a number whose low 8 bits are the refusal.
-use Prim.Native.Nat.{ℕ, _*_, _%_}
+use Prim.Native.Nat.{ℕ, _*_, _/_, _%_, _^_}
 use mathlib.Core.List.{List}
 
 -- what a call that may change a shelf leaves: the answer, the record's numbers, the store
@@ -19,7 +19,15 @@ pub record Out : Type 0 where
 abbrev pub out : ℕ → List ℕ → Out
 out code bytes = record { code = code; out = bytes }
 
+-- the number of refusal in an answer, 0 for none
+abbrev pub refusalIn : ℕ → ℕ
+refusalIn code = code % 2 ^ 8
+
 -- such a call answers from bit 8 up how many bytes now stand at the output's front, in 16 bits: no section, file or listing has
 -- more than 65,535
 abbrev pub sizeCode : ℕ → ℕ
 sizeCode n = 256 * (n % 65536)
+
+-- the size in an answer
+abbrev pub sizeIn : ℕ → ℕ
+sizeIn code = code / 2 ^ 8
