@@ -1,6 +1,11 @@
 -- What a call over numbers that a host lends leaves; its answer is a number whose low 8 bits are the refusal.
 use Prim.Native.Nat.{ℕ, _*_, _/_, _%_, _^_}
-use mathlib.Core.List.{List}
+use mathlib.Core.Path.{_≡_}
+use mathlib.Core.List.{List, _++_}
+use mathlib.Core.Logic.{_↔_}
+use lib.Dec.{eqb}
+use lib.ListN.{length, drop}
+use Rattle.base.specs.Choice.{if_then_else_}
 
 -- what a call that may change a shelf leaves: the answer, the record's numbers, the store
 pub record Lent : Type 0 where
@@ -31,3 +36,20 @@ sizeCode n = 256 * (n % 65536)
 -- the size in an answer
 abbrev pub sizeIn : ℕ → ℕ
 sizeIn code = code / 2 ^ 8
+
+-- what a host takes out of such an answer: a size, or a refusal
+abbrev pub sizeOr : {A : Type 0} → (ℕ → A) → (ℕ → A) → ℕ → A
+sizeOr bytes refused code = if eqb (refusalIn code) 0 then bytes (sizeIn code) else refused code
+
+-- some bytes at the front of an output, which stays as it was past them
+abbrev pub filled : List ℕ → List ℕ → Out
+filled bytes old = out (sizeCode (length bytes)) (bytes ++ drop (length bytes) old)
+
+-- The laws of a call that fills an output with some bytes, or is refused:
+pub record Fills (bytes old : List ℕ) (left : Out) : Type 0 where
+  -- a refused call leaves the output as it was
+  pub untouched : ¬ (refusalIn (left .code) ≡ 0) → left .out ≡ old
+  -- the low 8 bits are 0 exactly when the call is accepted, and the bytes stand there
+  pub accepted : (refusalIn (left .code) ≡ 0) ↔ (left ≡ filled bytes old)
+  -- the size comes back out of the answer
+  pub size : refusalIn (left .code) ≡ 0 → sizeIn (left .code) ≡ length bytes

@@ -1,13 +1,10 @@
--- `writer_answers::writer_section` meets its promise by the writer's.
+-- `writer::section_code` meets its promise in each arm.
 use borrow.Author.Needs.{needs}
 use mathlib.Core.Path.{sym, ap, _∙_}
-use Rattle.writer_answers.specs.Writer.{writtenCode}
-use Rattle.writer_answers.proofs.Written.{write-told}
-use Rattle.writer_answers.proofs.writer_section.Statement.{statement}
-use Rattle.writer_answers.proofs.writer_section.Tie as tie
-
-label-of-requires : tie.Need-label-of-requires
-label-of-requires c κs = search needs
+use Rattle.writer.specs.Answer.{writtenCode}
+use Rattle.writer.proofs.Answers.{write-told}
+use Rattle.writer.proofs.section_code.Statement.{statement}
+use Rattle.writer.proofs.section_code.Tie as tie
 
 write-section-requires : tie.Need-write-section-requires
 write-section-requires c κs = search needs
@@ -30,7 +27,7 @@ same-length c = search needs
 returns : tie.Need-returns
 returns c =
     let k = c .before .before .before .before .before .before in
-    write-told _ _ _ _ _ _ _ _ _ _ (k .before .before .label-of .ensures) (k .write-section .ensures)
+    write-told _ _ _ _ _ _ _ (k .write-section .ensures)
     (c .size-code .ensures ∙ sym (ap writtenCode (c .before .before .written .given .1)))
 
 same-length-2 : tie.Need-same-length-2
@@ -39,14 +36,13 @@ same-length-2 c = search needs
 returns-2 : tie.Need-returns-2
 returns-2 c =
     let k = c .before .before .before .before .before in
-    write-told _ _ _ _ _ _ _ _ _ _ (k .before .before .label-of .ensures) (k .write-section .ensures)
+    write-told _ _ _ _ _ _ _ (k .write-section .ensures)
     (sym (ap writtenCode (c .before .written2 .given .1)))
 
-pub writer-section-spec : {M : Type 1} → statement M
-writer-section-spec =
+pub section-code-spec : {M : Type 1} → statement M
+section-code-spec =
     tie.close
     (tie.spec
-    label-of-requires
     write-section-requires
     enum-known-written
     size-code-requires

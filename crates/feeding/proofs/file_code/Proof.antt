@@ -1,13 +1,10 @@
--- `writer_answers::writer_file` meets its promise by the layer's.
+-- `feeding::file_code` meets its promise by the layer's.
 use borrow.Author.Needs.{needs}
 use mathlib.Core.Path.{sym, ap, _∙_}
-use Rattle.writer_answers.specs.Writer.{fedCode}
-use Rattle.writer_answers.proofs.Written.{feed-told}
-use Rattle.writer_answers.proofs.writer_file.Statement.{statement}
-use Rattle.writer_answers.proofs.writer_file.Tie as tie
-
-label-of-requires : tie.Need-label-of-requires
-label-of-requires c κs = search needs
+use Rattle.feeding.specs.Answer.{fedCode}
+use Rattle.feeding.proofs.Told.{feed-told}
+use Rattle.feeding.proofs.file_code.Statement.{statement}
+use Rattle.feeding.proofs.file_code.Tie as tie
 
 feed-file-requires : tie.Need-feed-file-requires
 feed-file-requires c κs = search needs
@@ -30,7 +27,7 @@ same-length c = search needs
 returns : tie.Need-returns
 returns c =
     let k = c .before .before .before .before .before .before in
-    feed-told _ _ _ _ _ _ _ _ _ (k .before .before .label-of .ensures) (k .feed-file .ensures)
+    feed-told _ _ _ _ _ _ (k .feed-file .ensures)
     (c .size-code .ensures ∙ sym (ap fedCode (c .before .before .fed .given .1)))
 
 same-length-2 : tie.Need-same-length-2
@@ -39,14 +36,13 @@ same-length-2 c = search needs
 returns-2 : tie.Need-returns-2
 returns-2 c =
     let k = c .before .before .before .before .before in
-    feed-told _ _ _ _ _ _ _ _ _ (k .before .before .label-of .ensures) (k .feed-file .ensures)
+    feed-told _ _ _ _ _ _ (k .feed-file .ensures)
     (sym (ap fedCode (c .before .fed2 .given .1)))
 
-pub writer-file-spec : {M : Type 1} → statement M
-writer-file-spec =
+pub file-code-spec : {M : Type 1} → statement M
+file-code-spec =
     tie.close
     (tie.spec
-    label-of-requires
     feed-file-requires
     enum-known-fed
     size-code-requires

@@ -1,10 +1,10 @@
--- `writer_answers::writer_count` meets its promise by the writer's.
+-- `writer::count_code` meets its promise in each arm.
 use borrow.Author.Needs.{needs}
 use mathlib.Core.Path.{sym, ap}
-use Rattle.writer_answers.specs.Writer.{countedCode}
-use Rattle.writer_answers.proofs.Written.{count-told}
-use Rattle.writer_answers.proofs.writer_count.Statement.{statement}
-use Rattle.writer_answers.proofs.writer_count.Tie as tie
+use Rattle.writer.specs.Answer.{countedCode}
+use Rattle.writer.proofs.Answers.{count-told}
+use Rattle.writer.proofs.count_code.Statement.{statement}
+use Rattle.writer.proofs.count_code.Tie as tie
 
 count-sections-requires : tie.Need-count-sections-requires
 count-sections-requires c κs = search needs
@@ -32,8 +32,8 @@ returns-2 : tie.Need-returns-2
 returns-2 c =
     count-told _ _ _ (c .before .before .before .count-sections .ensures) (sym (ap countedCode (c .before .counted2 .given .1)))
 
-pub writer-count-spec : {M : Type 1} → statement M
-writer-count-spec =
+pub count-code-spec : {M : Type 1} → statement M
+count-code-spec =
     tie.close
     (tie.spec
     count-sections-requires
