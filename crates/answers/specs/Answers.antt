@@ -1,11 +1,12 @@
 -- What a call over numbers that a host lends leaves; its answer is a number whose low 8 bits are the refusal.
 use Prim.Native.Nat.{ℕ, _*_, _/_, _%_, _^_}
 use mathlib.Core.Path.{_≡_}
-use mathlib.Core.List.{List, _++_}
+use mathlib.Core.List.{List, [], _∷_, _++_}
+use mathlib.Core.Bool.{not}
 use mathlib.Core.Logic.{_↔_}
-use lib.Dec.{eqb}
+use lib.Dec.{ltb, eqb}
 use lib.ListN.{length, drop}
-use Rattle.base.specs.Choice.{if_then_else_}
+use Rattle.base.specs.Choice.{if_then_else_, _if_, first}
 
 -- what a call that may change a shelf leaves: the answer, the record's numbers, the store
 pub record Lent : Type 0 where
@@ -23,6 +24,21 @@ pub record Out : Type 0 where
 
 abbrev pub out : ℕ → List ℕ → Out
 out code bytes = record { code = code; out = bytes }
+
+-- the number of refusal of an answer, 0 for none, and its values
+pub record Told : Type 0 where
+  pub number : ℕ
+  pub values : List ℕ
+
+abbrev pub told : ℕ → List ℕ → Told
+told number values = record { number = number; values = values }
+
+-- an answer's values at the front of a lent buffer, which stays as it was past them; its own refusal, or 15 where they do not fit
+abbrev pub puts : Told → List ℕ → Out
+puts t old =
+    first (λ n. out n old)
+    ((t .number) if not (eqb (t .number) 0) ∷ 15 if ltb (length old) (length (t .values)) ∷ [])
+    (out 0 (t .values ++ drop (length (t .values)) old))
 
 -- the number of refusal in an answer, 0 for none
 abbrev pub refusalIn : ℕ → ℕ

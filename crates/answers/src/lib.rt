@@ -2,6 +2,9 @@
 ghost use mathlib.Core.Path.{_≡_};
 ghost use Rattle.answers.specs.Answers.{sizeCode};
 
+// The output is too small.
+pub const OUTPUT_TOO_SMALL: u8 = 15;
+
 // What a field is multiplied by to begin at that bit of an answer of 64 bits.
 pub const BIT_8: u64 = 256;
 

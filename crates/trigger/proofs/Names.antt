@@ -16,9 +16,9 @@ use Rattle.base.specs.Octets.{Octets}
 use Rattle.base.proofs.Cases.{by}
 use Rattle.base.proofs.Bytes.{word-high, word-low, word-fits, word-part, length-part}
 use Rattle.trigger_faults.specs.Fields.{idLength}
 use Rattle.trigger.specs.Trigger.{descriptionOf, idOf, extent}
 use Rattle.trigger.specs.Layout.{Application, nameBytes, FitName, twoBytes, descriptionIn, idIn}
-use Rattle.trigger_laws.specs.Message.{nameFrom, nameIn}
+use Rattle.trigger.specs.Message.{nameFrom, nameIn}
 
 pub name-back : (c : List ℕ) → Octets c → (length c ≡ 1 → ⊥) → nameBytes (nameFrom c) ≡ c
 unfolding nameFrom

@@ -1,4 +1,4 @@
--- `belonging::is_same` meets its contract: what the loop has gathered is what holds of every place passed. Assumes nothing.
+-- `trigger::is_same` meets its contract: what the loop has gathered is what holds of every place passed. Assumes nothing.
 use borrow.Author.Needs.{needs}
 use borrow.Author.Tests.{eq-eqb, ne-eqb}
 use mathlib.Core.Path.{_≡_, refl, sym}
@@ -8,10 +8,10 @@ use Rattle.base.specs.Bytes.{byte, same}
 use Rattle.base.specs.Below.{every}
 use Rattle.base.proofs.Below.{every-none}
 use Rattle.trigger_faults.proofs.Gathers.{every-gathers, every-gathered}
-use Rattle.belonging.proofs.is_same.Statement.{statement}
-use Rattle.belonging.proofs.is_same.Tie as tie
-use Rattle.belonging.proofs.is_same.Reads as reads
-use Rattle.belonging.proofs.is_same.Lts as lts
+use Rattle.trigger.proofs.is_same.Statement.{statement}
+use Rattle.trigger.proofs.is_same.Tie as tie
+use Rattle.trigger.proofs.is_same.Reads as reads
+use Rattle.trigger.proofs.is_same.Lts as lts
 
 abbrev Inv-loop : tie.InvT-loop
 Inv-loop found id count equal₀ i₀ equal i = (i ≤ count) × (equal ≡ every i (λ k. eqb (byte found k) (byte id k)))

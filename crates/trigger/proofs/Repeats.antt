@@ -12,7 +12,7 @@ use Rattle.base.specs.Choice.{Row, first, if_then_else_}
 use Rattle.base.specs.Tables.{Rule, None, above, said, Agree}
 use Rattle.base.proofs.Tables.{number-first, denied}
 use Rattle.base.proofs.Cases.{by, unlike, and-left, and-right}
-use Rattle.trigger_laws.specs.Repeats.{Given, lacks, alone}
+use Rattle.trigger.specs.Repeats.{Given, lacks, alone}
 
 numbers-so : (rs : List Row) (ws : List Rule) → Agree rs ws → (other n : ℕ) → (other ≡ n → ⊥) → (first (λ k. k) rs other ≡ n) ↔ Given n ws
 numbers-so [] [] g other n o = (λ e. o e, λ h. absurd h)

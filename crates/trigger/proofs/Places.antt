@@ -1,5 +1,5 @@
 -- Places are true: they lie in the payload, apart and in order, and what stands there is what the trigger says.
---   placed                            of every trigger that is read
+--   all-placed                           of every trigger that is read
 --   id-shown, target-shown, user-shown   the bytes at the places
 use mathlib.Core.Path.{_≡_, refl, sym, ap, subst, _∙_}
 use mathlib.Core.List.{List, [], _∷_, _++_}
@@ -9,14 +9,15 @@ use lib.ListN.{length}
 use lib.Seq.{take-append-seam}
 use Rattle.base.specs.Bytes.{part}
 use Rattle.base.specs.Octets.{Octets}
 use Rattle.trigger.specs.declared.Answer.{Answer}
 use Rattle.trigger.specs.declared.Trigger.{Trigger}
 use Rattle.trigger.specs.Trigger.{readOf}
 use Rattle.trigger.specs.Layout.{Application, Aim, Message, nameBytes, aimType, aimBytes, idIn, targetIn, laid, counted, bytesOf, answerOf}
-use Rattle.trigger_laws.specs.Message.{messageOf}
-use Rattle.trigger_laws.specs.Places.{Lies, TargetLies, Placed}
-use Rattle.trigger_laws.proofs.Laid.{target-part, user-part, whole-length}
-use Rattle.trigger_laws.proofs.Reading.{read-bytes}
+use Rattle.trigger.specs.Theorems.{aimed, ended, Target-Shown, User-Shown, Id-Shown, All-Placed}
+use Rattle.trigger.specs.Message.{messageOf}
+use Rattle.trigger.specs.Places.{Lies, TargetLies, Placed}
+use Rattle.trigger.proofs.Laid.{target-part, user-part, whole-length}
+use Rattle.trigger.proofs.Reading.{read-bytes}
 
 name-lies : (a : Application) (to : ℕ) → 3 + length (nameBytes a) ≤ to → Lies 3 to (idIn a)
 name-lies Application.all to h = omega arith
@@ -35,37 +36,29 @@ target-lies from to at (Aim.http b) h k = (h, k)
 target-lies from to at (Aim.reserved t b) h k = (h, k)
 
 module _ (m : Message) where
-  -- the places before the target's bytes and the user data
-  abbrev aimed : ℕ
-  aimed = 3 + length (nameBytes (m .application)) + 3
-
-  abbrev ended : ℕ
-  ended = aimed + length (aimBytes (m .aim)) + 2
-
   pub message-placed : Placed (bytesOf m) (answerOf m)
   unfolding bytesOf answerOf
   message-placed =
       record {
-        id = name-lies (m .application) ended (omega arith);
+        id = name-lies (m .application) (ended m) (omega arith);
         target =
-            target-lies (idIn (m .application) .place + idIn (m .application) .length) ended aimed (m .aim)
-            (name-ends (m .application) aimed (omega arith))
+            target-lies (idIn (m .application) .place + idIn (m .application) .length) (ended m) (aimed m) (m .aim)
+            (name-ends (m .application) (aimed m) (omega arith))
             (omega arith);
         user = sym (whole-length (nameBytes (m .application)) (aimType (m .aim)) (aimBytes (m .aim)) (m .user));
       }
 
-  pub target-shown : part (bytesOf m) aimed (length (aimBytes (m .aim))) ≡ aimBytes (m .aim)
+  pub target-shown : Target-Shown m
   unfolding bytesOf
   target-shown = target-part (nameBytes (m .application)) (aimType (m .aim)) (aimBytes (m .aim)) (m .user)
 
-  pub user-shown : part (bytesOf m) ended (length (m .user)) ≡ m .user
+  pub user-shown : User-Shown m
   unfolding bytesOf
   user-shown = user-part (nameBytes (m .application)) (aimType (m .aim)) (aimBytes (m .aim)) (m .user)
 
-pub id-shown : (d : ℕ) (id : List ℕ) (aim : Aim) (user : List ℕ)
-    → part (bytesOf (record { application = Application.named d id; aim = aim; user = user })) 5 (length id) ≡ id
+pub id-shown : Id-Shown
 unfolding bytesOf
 id-shown d id aim user = take-append-seam id (aimType aim ∷ (counted (aimBytes aim) ++ counted user))
 
-pub placed : (s : List ℕ) → Octets s → (t : Trigger) → readOf s ≡ Answer.Trigger t → Placed s t
-placed s o t e = let w = read-bytes s o t e in rw (w .2) (subst (λ l. Placed l (answerOf (messageOf s))) (sym (w .1)) (message-placed (messageOf s)))
+pub all-placed : (s : List ℕ) → Octets s → All-Placed s
+all-placed s o t e = let w = read-bytes s o t e in rw (w .2) (subst (λ l. Placed l (answerOf (messageOf s))) (sym (w .1)) (message-placed (messageOf s)))

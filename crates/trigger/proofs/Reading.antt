@@ -13,18 +13,19 @@ use lib.ListN.{length}
 use Rattle.base.specs.Bytes.{byte, word, part}
 use Rattle.base.specs.Octets.{Octets}
 use Rattle.base.proofs.Bytes.{length-part, octets-part}
 use Rattle.trigger.specs.declared.Answer.{Answer}
 use Rattle.trigger.specs.declared.Trigger.{Trigger}
 use Rattle.trigger_faults.specs.Fields.{wrongLength, isUri, someHigh, idLength, targetAt, userAt}
 use Rattle.trigger.specs.Trigger.{targetOf, triggerOf, readOf}
 use Rattle.trigger.specs.Layout.{Application, Message, Fit, nameBytes, aimType, aimBytes, laid, bytesOf, answerOf}
 use Rattle.trigger_faults.proofs.Exits.{Head, Aimed, Ended}
-use Rattle.trigger_laws.specs.Message.{nameFrom, aimFrom, nameIn, targetBytesIn, userIn, messageOf}
-use Rattle.trigger_laws.proofs.Laid.{name-length, name-part, type-byte, target-length, target-part, user-length, user-part, whole-length}
-use Rattle.trigger_laws.proofs.Clean.{Clean, clean-reads, reads-clean}
-use Rattle.trigger_laws.proofs.Unrolled.{clean-laid}
-use Rattle.trigger_laws.proofs.Names.{name-back, name-size, name-fro, name-fits, name-told, id-told}
-use Rattle.trigger_laws.proofs.Aims.{high, high-part, aim-type, aim-back, aim-size, aim-fits, aim-fro, aim-allowed, aim-ascii, aim-told}
+use Rattle.trigger.specs.Theorems.{Bytes-Say, Bytes-Read, One-Message, Read-Bytes, Exactly}
+use Rattle.trigger.specs.Message.{nameFrom, aimFrom, nameIn, targetBytesIn, userIn, messageOf}
+use Rattle.trigger.proofs.Laid.{name-length, name-part, type-byte, target-length, target-part, user-length, user-part, whole-length}
+use Rattle.trigger.proofs.Clean.{Clean, clean-reads, reads-clean}
+use Rattle.trigger.proofs.Unrolled.{clean-laid}
+use Rattle.trigger.proofs.Names.{name-back, name-size, name-fro, name-fits, name-told, id-told}
+use Rattle.trigger.proofs.Aims.{high, high-part, aim-type, aim-back, aim-size, aim-fits, aim-fro, aim-allowed, aim-ascii, aim-told}
 
 -- the answer of a clean payload is the answer of what it says
 module _ (s : List ℕ) (c : Clean s) where
@@ -137,19 +138,18 @@ module _ (m : Message) (f : Fit m) where
       laid-clean (nameBytes (m .application)) (aimType (m .aim)) (aimBytes (m .aim)) (m .user)
       (f .small) (name-even (m .application)) (aim-allowed (m .aim) (f .aim)) (aim-ascii (m .aim) (f .aim))
 
-  pub bytes-say : messageOf (bytesOf m) ≡ m
+  pub bytes-say : Bytes-Say m
   unfolding bytesOf
   bytes-say =
       laid-says (nameBytes (m .application)) (aimType (m .aim)) (aimBytes (m .aim)) (m .user)
       ∙ rw (name-fro (m .application), aim-fro (m .aim) (f .aim))
 
-  pub bytes-read : readOf (bytesOf m) ≡ Answer.Trigger (answerOf m)
+  pub bytes-read : Bytes-Read m
   bytes-read =
       clean-reads (bytesOf m) bytes-clean
       ∙ ap Answer.Trigger (clean-answer (bytesOf m) bytes-clean ∙ ap answerOf bytes-say)
 
--- two triggers never have the same bytes
-pub one-message : (m n : Message) → Fit m → Fit n → bytesOf m ≡ bytesOf n → m ≡ n
+pub one-message : One-Message
 one-message m n f g e = sym (bytes-say m f) ∙ ap messageOf e ∙ bytes-say n g
 
 -- a payload that is read as a trigger
@@ -177,12 +177,12 @@ module _ (s : List ℕ) (o : Octets s) where
         small = rw (clean-bytes c) (c .head .small);
       }
 
-  pub read-bytes : (t : Trigger) → readOf s ≡ Answer.Trigger t → Fit (messageOf s) × (s ≡ bytesOf (messageOf s)) × (t ≡ answerOf (messageOf s))
+  pub read-bytes : Read-Bytes s
   read-bytes t e =
       let w = reads-clean s t e in
       (clean-fits (w .0), sym (clean-bytes (w .0)), w .1 ∙ clean-answer s (w .0))
 
-  pub exactly : (t : Trigger) → (readOf s ≡ Answer.Trigger t) ↔ ((m : Message) × Fit m × (s ≡ bytesOf m) × (t ≡ answerOf m))
+  pub exactly : Exactly s
   exactly t = (
     λ e. let w = read-bytes t e in (messageOf s, w .0, w .1, w .2),
     λ w. ap readOf (w .2) ∙ bytes-read (w .0) (w .1) ∙ ap Answer.Trigger (sym (w .3)),

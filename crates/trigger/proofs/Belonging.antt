@@ -14,28 +14,25 @@ use Rattle.base.specs.Tables.{Decides}
 use Rattle.base.proofs.Tables.{most, or-so, and-so}
 use Rattle.base.proofs.Tables as tables
 use Rattle.base.proofs.Same.{same-refl, same-equal}
 use Rattle.trigger.specs.declared.Answer.{Answer}
 use Rattle.trigger.specs.declared.Trigger.{Trigger}
 use Rattle.trigger.specs.Trigger.{readOf}
-use Rattle.belonging.specs.Belongs.{isId, belongsOf}
-use Rattle.trigger_laws.specs.Places.{Placed}
-use Rattle.trigger_laws.proofs.Places.{placed}
+use Rattle.trigger.specs.Theorems.{nameShown, Belongs-Exactly, Read-Belongs}
+use Rattle.trigger.specs.Belongs.{isId, belongsOf}
+use Rattle.trigger.specs.Places.{Placed}
+use Rattle.trigger.proofs.Places.{all-placed}
 
 bytes-so : (a b : List ℕ) → Decides (same a b) (a ≡ b)
 bytes-so a b = (same-equal a b, λ e. rw e (same-refl b))
 
 module _ (s : List ℕ) (t : Trigger) (id : List ℕ) where
-  -- the bytes that the trigger names its application by
-  abbrev pub named : List ℕ
-  named = part s (t .id .place) (t .id .length)
-
-  pub belongs-exactly : (belongsOf s t id ≡ true) ↔ ((t .idlength ≡ 0) ⊎ ((t .id .place + t .id .length ≤ length s) × (named ≡ id)))
+  pub belongs-exactly : Belongs-Exactly s t id
   unfolding belongsOf isId
-  belongs-exactly = or-so _ _ (tables.same (t .idlength) 0) (and-so _ _ (most (t .id .place + t .id .length) (length s)) (bytes-so named id))
+  belongs-exactly = or-so _ _ (tables.same (t .idlength) 0) (and-so _ _ (most (t .id .place + t .id .length) (length s)) (bytes-so (nameShown s t) id))
 
-  pub read-belongs : Octets s → readOf s ≡ Answer.Trigger t → (belongsOf s t id ≡ true) ↔ ((t .idlength ≡ 0) ⊎ (named ≡ id))
+  pub read-belongs : Octets s → Read-Belongs s t id
   read-belongs o e =
-      let p = placed s o t e in
+      let p = all-placed s o t e in
       let u : t .user .place + t .user .length ≡ length s = p .user in
       let l : t .id .place + t .id .length ≤ t .user .place = p .id .1 in (
         λ h. ⊎-elim inl (λ w. inr (w .1)) (belongs-exactly .0 h),

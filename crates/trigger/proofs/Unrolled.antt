@@ -13,10 +13,10 @@ use Rattle.base.specs.Bytes.{byte, word, part}
 use Rattle.base.specs.Octets.{Octets}
 use Rattle.base.proofs.Bytes.{word-high, word-low, length-part}
 use Rattle.trigger_faults.specs.Fields.{idLength, targetAt, userAt}
 use Rattle.trigger.specs.Layout.{twoBytes, counted, laid}
 use Rattle.trigger_faults.proofs.Exits.{Head, Aimed, Ended}
-use Rattle.trigger_laws.specs.Message.{nameIn, targetBytesIn, userIn}
-use Rattle.trigger_laws.proofs.Clean.{Clean}
+use Rattle.trigger.specs.Message.{nameIn, targetBytesIn, userIn}
+use Rattle.trigger.proofs.Clean.{Clean}
 
 module _ (s : List ℕ) where
   pub next : (at : ℕ) → at < length s → drop at s ≡ byte s at ∷ drop (at + 1) s

@@ -11,10 +11,11 @@ use lib.ListN.{length}
 use borrow.Author.Tests.{le-ltb, eq-eqb, ne-eqb}
 use Rattle.base.specs.Bytes.{word}
 use Rattle.base.proofs.Cases.{same-or}
 use Rattle.trigger.specs.declared.Answer.{Answer}
 use Rattle.trigger.specs.declared.Trigger.{Trigger}
-use Rattle.trigger_faults.specs.Fields.{headFaults, targetFaults, userFaults, headFault, targetFault, userFault, targetAt, userAt}
+use Rattle.trigger_faults.specs.Fields.{headFaults, targetFaults, userFaults, targetAt, userAt}
+use Rattle.trigger_faults.specs.Parts.{headFault, targetFault, userFault}
 use Rattle.trigger.specs.Trigger.{triggerOf, readOf}
 use Rattle.trigger_faults.proofs.Tables.{goes}
 use Rattle.trigger_faults.proofs.Exits.{Head, Aimed, Ended, head-sound, target-sound, user-sound, read-head, read-target, read-user, read-on}
 

@@ -22,13 +22,13 @@ use Rattle.base.proofs.Below.{some-all, some-each}
 use Rattle.base.proofs.Cases.{by, either}
 use Rattle.base.proofs.Bytes.{word-fits, word-part, length-part, byte-part}
 use Rattle.trigger_faults.specs.Fields.{wrongLength, isUri, someHigh}
 use Rattle.trigger.specs.Trigger.{kindOf, moduleOf, extent}
 use Rattle.trigger.specs.Layout.{Aim, aimType, aimBytes, FitAim, FitUri, twoBytes, targetIn}
 use Rattle.trigger.specs.declared.Target.{Target}
 use Rattle.trigger_faults.proofs.Truth.{and-none}
 use Rattle.trigger.proofs.Lengths.{no-none, module-six, tap-two}
-use Rattle.trigger_laws.specs.Message.{aimFrom}
-use Rattle.trigger_laws.proofs.Unrolled.{words}
+use Rattle.trigger.specs.Message.{aimFrom}
+use Rattle.trigger.proofs.Unrolled.{words}
 
 -- none of the types 1 to 5
 pub record Other (type : ℕ) : Type 0 where

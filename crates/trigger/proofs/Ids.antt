@@ -8,7 +8,7 @@ use native.Mathlib.Nat.{add-sub-cancel-left}
 use lib.ListN.{length, take, drop}
 use borrow.Author.Tests.{le-leb, lt-leb}
 use Rattle.base.specs.Bytes.{same}
-use Rattle.belonging.specs.Belongs.{isId}
+use Rattle.trigger.specs.Belongs.{isId}
 
 module _ (s : List ℕ) (place n : ℕ) (id : List ℕ) where
   pub id-outside : length s < place + n → false ≡ isId s place n id

@@ -1,15 +1,15 @@
--- `belonging::belongs` meets its contract: each return is a law on the id's bytes. Assumes nothing.
+-- `trigger::belongs` meets its contract: each return is a law on the id's bytes. Assumes nothing.
 use borrow.Author.Needs.{needs}
 use native.Mathlib.Omega.{arith}
 use borrow.Author.Tests.{eq-eqb, ne-eqb}
 use mathlib.Core.Path.{_≡_, _∙_}
-use Rattle.belonging.specs.Belongs.{belongsOf}
-use Rattle.belonging.proofs.Ids.{id-outside, id-inside}
-use Rattle.belonging.proofs.belongs.Statement.{statement}
-use Rattle.belonging.proofs.belongs.Tie as tie
-use Rattle.belonging.proofs.belongs.Reads as reads
-use Rattle.belonging.proofs.belongs.Lts as lts
-use Rattle.belonging.proofs.is_same.Reads as is-same-reads
+use Rattle.trigger.specs.Belongs.{belongsOf}
+use Rattle.trigger.proofs.Ids.{id-outside, id-inside}
+use Rattle.trigger.proofs.belongs.Statement.{statement}
+use Rattle.trigger.proofs.belongs.Tie as tie
+use Rattle.trigger.proofs.belongs.Reads as reads
+use Rattle.trigger.proofs.belongs.Lts as lts
+use Rattle.trigger.proofs.is_same.Reads as is-same-reads
 
 returns : tie.Need-returns
 unfolding belongsOf
