@@ -2,6 +2,22 @@
 ghost use mathlib.Core.Path.{_≡_};
 ghost use Rattle.answers.specs.Answers.{sizeCode};
 
+// The output is too small.
+pub const OUTPUT_TOO_SMALL: u8 = 15;
+
+// What a field is multiplied by to begin at that bit of an answer of 64 bits.
+pub const BIT_8: u64 = 256;
+
+pub const BIT_16: u64 = 65536;
+
+pub const BIT_24: u64 = 16777216;
+
+pub const BIT_32: u64 = 4294967296;
+
+pub const BIT_40: u64 = 1099511627776;
+
+pub const BIT_48: u64 = 281474976710656;
+
 // A number of refusal in an answer of 16 bits.
 pub fn wide(n: u8) -> u16
     ensures { λ r. ⌜ r ≡ n ⌝ }

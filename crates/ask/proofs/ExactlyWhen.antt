@@ -21,8 +21,8 @@ use Rattle.base.proofs.Cases.{by}
 use Rattle.base.proofs.Tables.{given, passed, silent, among, words}
 use Rattle.shelf.specs.Record.{placeAt, lengthAt, placeOf}
 use Rattle.shelf.specs.declared.Key.{Key}
-use Rattle.shelf.specs.declared.Place.{Place}
-use Rattle.shelf.specs.declared.Shelf.{Shelf}
+use Rattle.shelf.specs.Record.{Place}
+use Rattle.shelf.specs.Record.{Shelf}
 use Rattle.berth.specs.Berth.{places, storeSize}
 use Rattle.shelf.proofs.Words.{Some, Held, HasKey, Spoiled, spoiled-exactly, not-held}
 use Rattle.ask.specs.Ask.{holdingNo, holdingOf, asked, unasked, uncopied, copyFrom, copy, copyOf, wholeOf, missingOf, copiedNo, wholeNo, missingNo, complete, lowestMissing}

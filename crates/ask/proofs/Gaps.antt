@@ -6,21 +6,20 @@
 --   lowest-one            there is one lowest missing number
 --   held-so, lacks-so      the tests say that a section is held, and that it is not
 --   gap-complete, gap-incomplete    whether a table is complete, by its lowest missing number
---   gap-more, gap-found, gap-end    for a search that passes the held numbers from 0 on
-use mathlib.Core.Path.{_≡_, sym, ap, _∙_}
+use mathlib.Core.Path.{_≡_, sym, _∙_}
 use mathlib.Core.Bool.{Bool, true, false, not}
 use mathlib.Core.Logic.{_↔_}
 use Prim.Native.Nat.{ℕ, _+_, _<_, _≤_}
 use native.Mathlib.Omega.{arith}
 use lib.Dec.{eqb, ltb}
-use borrow.Author.Tests.{eq-eqb, ne-eqb, eqb-true, not-true, not-false, ltb-true, ltb-false}
+use borrow.Author.Tests.{eq-eqb, eqb-true, not-true, not-false, ltb-true, ltb-false}
 use Rattle.base.specs.Below.{lowest}
-use Rattle.base.proofs.Below.{every-all, every-each, lowest-more, lowest-found, lowest-le, lowest-holds, lowest-below}
+use Rattle.base.proofs.Below.{every-all, every-each, lowest-le, lowest-holds, lowest-below}
 use Rattle.base.specs.Tables.{Decides}
 use Rattle.base.proofs.Cases.{by, unlike}
 use Rattle.base.proofs.Tables.{same, not-so}
 use Rattle.shelf.specs.Record.{lengthAt, holds}
-use Rattle.shelf.specs.declared.Place.{Place}
+use Rattle.shelf.specs.Record.{Place}
 use Rattle.shelf.proofs.Words.{Held}
 use Rattle.ask.specs.Ask.{complete, lowestMissing}
 
@@ -38,18 +37,6 @@ abbrev pub gap : Place → ℕ → Bool
 gap place n = not (holds place n)
 
 module _ (place : Place) where
-  module _ (n : ℕ) (passed : lowest n (gap place) ≡ n) where
-    pub gap-more : (lengthAt place n ≡ 0 → ⊥) → lowest (n + 1) (gap place) ≡ n + 1
-    gap-more h = lowest-more (gap place) n passed (rw (ne-eqb (lengthAt place n) 0 h))
-
-    pub gap-found : n ≤ place .last → lengthAt place n ≡ 0 → n ≡ lowestMissing place
-    unfolding lowestMissing
-    gap-found l h = sym (lowest-found (gap place) (place .last + 1) n (omega arith) passed (rw (eq-eqb (lengthAt place n) 0 h)))
-
-    pub gap-end : n ≤ place .last + 1 → place .last < n → n ≡ lowestMissing place
-    unfolding lowestMissing
-    gap-end l h = let e : n ≡ place .last + 1 = omega arith in sym (ap (λ k. lowest k (gap place)) (sym e) ∙ passed)
-
   pub complete-exactly : (complete place ≡ true) ↔ ((n : ℕ) → n ≤ place .last → Held place n)
   unfolding complete
   complete-exactly = (

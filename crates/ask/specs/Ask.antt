@@ -9,8 +9,8 @@ use Rattle.base.specs.Below.{every, lowest}
 use Rattle.berth.specs.Berth.{places, storeSize, standing}
 use Rattle.shelf.specs.Record.{placeAt, lengthAt, holds, spoiledOf, placeOf}
 use Rattle.shelf.specs.declared.Key.{Key}
-use Rattle.shelf.specs.declared.Place.{Place}
-use Rattle.shelf.specs.declared.Shelf.{Shelf}
+use Rattle.shelf.specs.Record.{Place}
+use Rattle.shelf.specs.Record.{Shelf}
 use Rattle.ask.specs.declared.Holding.{Holding}
 use Rattle.ask.specs.declared.Copied.{Copied}
 use Rattle.ask.specs.declared.Whole.{Whole}

@@ -1,15 +1,16 @@
-// Asking the shelf (document 01, "The shelf"): a section's bytes, whether a table is complete, its lowest missing number.
+// Asking the shelf (document 01, "The shelf"): a section's bytes, whether a table is complete, its lowest missing number. The record
+// is the numbers that the host lends.
 use berth::PLACES;
-use berth::SECTIONS;
 use berth::STORE;
 use shelf::Key;
-use shelf::Place;
-use shelf::Shelf;
 ghost use mathlib.Core.Path.{_≡_};
-ghost use Prim.Native.Nat.{_<_, _≤_};
-ghost use Rattle.berth.specs.Berth.{places, sections};
-ghost use Rattle.shelf.specs.Record.{lengthAt};
-ghost use Rattle.ask.specs.Ask.{holdingOf, lowestMissing, copy, copyOf, wholeOf, missingOf};
+ghost use mathlib.Core.Bool.{not};
+ghost use Prim.Native.Nat.{_+_, _<_};
+ghost use Rattle.base.specs.Below.{lowest};
+ghost use Rattle.base.specs.Bits.{bit};
+ghost use Rattle.berth.specs.Berth.{sections};
+ghost use Rattle.shelf.specs.Layout.{shelfAt};
+ghost use Rattle.ask.specs.Ask.{holdingOf, copy, copyOf, wholeOf, missingOf};
 
 // The place of the table that is asked for.
 pub enum Holding {
@@ -44,32 +45,36 @@ pub const SECTION_NOT_HELD: u8 = 16;
 
 // Where the table with that key is, or the first number that refuses every question about it, put with a store of that
 // size.
-pub fn held_in(shelf: Shelf, size: usize, key: Key) -> Holding
-    ensures { λ r. ⌜ r ≡ holdingOf shelf size key ⌝ }
+pub fn held_in(words: &[u16], size: usize, key: Key) -> Holding
+    ensures { λ r. ⌜ r ≡ holdingOf (shelfAt (now (words .entry))) size key ⌝ }
 {
     if size != STORE {
         return Holding::Refused(shelf::STORE_SIZE);
     }
-    if shelf::spoiled(shelf) {
+    if shelf_check::is_spoiled(words) {
         return Holding::Refused(shelf::SHELF_SPOILED);
     }
-    let p = shelf::place_of(shelf, key);
+    let p = shelf::place_of(words, key);
     if p == PLACES {
         return Holding::Refused(shelf::TABLE_NOT_HELD);
     }
     Holding::In(p)
 }
 
-// The lowest number from 0 to the last that is not held, or one more than the last.
-fn first_gap(place: Place) -> usize
-    requires { ⌜ place .last < sections ⌝ }
-    ensures { λ r. ⌜ r ≡ lowestMissing place ⌝ }
+fn wide(x: u16) -> usize
+    ensures { λ r. ⌜ r ≡ x ⌝ }
 {
-    let lengths = place.lengths;
-    let last = place.last as usize;
-    let mut n = 0;
+    x as usize
+}
+
+// The lowest number from 0 to the last whose bit is 0, or one more than the last.
+fn first_gap(mask: u16, last: usize) -> usize
+    requires { ⌜ last < sections ⌝ }
+    ensures { λ r. ⌜ r ≡ lowest (last + 1) (λ n. not (bit mask n)) ⌝ }
+{
+    let mut n: usize = 0;
     while n <= last {
-        if lengths[n] == 0 {
+        if (mask >> n) % 2 == 0 {
             return n;
         }
         n += 1;
@@ -77,26 +82,15 @@ fn first_gap(place: Place) -> usize
     n
 }
 
-// The held length of section n, 0 where it is not held.
-fn length_at(place: Place, n: usize) -> usize
-    ensures { λ r. ⌜ (r ≡ lengthAt place n) × (sections ≤ n → r ≡ 0) ⌝ }
-{
-    if SECTIONS <= n {
-        return 0;
-    }
-    let lengths = place.lengths;
-    lengths[n] as usize
-}
-
 // Copies section n of the table with that key to the front of the output; what lies past its bytes stays as it was.
-pub fn copy_section(shelf: Shelf, store: &[u8], key: Key, n: u8, out: &mut [u8]) -> Copied
-    ensures { λ r. ⌜ copy r (now (out .exit)) ≡ copyOf shelf (now (store .entry)) key n (now (out .entry)) ⌝ }
+pub fn copy_section(words: &[u16], store: &[u8], key: Key, n: u8, out: &mut [u8]) -> Copied
+    ensures { λ r. ⌜ copy r (now (out .exit)) ≡ copyOf (shelfAt (now (words .entry))) (now (store .entry)) key n (now (out .entry)) ⌝ }
 {
-    let holding = held_in(shelf, store.len(), key);
+    let holding = held_in(words, store.len(), key);
     match holding {
         Holding::Refused(no) => Copied::Refused(no),
         Holding::In(p) => {
-            let count = length_at(shelf.places[p], n as usize);
+            let count = wide(shelf::length_of(words, p, n as usize));
             if count == 0 {
                 return Copied::Refused(SECTION_NOT_HELD);
             }
@@ -110,15 +104,15 @@ pub fn copy_section(shelf: Shelf, store: &[u8], key: Key, n: u8, out: &mut [u8])
 }
 
 // Whether every number of that table from 0 to its last is held.
-pub fn complete(shelf: Shelf, store: &[u8], key: Key) -> Whole
-    ensures { λ r. ⌜ r ≡ wholeOf shelf (now (store .entry)) key ⌝ }
+pub fn complete(words: &[u16], store: &[u8], key: Key) -> Whole
+    ensures { λ r. ⌜ r ≡ wholeOf (shelfAt (now (words .entry))) (now (store .entry)) key ⌝ }
 {
-    let holding = held_in(shelf, store.len(), key);
+    let holding = held_in(words, store.len(), key);
     match holding {
         Holding::Refused(no) => Whole::Refused(no),
         Holding::In(p) => {
-            let place = shelf.places[p];
-            if first_gap(place) <= place.last as usize {
+            let last = wide(shelf::last_of(words, p));
+            if first_gap(shelf::mask_of(words, p), last) <= last {
                 Whole::Incomplete
             } else {
                 Whole::Complete
@@ -128,16 +122,16 @@ pub fn complete(shelf: Shelf, store: &[u8], key: Key) -> Whole
 }
 
 // The lowest number of that table from 0 to its last that is not held.
-pub fn lowest_missing(shelf: Shelf, store: &[u8], key: Key) -> Missing
-    ensures { λ r. ⌜ r ≡ missingOf shelf (now (store .entry)) key ⌝ }
+pub fn lowest_missing(words: &[u16], store: &[u8], key: Key) -> Missing
+    ensures { λ r. ⌜ r ≡ missingOf (shelfAt (now (words .entry))) (now (store .entry)) key ⌝ }
 {
-    let holding = held_in(shelf, store.len(), key);
+    let holding = held_in(words, store.len(), key);
     match holding {
         Holding::Refused(no) => Missing::Refused(no),
         Holding::In(p) => {
-            let place = shelf.places[p];
-            let n = first_gap(place);
-            if n <= place.last as usize {
+            let last = wide(shelf::last_of(words, p));
+            let n = first_gap(shelf::mask_of(words, p), last);
+            if n <= last {
                 Missing::Number(n as u8)
             } else {
                 Missing::Nothing

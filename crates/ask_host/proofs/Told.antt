@@ -6,7 +6,7 @@ use mathlib.Core.List.{List}
 use Prim.Native.Nat.{ℕ}
 use Rattle.answers.specs.Answers.{out}
 use Rattle.shelf.specs.declared.Key.{Key}
-use Rattle.shelf.specs.declared.Shelf.{Shelf}
+use Rattle.shelf.specs.Record.{Shelf}
 use Rattle.shelf_words.specs.Words.{shelfAt}
 use Rattle.ask.specs.Ask as Ask
 use Rattle.ask.specs.declared.Copied.{Copied}

@@ -4,3 +4,4 @@ pub mod Below
 pub mod Same
 pub mod Tables
 pub mod Bytes
+pub mod Bits

@@ -3,3 +3,4 @@ pub mod Below
 pub mod Bytes
 pub mod Tables
 pub mod Octets
+pub mod Bits

@@ -1,6 +1,5 @@
--- Zeroing a store place by place, and what beginning a shelf answers.
+-- Zeroing a store place by place.
 --   none-wiped, one-wiped, all-wiped     the store, turn by turn
---   begin-17, begun                      the answer
 use mathlib.Core.Path.{_≡_, refl, sym, ap, _∙_}
 use mathlib.Core.Bool.{true}
 use mathlib.Core.List.{List, _++_, append-assoc, append-nil}
@@ -8,16 +7,11 @@ use Prim.Native.Nat.{ℕ, _+_, _*_, _<_, _≤_}
 use native.Mathlib.Omega.{arith}
 use lib.ListN.{length, take, drop, length-append, length-drop, drop-of-length-le}
 use lib.Seq.{take-at, drop-append-add, drop-drop}
-use borrow.Author.Tests.{eq-eqb, ne-eqb}
 use Rattle.base.specs.Bytes.{zeros}
 use Rattle.berth.specs.Berth.{places, sections, berthSize, storeSize, beginsAt, laid}
 use Rattle.berth.specs.Calls.{wipedWhereIn}
 use Rattle.berth.proofs.Laid.{zeros-length, zeros-add}
 use Rattle.berth.proofs.Steps.{is-place, wiped-whole}
-use Rattle.shelf.specs.Record.{fresh}
-use Rattle.shelf.specs.declared.Shelf.{Shelf}
-use Rattle.begin.specs.Begin.{beginOf}
-use Rattle.begin.specs.declared.Begun.{Begun}
 
 -- the bytes of a place
 abbrev placeSize : ℕ
@@ -57,13 +51,3 @@ module _ (old : List ℕ) (whole : length old ≡ storeSize) where
   pub all-wiped : (p : ℕ) (store : List ℕ) → p ≡ places → store ≡ wipedTo p old → store ≡ zeros storeSize
   all-wiped p store e q =
       q ∙ ap (λ k. wipedTo k old) e ∙ ap (λ l. zeros storeSize ++ l) (drop-of-length-le old {i = storeSize} (omega arith)) ∙ append-nil (zeros storeSize)
-
-module _ (store : List ℕ) (shelf : Shelf) (f : shelf ≡ fresh) where
-  pub begin-17 : (length store ≡ storeSize → ⊥) → record { said = Begun.Refused 17; shelf = shelf; store = store } ≡ beginOf store
-  unfolding beginOf
-  begin-17 n = rw (f, ne-eqb (length store) storeSize n)
-
-  pub begun : (left : List ℕ) → length store ≡ storeSize → left ≡ zeros storeSize
-      → record { said = Begun.Done; shelf = shelf; store = left } ≡ beginOf store
-  unfolding beginOf
-  begun left w e = rw (f, e, eq-eqb (length store) storeSize w)

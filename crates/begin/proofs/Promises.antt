@@ -1,5 +1,4 @@
 -- What beginning a shelf promises.
---   begin-unique       two answers that meet the promise are equal
 --   refused-17         17 is given exactly when the lent store has not 65,536 bytes
 --   whole-begun        a whole store is zeroed
 --   always-fresh       the record is fresh in either case
@@ -15,13 +14,8 @@ use Rattle.base.specs.Tables.{Rule, _says_, Agree}
 use Rattle.base.proofs.Tables.{words, given, silent, among}
 use Rattle.berth.specs.Berth.{storeSize}
 use Rattle.shelf.specs.Record.{fresh}
-use Rattle.begin.specs.Begin.{After, after, numberOf, faults, beginOf}
+use Rattle.begin.specs.Begin.{After, numberOf, faults, beginOf}
 use Rattle.begin.specs.declared.Begun.{Begun}
-use Rattle.begin.specs.declared.Beginning.{Beginning}
-
-pub begin-unique : (store : List ℕ) (r q : Beginning) (left left' : List ℕ)
-    → after r left ≡ beginOf store → after q left' ≡ beginOf store → after r left ≡ after q left'
-begin-unique store r q left left' e f = e ∙ sym f
 
 module _ (store : List ℕ) where
   abbrev no : ℕ → After

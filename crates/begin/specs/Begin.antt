@@ -8,9 +8,8 @@ use Rattle.base.specs.Choice.{Row, _if_, first}
 use Rattle.base.specs.Bytes.{zeros}
 use Rattle.berth.specs.Berth.{storeSize}
 use Rattle.shelf.specs.Record.{fresh}
-use Rattle.shelf.specs.declared.Shelf.{Shelf}
+use Rattle.shelf.specs.Record.{Shelf}
 use Rattle.begin.specs.declared.Begun.{Begun}
-use Rattle.begin.specs.declared.Beginning.{Beginning}
 
 -- the paper's number for each case of an answer; 0 for none
 abbrev pub numberOf : Begun → ℕ
@@ -22,10 +21,6 @@ pub record After : Type 0 where
   pub said : Begun
   pub shelf : Shelf
   pub store : List ℕ
-
--- what the function gives, with the store at its exit
-abbrev pub after : Beginning → List ℕ → After
-after r store = record { said = r .answer; shelf = r .shelf; store = store }
 
 -- 17: a lent store not 65,536 bytes; it stays as it was. The record is fresh in either case
 abbrev pub faults : List ℕ → List Row

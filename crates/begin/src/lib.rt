@@ -1,22 +1,15 @@
 // Begins a shelf (document 01, "The shelf"): four free places and a zeroed store.
 use berth::PLACES;
 use berth::STORE;
-use shelf::Shelf;
 ghost use mathlib.Core.Path.{_≡_};
 ghost use lib.ListN.{length};
 ghost use Rattle.base.specs.Bytes.{zeros};
 ghost use Rattle.berth.specs.Berth.{storeSize};
-ghost use Rattle.begin.specs.Begin.{after, beginOf};
+ghost use Rattle.begin.specs.Lent.{lent, beginLent};
 
 pub enum Begun {
     Done,
     Refused(u8),
-}
-
-// The answer, and the fresh record.
-pub struct Beginning {
-    pub answer: Begun,
-    pub shelf: Shelf,
 }
 
 // Zeroes a whole store, place by place.
@@ -31,21 +24,17 @@ fn wipe_store(store: &mut [u8])
     }
 }
 
-// A fresh record, and the store is all zeros. A store that is not whole is refused and stays as it was; the record is fresh
-// all the same.
-pub fn begin_shelf(store: &mut [u8]) -> Beginning
-    ensures { λ r. ⌜ after r (now (store .exit)) ≡ beginOf (now (store .entry)) ⌝ }
+// A fresh record in the numbers, and the store is all zeros. Where one of the two has another size, both stay as they were.
+pub fn begin_shelf(words: &mut [u16], store: &mut [u8]) -> Begun
+    ensures { λ r. ⌜ lent r (now (words .exit)) (now (store .exit)) ≡ beginLent (now (words .entry)) (now (store .entry)) ⌝ }
 {
-    let shelf = shelf::fresh();
     if store.len() != STORE {
-        return Beginning {
-            answer: Begun::Refused(shelf::STORE_SIZE),
-            shelf,
-        };
+        return Begun::Refused(shelf::STORE_SIZE);
+    }
+    if words.len() != shelf::WORDS {
+        return Begun::Refused(shelf::SHELF_SPOILED);
     }
     wipe_store(store);
-    Beginning {
-        answer: Begun::Done,
-        shelf,
-    }
+    shelf::put_fresh(words);
+    Begun::Done
 }

@@ -1,11 +1,11 @@
 // The berths of the store that the host lends (document 01, "The shelf"): section s of the table in place p begins at
 // 1,024 × (16p + s), and the rest of its berth is zeros. A call that names no berth of a whole store changes nothing.
 ghost use mathlib.Core.Path.{_≡_};
-ghost use mathlib.Core.Bool.{true, not};
+ghost use mathlib.Core.Bool.{true};
 ghost use Prim.Native.Nat.{_+_, _<_, _≤_};
-ghost use lib.Dec.{eqb};
 ghost use mathlib.Core.List.{_++_};
-ghost use lib.ListN.{length, getD, drop};
+ghost use lib.ListN.{length, drop};
+ghost use Rattle.base.specs.Bits.{bit};
 ghost use Rattle.base.specs.Bytes.{same, zeros};
 ghost use Rattle.berth.specs.Berth.{berthSize, places, sections, storeSize, beginsAt, laid, padded, wipedWhere, standing};
 ghost use Rattle.berth.specs.Calls.{isPlace, isBerth, putIn, wipedIn, wipedWhereIn, standsIn, copiedIn};
@@ -132,26 +132,26 @@ pub fn wipe(store: &mut [u8], p: usize, n: usize)
     }
 }
 
-// Zeroes of the berths of a place those whose section has a length.
-fn wipe_each(store: &mut [u8], p: usize, lengths: [u16; 16])
+// Zeroes of the berths of a place those whose bit is 1.
+fn wipe_each(store: &mut [u8], p: usize, mask: u16)
     requires { ⌜ (length (now store) ≡ storeSize) × (p < places) ⌝ }
-    ensures { λ _. ⌜ now (store .exit) ≡ wipedWhere (λ n. not (eqb (getD lengths n 0) 0)) sections (now (store .entry)) p ⌝ }
+    ensures { λ _. ⌜ now (store .exit) ≡ wipedWhere (bit mask) sections (now (store .entry)) p ⌝ }
 {
-    let mut n = 0;
+    let mut n: usize = 0;
     while n < SECTIONS {
-        if lengths[n] != 0 {
+        if (mask >> n) % 2 == 1 {
             wipe(store, p, n);
         }
         n += 1;
     }
 }
 
-// Zeroes of the berths of place p those whose section has a length, and so is held.
-pub fn wipe_where(store: &mut [u8], p: usize, lengths: [u16; 16])
-    ensures { λ _. ⌜ now (store .exit) ≡ wipedWhereIn (λ n. not (eqb (getD lengths n 0) 0)) (now (store .entry)) p ⌝ }
+// Zeroes of the berths of place p those whose bit is 1.
+pub fn wipe_where(store: &mut [u8], p: usize, mask: u16)
+    ensures { λ _. ⌜ now (store .exit) ≡ wipedWhereIn (bit mask) (now (store .entry)) p ⌝ }
 {
     if is_place(store.len(), p) {
-        wipe_each(store, p, lengths);
+        wipe_each(store, p, mask);
     }
 }
 

@@ -19,22 +19,16 @@ use Rattle.base.proofs.Cases.{by}
 use Rattle.base.proofs.Bytes.{length-part}
 use Rattle.descriptors.specs.declared.Descriptor.{Descriptor}
 use Rattle.descriptors.specs.declared.Step.{Step}
-use Rattle.descriptors.specs.Loop.{stepOf, viewOf, contentOf, numberOf, descriptorAt}
-use Rattle.descriptors.proofs.Steps.{Stands, Tells, step-tells, step-over, step-past, step-reads, reads-there}
+use Rattle.descriptors.specs.Loop.{stepOf, viewOf, contentOf}
+use Rattle.descriptors.specs.Answer.{stepCode}
+use Rattle.descriptors.specs.Theorems.{Stands, Beyond, RunsPast, Refused-19, Refused-Range, Over, Reads, View-Whole, View-None, One-Step, One-View}
+use Rattle.descriptors.proofs.Steps.{Tells, step-tells, step-over, step-past, step-reads, reads-there}
 
 module _ (s : List ℕ) (at : ℕ) where
-  -- the place asked is beyond the loop's end
-  abbrev pub Beyond : Type 0
-  Beyond = length s < at
-
-  -- the descriptor runs past the loop, by its head or by its content
-  abbrev pub RunsPast : Type 0
-  RunsPast = (length s < at + 2) ⊎ (length s < at + 2 + byte s (at + 1))
-
-  pub refused-19 : (numberOf (stepOf s at) ≡ 19) ↔ (Beyond ⊎ ((at < length s) × RunsPast))
+  pub refused-19 : Refused-19 s at
   refused-19 = (to (stepOf s at) (step-tells s at), from)
     where
-      to : (x : Step) → Tells s at x → numberOf x ≡ 19 → Beyond ⊎ ((at < length s) × RunsPast)
+      to : (x : Step) → Tells s at x → stepCode x ≡ 19 → Beyond s at ⊎ ((at < length s) × RunsPast s at)
       to (Step.Descriptor d) t e = absurd (omega arith)
       to Step.Over t e = absurd (omega arith)
       to (Step.Refused n) t e =
@@ -42,31 +36,31 @@ module _ (s : List ℕ) (at : ℕ) where
           (λ b. inl (ltb-true _ _ b))
           (λ b. let h : at ≤ length s = ltb-false _ _ b in let z : at ≡ length s → ⊥ = t .1 in inr (omega arith, inr (t .2)))
 
-      from : Beyond ⊎ ((at < length s) × RunsPast) → numberOf (stepOf s at) ≡ 19
+      from : Beyond s at ⊎ ((at < length s) × RunsPast s at) → stepCode (stepOf s at) ≡ 19
       from w =
-          ap numberOf
+          ap stepCode
           (sym
           (⊎-elim
           (λ h. step-past s at (λ e. omega arith) (omega arith))
           (λ h. step-past s at (λ e. omega arith) (⊎-elim (λ r. omega arith) (λ r. r) (h .1)))
           w))
 
-  pub refused-range : (n : ℕ) → stepOf s at ≡ Step.Refused n → n ≡ 19
+  pub refused-range : Refused-Range s at
   refused-range n e = subst (Tells s at) e (step-tells s at) .0
 
-  pub over : (stepOf s at ≡ Step.Over) ↔ (at ≡ length s)
+  pub over : Over s at
   over = (λ e. subst (Tells s at) e (step-tells s at), λ e. sym (step-over s at e))
 
-  pub reads : (d : Descriptor) → (stepOf s at ≡ Step.Descriptor d) ↔ Stands s at d
+  pub reads : Reads s at
   reads d = (reads-there s at d, λ h. sym (rw (h .here) (step-reads s at (h .ends))))
 
-  pub view-whole : (d : Descriptor) → stepOf s at ≡ Step.Descriptor d → (viewOf s at ≡ part s (d .start) (d .length)) × (length (viewOf s at) ≡ d .length)
+  pub view-whole : View-Whole s at
   unfolding viewOf
   view-whole d e =
       let h = reads-there s at d e in
       (rw e, rw (e, h .here) (length-part s (at + 2) (byte s (at + 1)) (h .ends)))
 
-  pub view-none : ((d : Descriptor) → stepOf s at ≡ Step.Descriptor d → ⊥) → viewOf s at ≡ []
+  pub view-none : View-None s at
   unfolding viewOf
   view-none n = go (stepOf s at) n
     where
@@ -75,8 +69,8 @@ module _ (s : List ℕ) (at : ℕ) where
       go Step.Over n = refl
       go (Step.Refused k) n = refl
 
-  pub one-step : (x y : Step) → x ≡ stepOf s at → y ≡ stepOf s at → x ≡ y
+  pub one-step : One-Step s at
   one-step x y p q = p ∙ sym q
 
-  pub one-view : (x y : List ℕ) → x ≡ viewOf s at → y ≡ viewOf s at → x ≡ y
+  pub one-view : One-View s at
   one-view x y p q = p ∙ sym q

@@ -3,3 +3,4 @@ pub mod Gathers
 pub mod Walks
 pub mod ExactlyWhen
 pub mod Marks
+pub mod Answers

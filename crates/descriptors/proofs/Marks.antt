@@ -19,6 +19,7 @@ use Rattle.descriptors.specs.declared.Descriptor.{Descriptor}
 use Rattle.descriptors.specs.declared.Step.{Step}
 use Rattle.descriptors.specs.Loop.{stepOf, viewOf}
 use Rattle.descriptors.specs.Mark.{mark, sameLetter, markAt, marks, isTriggerTap}
+use Rattle.descriptors.specs.Theorems.{Marked, Tap-Exactly, One-Tap}
 use Rattle.descriptors.proofs.ExactlyWhen.{view-whole}
 use Rattle.descriptors.proofs.Steps.{content-ends}
 
@@ -41,16 +42,8 @@ module _ (s : List ℕ) (start : ℕ) (fits : start + 24 ≤ length s) where
   whole-mark e =
       every-all letter 24 (λ k h. eq-eqb (byte s (start + k)) (byte mark k) (sym (byte-part s start 24 k h) ∙ ap (λ l. byte l k) e))
 
--- a descriptor stands at a place that marks a trigger Tap
-pub record Marked (s : List ℕ) (at : ℕ) : Type 0 where
-  pub found : Descriptor
-  pub here : stepOf s at ≡ Step.Descriptor found
-  pub tag : found .tag ≡ 0x72
-  pub long : found .length ≡ 24
-  pub view : viewOf s at ≡ mark
-
 module _ (s : List ℕ) (at : ℕ) where
-  pub tap-exactly : (isTriggerTap s at ≡ true) ↔ Marked s at
+  pub tap-exactly : Tap-Exactly s at
   unfolding isTriggerTap
   tap-exactly = (to (stepOf s at) refl, from)
     where
@@ -84,5 +77,5 @@ module _ (s : List ℕ) (at : ℕ) where
             whole-mark s (w .found .start) (fits (w .found) (w .here) n) (rw n at v),
           )
 
-  pub one-tap : (x y : Bool) → x ≡ isTriggerTap s at → y ≡ isTriggerTap s at → x ≡ y
+  pub one-tap : One-Tap s at
   one-tap x y p q = p ∙ sym q

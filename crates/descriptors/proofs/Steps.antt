@@ -16,6 +16,7 @@ use Rattle.descriptors.specs.declared.Descriptor.{Descriptor}
 use Rattle.descriptors.specs.declared.Step.{Step}
 use Rattle.descriptors.specs.declared.Step.the-variants
 use Rattle.descriptors.specs.Loop.{stepOf, viewOf, descriptorAt, beyond, runsPast}
+use Rattle.descriptors.specs.Theorems.{Stands}
 
 module _ (s : List ℕ) (at : ℕ) where
   pub step-over : at ≡ length s → Step.Over ≡ stepOf s at
@@ -38,11 +39,6 @@ module _ (s : List ℕ) (at : ℕ) where
         le-ltb (length s) (at + 2) (omega arith),
         le-ltb (length s) (at + 2 + byte s (at + 1)) h,
       )
-
--- d stands at a place of the loop, and ends within it
-pub record Stands (s : List ℕ) (at : ℕ) (d : Descriptor) : Type 0 where
-  pub here : d ≡ descriptorAt s at
-  pub ends : at + 2 + byte s (at + 1) ≤ length s
 
 -- what an answer tells of a place
 abbrev pub Tells : List ℕ → ℕ → Step → Type 0

@@ -6,7 +6,7 @@
 --   settled        a walk of a loop is over or refused by then: more steps answer no more
 use mathlib.Core.Path.{_≡_, refl, sym, ap, _∙_}
 use mathlib.Core.List.{List, [], _∷_, _++_}
-use Prim.Native.Nat.{ℕ, zero, suc, _+_, _*_, _/_, _<_, _≤_}
+use Prim.Native.Nat.{ℕ, zero, suc, _+_, _*_, _/_, _%_, _^_, _<_, _≤_}
 use native.Mathlib.Numerals.{add-one}
 use native.Mathlib.Nat.{add-suc}
 use native.Mathlib.Omega.{arith}
@@ -17,7 +17,8 @@ use Rattle.descriptors.specs.declared.Descriptor.{Descriptor}
 use Rattle.descriptors.specs.declared.Step.{Step}
 use Rattle.descriptors.specs.Loop.{stepOf, contentOf, descriptorAt}
 use Rattle.descriptors.specs.Walk.{onward, walk, walkOf, Unrefused, headOf, tiles}
-use Rattle.descriptors.proofs.Steps.{Stands, Tells, step-tells}
+use Rattle.descriptors.specs.Theorems.{Few, Tiling, Settled, Empty-Loop}
+use Rattle.descriptors.proofs.Steps.{Tells, step-tells}
 
 module _ (s : List ℕ) where
   next : (at : ℕ) → at < length s → drop at s ≡ byte s at ∷ drop (at + 1) s
@@ -46,20 +47,23 @@ module _ (s : List ℕ) where
           let w : Unrefused (walk k s (at + 2 + byte s (at + 1))) = rw e at (v .1) in
           rw (e, ih (at + 2 + byte s (at + 1)) f (omega arith) w) (laid at (byte s (at + 1)) f)
       go ih Step.Over t v = rw t (sym (drop-length s))
-      go ih (Step.Refused n) t v = absurd (let a : n ≡ 19 = t .0 in let b : n ≡ 0 = v .0 in omega arith)
+      go ih (Step.Refused n) t v = absurd (let a : n ≡ 19 = t .0 in let b : n % 2 ^ 8 ≡ 0 = v .0 in omega arith)
 
-  pub tiling : Unrefused (walkOf s) → tiles s (walkOf s) ≡ s
+  pub tiling : Tiling s
   tiling u = tiling-from (length s / 2 + 1) 0 (omega arith) (omega arith) u
 
-  pub few : (k at : ℕ) → length (walk k s at) ≤ k
+  few-from : (k at : ℕ) → length (walk k s at) ≤ k
   unfolding walk
-  few zero at = omega arith
-  few (suc k) at = let h = go (λ to. few k to) (stepOf s at) in omega arith
+  few-from zero at = omega arith
+  few-from (suc k) at = let h = go (λ to. few-from k to) (stepOf s at) in omega arith
     where
       go : ((to : ℕ) → length (walk k s to) ≤ k) → (x : Step) → length (onward x (λ to. walk k s to)) ≤ k
       go ih (Step.Descriptor d) = ih (d .next)
       go ih Step.Over = omega arith
       go ih (Step.Refused n) = omega arith
+
+  pub few : (at : ℕ) → Few s at
+  few at k = few-from k at
 
   settled-from : (k j at : ℕ) → at ≤ length s → length s < at + 2 * k → walk (j + k) s at ≡ walk k s at
   unfolding walk
@@ -76,9 +80,9 @@ module _ (s : List ℕ) where
       go ih Step.Over t = refl
       go ih (Step.Refused n) t = refl
 
-  pub settled : (j : ℕ) → walk (j + (length s / 2 + 1)) s 0 ≡ walkOf s
+  pub settled : Settled s
   settled j = settled-from (length s / 2 + 1) j 0 (omega arith) (omega arith)
 
-pub empty-loop : walkOf [] ≡ Step.Over ∷ []
+pub empty-loop : Empty-Loop
 unfolding walk stepOf
 empty-loop = refl

@@ -1,3 +1,5 @@
 pub mod Loop
+pub mod Answer
 pub mod Walk
 pub mod Mark
+pub mod Theorems

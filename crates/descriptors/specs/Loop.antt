@@ -29,12 +29,6 @@ stepOf s at =
     else if beyond s at || runsPast s at then Step.Refused 19
     else Step.Descriptor (descriptorAt s at)
 
--- the paper's number of an answer, 0 for none
-abbrev pub numberOf : Step → ℕ
-numberOf (Step.Descriptor d) = 0
-numberOf Step.Over = 0
-numberOf (Step.Refused n) = n
-
 -- the bytes of an answer's content: none where there is no descriptor
 abbrev pub contentOf : List ℕ → Step → List ℕ
 contentOf s (Step.Descriptor d) = part s (d .start) (d .length)

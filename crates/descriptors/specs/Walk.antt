@@ -1,11 +1,12 @@
 -- Document 01, "Descriptors": the walk of a loop, step after step.
-use Prim.Native.Nat.{ℕ, zero, suc, _+_, _/_}
+use Prim.Native.Nat.{ℕ, zero, suc, _+_, _/_, _%_, _^_}
 use mathlib.Core.Path.{_≡_}
 use mathlib.Core.List.{List, [], _∷_, _++_}
 use lib.ListN.{length}
 use Rattle.descriptors.specs.declared.Descriptor.{Descriptor}
 use Rattle.descriptors.specs.declared.Step.{Step}
-use Rattle.descriptors.specs.Loop.{stepOf, numberOf, contentOf}
+use Rattle.descriptors.specs.Loop.{stepOf, contentOf}
+use Rattle.descriptors.specs.Answer.{stepCode}
 
 -- a walk goes on behind a descriptor, and behind nothing else
 abbrev pub onward : Step → (ℕ → List Step) → List Step
@@ -25,7 +26,7 @@ walkOf s = walk (length s / 2 + 1) s 0
 -- no step is refused
 abbrev pub Unrefused : List Step → Type 0
 Unrefused [] = Unit {0}
-Unrefused (x ∷ xs) = (numberOf x ≡ 0) × Unrefused xs
+Unrefused (x ∷ xs) = (stepCode x % 2 ^ 8 ≡ 0) × Unrefused xs
 
 -- the two-byte head of an answer's descriptor, and the view behind it
 abbrev pub headOf : Step → List ℕ

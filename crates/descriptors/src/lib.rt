@@ -4,6 +4,7 @@ ghost use mathlib.Core.Path.{_≡_};
 ghost use Prim.Native.Nat.{_+_, _≤_};
 ghost use lib.ListN.{length};
 ghost use Rattle.descriptors.specs.Loop.{stepOf, viewOf};
+ghost use Rattle.descriptors.specs.Answer.{descriptorCode, stepCode};
 ghost use Rattle.descriptors.specs.Mark.{sameLetter, markAt, isTriggerTap};
 
 // The descriptor runs past the loop, or the place asked is beyond its end.
@@ -18,6 +19,14 @@ const MARK_TAG: u8 = 0x72;
 const MARK_LENGTH: usize = 24;
 
 const MARK: [u8; 24] = *b"application/atsc-trigger";
+
+// What a step found, from bit 8 of its answer in one number.
+const FOUND: u64 = 256;
+
+const OVER: u64 = 512;
+
+// The places that 40 bits tell apart.
+const NEAR: u64 = 1099511627776;
 
 // A descriptor: its tag, where its content starts, how many bytes that is, and the place after it.
 pub struct Descriptor {
@@ -61,6 +70,27 @@ pub fn step_at(bytes: &[u8], at: usize) -> Step
         length,
         next,
     })
+}
+
+fn descriptor_code(d: Descriptor) -> u64
+    ensures { λ r. ⌜ r ≡ descriptorCode d ⌝ }
+{
+    let tag = d.tag as u64 * answers::BIT_16;
+    let next = d.next as u64 % NEAR * answers::BIT_24;
+    FOUND + tag + next
+}
+
+// What stands at a place of the loop, in one number as a host gets it: the refusal alone, or 0 in the low 8 bits and what was
+// found above.
+pub fn step_code(bytes: &[u8], at: usize) -> u64
+    ensures { λ r. ⌜ r ≡ stepCode (stepOf (now (bytes .entry)) at) ⌝ }
+{
+    let step = step_at(bytes, at);
+    match step {
+        Step::Descriptor(d) => descriptor_code(d),
+        Step::Over => OVER,
+        Step::Refused(n) => n as u64,
+    }
 }
 
 // The content of the descriptor at a place, as a part of the loop's bytes; empty where no descriptor can be read.

@@ -4,5 +4,5 @@ pub mod Steps
 pub mod Filing
 pub mod Answers
 pub mod Unique
-pub mod Untouched
 pub mod ExactlyWhen
+pub mod Told

@@ -23,11 +23,6 @@ sectionsOf label body = sectionsBelow label body (lastOf (length body) + 1)
 unfoldable pub feedFile : Label → List ℕ → List ℕ
 feedFile label body = fileOf (sectionsOf label body)
 
--- the paper's number for each case of an answer; 0 for none
-abbrev pub numberOf : Fed → ℕ
-numberOf (Fed.Bytes n) = 0
-numberOf (Fed.Refused n) = n
-
 -- what a call leaves: the answer and the output
 pub record Feed : Type 0 where
   pub said : Fed

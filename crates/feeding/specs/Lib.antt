@@ -1,2 +1,4 @@
 pub mod Feeding
 pub mod Sizes
+pub mod Answer
+pub mod Theorems

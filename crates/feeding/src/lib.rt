@@ -3,8 +3,10 @@ ghost use mathlib.Core.Path.{_≡_};
 ghost use mathlib.Core.List.{_++_};
 ghost use Prim.Native.Nat.{_+_, _≤_};
 ghost use lib.ListN.{length, drop};
+ghost use Rattle.answers.specs.Answers.{out as outOf};
 ghost use Rattle.writer.specs.Writer.{most, lastOf};
 ghost use Rattle.feeding.specs.Feeding.{feedFile, feed, feedOf};
+ghost use Rattle.feeding.specs.Answer.{fileLent};
 ghost use Rattle.feeding.specs.Sizes.{sizeAt, entrySize, entryAt, fileSize};
 use writer::Counted;
 use writer::Label;
@@ -126,5 +128,16 @@ pub fn feed_file(label: Label, body: &[u8], out: &mut [u8]) -> Fed
             write_file(label, body, count, out);
             Fed::Bytes(size)
         }
+    }
+}
+
+// Writes the file of the table that carries the body; the answer is a refusal, or a size from bit 8 up, as a host gets it.
+pub fn file_code(label: Label, body: &[u8], out: &mut [u8]) -> u32
+    ensures { λ r. ⌜ outOf r (now (out .exit)) ≡ fileLent label (now (body .entry)) (now (out .entry)) ⌝ }
+{
+    let fed = feed_file(label, body, out);
+    match fed {
+        Fed::Bytes(size) => answers::size_code(size),
+        Fed::Refused(n) => n as u32,
     }
 }

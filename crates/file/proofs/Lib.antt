@@ -5,3 +5,4 @@ pub mod Sections
 pub mod Front
 pub mod Held
 pub mod Unique
+pub mod Told

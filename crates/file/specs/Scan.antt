@@ -18,11 +18,6 @@ use Rattle.file.specs.declared.Part.{Part}
 use Rattle.file.specs.declared.Scan.{Scan}
 use Rattle.file.specs.declared.Scanned.{Scanned}
 
--- the paper's number for each case; 0 for none
-abbrev pub numberOf : Scan → ℕ
-numberOf (Scan.Table h) = 0
-numberOf (Scan.Refused n) = n
-
 -- what the sections read so far say: the first one's header, the lowest number that the next may have, the place where it begins,
 -- and by number the place and the length of each
 pub record Seen : Type 0 where

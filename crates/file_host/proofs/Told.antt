@@ -11,8 +11,8 @@ use Rattle.berth.specs.Berth.{places}
 use Rattle.section.specs.declared.Header.{Header}
 use Rattle.file.specs.declared.Scanned.{Scanned}
 use Rattle.shelf.specs.declared.Key.{Key}
-use Rattle.shelf.specs.declared.Shelf.{Shelf}
-use Rattle.shelf.specs.declared.Place.{Place}
+use Rattle.shelf.specs.Record.{Shelf}
+use Rattle.shelf.specs.Record.{Place}
 use Rattle.shelf.specs.Record.{withPlace}
 use Rattle.shelf_words.specs.Words.{count, shelfAt}
 use Rattle.shelf_places.specs.Places.{tablePut}

@@ -7,7 +7,7 @@ use Prim.Native.Nat.{ℕ, _≤_}
 use lib.ListN.{length}
 use Rattle.section.specs.declared.Header.{Header}
 use Rattle.berth.specs.Berth.{sections}
-use Rattle.offer.specs.Offer.{keyOf}
+use Rattle.shelf.specs.Record.{keyOf}
 use Rattle.number.specs.Number.{Bytes}
 use Rattle.file.specs.Layout.{fileOf, chosen}
 use Rattle.file.specs.Scan.{scanOf, foundIn, tableIn}

@@ -5,7 +5,7 @@ use mathlib.Core.List.{List}
 use mathlib.Core.Logic.{_↔_, Iff·trans}
 use Prim.Native.Nat.{ℕ}
 use Rattle.base.specs.Tables.{None}
-use Rattle.shelf.specs.declared.Shelf.{Shelf}
+use Rattle.shelf.specs.Record.{Shelf}
 use Rattle.number.specs.Number.{Bytes}
 use Rattle.file_laws.specs.Fault.{Fault}
 use Rattle.file_laws.proofs.Faults.{refused-exactly}

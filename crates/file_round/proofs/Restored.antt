@@ -18,9 +18,9 @@ use Rattle.section.specs.declared.Header.{Header}
 use Rattle.berth.specs.Berth.{sections, places, storeSize, standing}
 use Rattle.shelf.specs.Record.{placeAt, withPlace, lengthAt, holds, placeOf, freeOf}
 use Rattle.shelf.specs.declared.Key.{Key}
-use Rattle.shelf.specs.declared.Place.{Place}
+use Rattle.shelf.specs.Record.{Place}
 use Rattle.shelf.proofs.Words.{sound-place}
-use Rattle.offer.specs.Offer.{keyOf}
+use Rattle.shelf.specs.Record.{keyOf}
 use Rattle.file.specs.Layout.{chosen, SoundTable}
 use Rattle.file.specs.Scan.{scanOf, foundIn, tableIn}
 use Rattle.file.specs.declared.Scan.{Scan}

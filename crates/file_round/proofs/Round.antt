@@ -13,7 +13,7 @@ use Rattle.base.specs.Choice.{if_then_else_, first}
 use Rattle.berth.specs.Berth.{sections, places, storeSize}
 use Rattle.shelf.specs.Record.{placeAt, lengthAt, holds, placeOf, freeOf}
 use Rattle.shelf.specs.declared.Key.{Key}
-use Rattle.shelf.specs.declared.Place.{Place}
+use Rattle.shelf.specs.Record.{Place}
 use Rattle.ask.specs.Ask.{holdingOf, uncopied, copy, Copy, complete, lowestMissing}
 use Rattle.ask.specs.declared.Copied.{Copied}
 use Rattle.ask.specs.declared.Holding.{Holding}

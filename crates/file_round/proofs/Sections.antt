@@ -15,7 +15,7 @@ use Rattle.section.specs.declared.Header.{Header}
 use Rattle.section.specs.declared.Reading.{Reading}
 use Rattle.berth.specs.Berth.{sections}
 use Rattle.shelf.specs.declared.Key.{Key}
-use Rattle.offer.specs.Offer.{keyOf}
+use Rattle.shelf.specs.Record.{keyOf}
 use Rattle.file.specs.Layout.{most, chosen, sameTable, Rising, SoundTable}
 use Rattle.file_round.specs.Round.{IsSection}
 use Rattle.file_round.proofs.Picked.{picked-length, picked-in}

@@ -10,7 +10,7 @@ use Rattle.section.specs.declared.Reading.the-variants.{Sound}
 use Rattle.berth.specs.Berth.{sections, places, standing}
 use Rattle.shelf.specs.Record.{placeAt, lengthAt, holds, placeOf}
 use Rattle.shelf.specs.declared.Key.{Key}
-use Rattle.offer.specs.Offer.{keyOf}
+use Rattle.shelf.specs.Record.{keyOf}
 use Rattle.number.specs.Number.{Bytes}
 use Rattle.file.specs.Scan.{scanOf}
 use Rattle.file.specs.declared.Scan.{Scan}

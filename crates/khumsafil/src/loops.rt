@@ -2,14 +2,14 @@
 ghost use mathlib.Core.Path.{_≡_};
 ghost use Rattle.descriptors.specs.Loop.{stepOf};
 ghost use Rattle.descriptors.specs.Mark.{isTriggerTap};
-ghost use Rattle.loop_answers.specs.Loop.{stepWord};
+ghost use Rattle.descriptors.specs.Answer.{stepCode};
 
 // What stands at a place of the loop, in one number: the refusal alone, or 0 in the low 8 bits and what was found above.
 #[no_mangle]
 pub extern "C" fn khumsafil_descriptor_step(bytes: &[u8], at: usize) -> u64
-    ensures { λ r. ⌜ r ≡ stepWord (stepOf (now (bytes .entry)) at) ⌝ }
+    ensures { λ r. ⌜ r ≡ stepCode (stepOf (now (bytes .entry)) at) ⌝ }
 {
-    loop_answers::descriptor_step(bytes, at)
+    descriptors::step_code(bytes, at)
 }
 
 // Whether the descriptor at a place marks a trigger Tap.
@@ -17,5 +17,5 @@ pub extern "C" fn khumsafil_descriptor_step(bytes: &[u8], at: usize) -> u64
 pub extern "C" fn khumsafil_descriptor_is_trigger_tap(bytes: &[u8], at: usize) -> bool
     ensures { λ r. ⌜ r ≡ isTriggerTap (now (bytes .entry)) at ⌝ }
 {
-    loop_answers::descriptor_is_trigger_tap(bytes, at)
+    descriptors::is_trigger_tap(bytes, at)
 }

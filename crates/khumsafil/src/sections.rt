@@ -1,12 +1,12 @@
 // Sections.
 ghost use mathlib.Core.Path.{_≡_};
 ghost use Rattle.section.specs.Section.{readOf};
-ghost use Rattle.section_answers.specs.Section.{wordOf};
+ghost use Rattle.section.specs.Answer.{readingCode};
 
 // The section that the payload is, in one number: 0 in the low 8 bits and the fields above, or the refusal alone.
 #[no_mangle]
 pub extern "C" fn khumsafil_section_read(payload: &[u8]) -> u64
-    ensures { λ r. ⌜ r ≡ wordOf (readOf (now (payload .entry))) ⌝ }
+    ensures { λ r. ⌜ r ≡ readingCode (readOf (now (payload .entry))) ⌝ }
 {
-    section_answers::section_read(payload)
+    section::read_code(payload)
 }

@@ -4,7 +4,7 @@ ghost use Rattle.answers.specs.Answers.{lent, out as outOf};
 ghost use Rattle.shelf_host.specs.Lent.{beginLent, releaseLent};
 ghost use Rattle.offer_host.specs.Lent.{offerLent};
 ghost use Rattle.ask_host.specs.Lent.{wholeLent, missingLent, copyLent};
-ghost use Rattle.file_host.specs.Lent.{loadLent, saveLent, listLent};
+ghost use Rattle.file_host.specs.Lent.{loadLent, saveLent};
 ghost use Rattle.khumsafil.specs.Shelf.{keyOf};
 use shelf::Key;
 
@@ -98,12 +98,4 @@ pub extern "C" fn khumsafil_shelf_load(words: &mut [u16], store: &mut [u8], file
     ensures { λ r. ⌜ lent r (now (words .exit)) (now (store .exit)) ≡ loadLent (now (words .entry)) (now (store .entry)) (now (file .entry)) ⌝ }
 {
     file_host::load_lent(words, store, file)
-}
-
-// Lists a file.
-#[no_mangle]
-pub extern "C" fn khumsafil_file_list(file: &[u8], out: &mut [u8]) -> u32
-    ensures { λ r. ⌜ outOf r (now (out .exit)) ≡ listLent (now (file .entry)) (now (out .entry)) ⌝ }
-{
-    file_host::list_lent(file, out)
 }

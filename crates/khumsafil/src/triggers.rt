@@ -1,14 +1,13 @@
 // Triggers.
 ghost use mathlib.Core.Path.{_≡_};
-ghost use Rattle.trigger.specs.Trigger.{readOf};
-ghost use Rattle.belonging.specs.Belongs.{belongsOf};
-ghost use Rattle.trigger_answers.specs.Trigger.{answerOf, fieldsOf, named};
+ghost use Rattle.answers.specs.Answers.{out as outOf};
+ghost use Rattle.trigger.specs.Belongs.{belongsOf};
+ghost use Rattle.trigger_answers.specs.Lent.{triggerLent, withId};
 
 // Reads the payload as a trigger and puts its numbers at the front of the buffer, or answers the refusal.
 #[no_mangle]
 pub extern "C" fn khumsafil_trigger_read(payload: &[u8], fields: &mut [u16]) -> u8
-    ensures { λ r. ⌜ r ≡ answerOf (readOf (now (payload .entry))) (now (fields .entry)) ⌝ }
-    ensures { λ _. ⌜ now (fields .exit) ≡ fieldsOf (readOf (now (payload .entry))) (now (fields .entry)) ⌝ }
+    ensures { λ r. ⌜ outOf r (now (fields .exit)) ≡ triggerLent (now (payload .entry)) (now (fields .entry)) ⌝ }
 {
     trigger_answers::trigger_read(payload, fields)
 }
@@ -22,7 +21,7 @@ pub extern "C" fn khumsafil_trigger_belongs(
     size: u16,
     application: &[u8],
 ) -> bool
-    ensures { λ r. ⌜ r ≡ belongsOf (now (payload .entry)) (named idlength place size) (now (application .entry)) ⌝ }
+    ensures { λ r. ⌜ r ≡ belongsOf (now (payload .entry)) (withId idlength place size) (now (application .entry)) ⌝ }
 {
     trigger_answers::trigger_belongs(payload, idlength, place, size, application)
 }

@@ -1,7 +1,8 @@
 // The bench's section writer.
 ghost use mathlib.Core.Path.{_≡_};
 ghost use Rattle.answers.specs.Answers.{out as outOf};
-ghost use Rattle.writer_answers.specs.Writer.{countLent, sectionLent, fileLent};
+ghost use Rattle.writer.specs.Answer.{label, countLent, sectionLent};
+use writer::Label;
 
 // How many sections a body of so many bytes makes, in one number: the refusal alone, or 0 in the low 8 bits and the count
 // above.
@@ -9,7 +10,7 @@ ghost use Rattle.writer_answers.specs.Writer.{countLent, sectionLent, fileLent}
 pub extern "C" fn khumsafil_writer_count(length: usize) -> u16
     ensures { λ r. ⌜ r ≡ countLent length ⌝ }
 {
-    writer_answers::writer_count(length)
+    writer::count_code(length)
 }
 
 // Writes section k of the table that carries the body.
@@ -22,21 +23,12 @@ pub extern "C" fn khumsafil_writer_section(
     k: u8,
     out: &mut [u8],
 ) -> u32
-    ensures { λ r. ⌜ outOf r (now (out .exit)) ≡ sectionLent table extension version (now (body .entry)) k (now (out .entry)) ⌝ }
+    ensures { λ r. ⌜ outOf r (now (out .exit)) ≡ sectionLent (label table extension version) (now (body .entry)) k (now (out .entry)) ⌝ }
 {
-    writer_answers::writer_section(table, extension, version, body, k, out)
-}
-
-// Writes the file of the table that carries the body.
-#[no_mangle]
-pub extern "C" fn khumsafil_writer_file(
-    table: u8,
-    extension: u16,
-    version: u8,
-    body: &[u8],
-    out: &mut [u8],
-) -> u32
-    ensures { λ r. ⌜ outOf r (now (out .exit)) ≡ fileLent table extension version (now (body .entry)) (now (out .entry)) ⌝ }
-{
-    writer_answers::writer_file(table, extension, version, body, out)
+    let given = Label {
+        table,
+        extension,
+        version,
+    };
+    writer::section_code(given, body, k, out)
 }

@@ -11,7 +11,8 @@ use lib.ListN.{length, take, drop, set, length-append, length-take}
 use lib.Seq.{take-suc-set, take-at, take-length, length-take-le}
 use borrow.Rule.Slice.PartMut.{putMid, postOf}
 use borrow.Author.Tests.{lt-leb, le-leb}
-use Rattle.listing.specs.Words.{place, shown, Grew}
+use Rattle.listing.specs.Words.{place}
+use Rattle.listing.specs.Growing.{shown, Grew}
 use Rattle.listing.specs.declared.Text.{Text}
 
 abbrev text : List ℕ → ℕ → Text

@@ -3,4 +3,4 @@ pub mod Lines
 pub mod Whole
 pub mod Short
 pub mod Unique
-pub mod Untouched
+pub mod Answers

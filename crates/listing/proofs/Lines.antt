@@ -10,7 +10,8 @@ use native.Mathlib.Nat.{mul-suc}
 use native.Mathlib.Omega.{arith}
 use lib.ListN.{getD}
 use borrow.Author.Tests.{eq-eqb, ne-eqb}
-use Rattle.listing.specs.Words.{lines, Grew}
+use Rattle.listing.specs.Words.{lines}
+use Rattle.listing.specs.Growing.{Grew}
 use Rattle.listing.specs.Listing.{sectionLine, missingLine, sectionOf, missingOf}
 use Rattle.listing.specs.declared.Text.{Text}
 use Rattle.listing.proofs.Growing.{nothing, then}

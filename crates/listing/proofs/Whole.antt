@@ -17,7 +17,8 @@ use Rattle.file.specs.Scan.{scanOf, holds}
 use Rattle.file.specs.declared.Scan.{Scan}
 use Rattle.file.specs.declared.Scanned.{Scanned}
 use Rattle.file.proofs.Held.{held}
-use Rattle.listing.specs.Words.{lines, shown, empty, Grew}
+use Rattle.listing.specs.Words.{lines}
+use Rattle.listing.specs.Growing.{shown, empty, Grew}
 use Rattle.listing.specs.Listing.{completeLine, refusedLine, missingOf, endOf, tableText, textOf, listing, listOf}
 use Rattle.listing.specs.declared.Listed.{Listed}
 use Rattle.listing.specs.declared.Text.{Text}

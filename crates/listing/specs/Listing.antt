@@ -56,11 +56,6 @@ answerText (Scan.Table h) lengths = tableText h lengths
 unfoldable pub textOf : List ℕ → List ℕ
 textOf file = answerText (scanOf file .answer) (scanOf file .lengths)
 
--- the paper's number for each case; 0 for none
-abbrev pub numberOf : Listed → ℕ
-numberOf (Listed.Bytes n) = 0
-numberOf (Listed.Refused n) = n
-
 -- what listing leaves: the answer and the output
 pub record Listing : Type 0 where
   pub said : Listed

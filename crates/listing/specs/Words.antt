@@ -1,15 +1,12 @@
 -- Text as bytes: words, and decimal numbers without leading zeros.
-use Prim.Native.Nat.{ℕ, zero, suc, _+_, _/_, _%_, _≤_}
+use Prim.Native.Nat.{ℕ, zero, suc, _+_, _/_, _%_}
 use Prim.Native.Char.{Char, code}
 use Prim.Native.String as string
 use Prim.Native.String.{String}
-use mathlib.Core.Path.{_≡_}
 use mathlib.Core.Bool.{Bool}
 use mathlib.Core.List.{List, [], _∷_, _++_}
 use lib.Dec.{leb}
-use lib.ListN.{take, replicate}
 use Rattle.base.specs.Choice.{if_then_else_}
-use Rattle.listing.specs.declared.Text.{Text}
 
 -- a word's letters, as ASCII has them
 abbrev pub ascii : String → List ℕ
@@ -36,16 +33,3 @@ lines (suc n) line = lines n line ++ line n
 -- a word and a number
 abbrev pub field : String → ℕ → List ℕ
 field word n = ascii word ++ decimal n
-
--- what is written of a text
-abbrev pub shown : Text → List ℕ
-shown t = take (t .size) (t .bytes)
-
--- nothing is written yet
-abbrev pub empty : Text
-empty = record { bytes = replicate 1024 0; size = 0 }
-
--- a text that grew by some bytes, at most so many
-pub record Grew (more : List ℕ) (most : ℕ) (before after : Text) : Type 0 where
-  pub shows : shown after ≡ shown before ++ more
-  pub within : after .size ≤ before .size + most

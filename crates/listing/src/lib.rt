@@ -5,10 +5,13 @@ ghost use mathlib.Core.Path.{_≡_};
 ghost use mathlib.Core.List.{[], _∷_, _++_};
 ghost use Prim.Native.Nat.{_+_, _<_, _≤_};
 ghost use lib.ListN.{length};
-ghost use Rattle.listing.specs.Words.{place as placeOf, decimal, lines, empty, Grew};
+ghost use Rattle.listing.specs.Words.{place as placeOf, decimal, lines};
+ghost use Rattle.listing.specs.Growing.{empty, Grew};
 ghost use Rattle.file.specs.Scan.{holds};
 ghost use Rattle.listing.specs.Listing.{headLine, sectionLine, missingLine, completeLine, refusedLine, sectionOf, missingOf, endOf, tableText, textOf, listing, listOf};
 ghost use Rattle.base.specs.Below.{every};
+ghost use Rattle.answers.specs.Answers.{out as outOf};
+ghost use Rattle.listing.specs.Answer.{listLent};
 
 pub enum Listed {
     // So many bytes now stand at the front of the output.
@@ -25,7 +28,7 @@ fn wide(x: u8) -> u16
 }
 
 // A text that grows at its end. Each piece below says what it adds and in how many bytes at most, every number taken for five
-// digits; no listing comes to more than 687.
+// digits; so counted, no listing comes to more than 687.
 struct Text {
     bytes: [u8; 1024],
     size: usize,
@@ -258,4 +261,15 @@ pub fn list_file(file: &[u8], out: &mut [u8]) -> Listed
     }
     bytes::copy(&bytes[..size], out);
     Listed::Bytes(size)
+}
+
+// Lists a file; the answer is 15, or a size from bit 8 up, as a host gets it.
+pub fn list_code(file: &[u8], out: &mut [u8]) -> u32
+    ensures { λ r. ⌜ outOf r (now (out .exit)) ≡ listLent (now (file .entry)) (now (out .entry)) ⌝ }
+{
+    let listed = list_file(file, out);
+    match listed {
+        Listed::Bytes(size) => answers::size_code(size),
+        Listed::Refused(n) => n as u32,
+    }
 }

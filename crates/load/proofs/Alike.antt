@@ -13,10 +13,10 @@ use Rattle.base.proofs.Cases.{by}
 use Rattle.berth.specs.Berth.{places, storeSize}
 use Rattle.section.specs.declared.Header.{Header}
 use Rattle.shelf.specs.Record.{spoiledOf, placeOf, freeOf, Same}
-use Rattle.shelf.specs.declared.Shelf.{Shelf}
+use Rattle.shelf.specs.Record.{Shelf}
 use Rattle.shelf.proofs.Equal.{Four, same-spoiled, same-place, same-free, same-with}
 use Rattle.shelf.proofs.Find.{free-le}
-use Rattle.offer.specs.Offer.{keyOf}
+use Rattle.shelf.specs.Record.{keyOf}
 use Rattle.file.specs.Scan.{scanOf}
 use Rattle.file.specs.declared.Scan.{Scan}
 use Rattle.file.specs.declared.Scanned.{Scanned}

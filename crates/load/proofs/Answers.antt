@@ -2,11 +2,11 @@
 --   table-13, table-9, table-done             of a file that holds a table
 --   load-17, load-18, load-fault, load-table  of any file
 --   scanned-within                            the sections of an accepted file lie in it, fit their berths, and have no number above its last
-use mathlib.Core.Path.{_≡_, sym, ap, _∙_}
+use mathlib.Core.Path.{_≡_, refl, sym, ap, _∙_}
 use mathlib.Core.Bool.{true, false}
 use mathlib.Core.List.{List}
 use mathlib.Core.Logic.{⊎-elim, inl, inr}
-use Prim.Native.Nat.{ℕ, _≤_}
+use Prim.Native.Nat.{ℕ, _<_, _≤_}
 use native.Mathlib.Omega.{arith}
 use lib.Dec.{eqb}
 use lib.ListN.{length}
@@ -15,21 +15,23 @@ use Rattle.base.specs.Choice.{first}
 use Rattle.base.proofs.Cases.{and-right}
 use Rattle.section.specs.declared.Header.{Header}
 use Rattle.berth.specs.Berth.{sections, places, storeSize}
-use Rattle.shelf.specs.Record.{withPlace, spoiledOf, placeOf, freeOf}
+use Rattle.shelf.specs.Record.{spoiledOf, placeOf, freeOf}
 use Rattle.shelf.specs.declared.Key.{Key}
-use Rattle.shelf.specs.declared.Place.{Place}
-use Rattle.shelf.specs.declared.Shelf.{Shelf}
-use Rattle.offer.specs.Offer.{keyOf}
+use Rattle.shelf.specs.Layout.{count, shelfAt, placeAmong, freeAmong}
+use Rattle.shelf.specs.Writes.{headPut}
+use Rattle.shelf.proofs.Numbers.{at-count, among-place, among-free}
+use Rattle.shelf.proofs.Lent.{head-put}
+use Rattle.shelf.specs.Record.{keyOf}
 use Rattle.file.specs.Scan.{scanOf}
 use Rattle.file.specs.declared.Scan.{Scan}
 use Rattle.file.specs.declared.Scanned.{Scanned}
 use Rattle.file.specs.Layout.{sameTable}
 use Rattle.file.proofs.Found.{sound-number}
 use Rattle.file.proofs.Held.{Lies, held}
-use Rattle.load.specs.Steps.{Within}
-use Rattle.load.specs.Load.{After, after, refused, loadedPlace, storedBelow, tableOf, answered, loadOf}
+use Rattle.load.specs.Steps.{Within, tableLent}
+use Rattle.load.specs.Load.{storedBelow, tableOf, answered, loadOf}
 use Rattle.load.specs.declared.Loaded.{Loaded}
-use Rattle.load.specs.declared.Loading.{Loading}
+use Rattle.load.specs.Lent.{Lent, lent, heldBelow, wordsBy, loadLent}
 
 -- two sections of one table have one last number
 one-last : (a b : Header) → sameTable a b ≡ true → a .last ≡ b .last
@@ -56,41 +58,65 @@ module _ (file : List ℕ) (scanned : Scanned) (e : scanned ≡ scanOf file) whe
   pub scanned-within : (h : Header) → scanned .answer ≡ Scan.Table h → Within file (scanned .starts) (scanned .lengths) (h .last)
   scanned-within h a = rw e (within file h (rw e at a))
 
-module _ (shelf : Shelf) (store file : List ℕ) where
-  module _ (scanned : Scanned) (h : Header) (at : ℕ) (key : Key) (k : key ≡ keyOf h) (a : at ≡ placeOf shelf key) where
-    pub table-13 : {r : Loading} → r ≡ refused shelf 13 → (at ≡ places → ⊥) → after r store ≡ tableOf shelf store file scanned h
-    unfolding tableOf
-    table-13 e n = rw (e, ← k, ← a, ne-eqb at places n)
+module _ (words store file : List ℕ) where
+  module _ (n : length words ≡ count) (scanned : Scanned) (h : Header) (at : ℕ) (key : Key) (k : key ≡ keyOf h) (a : at ≡ placeAmong words key) where
+    place-is : at ≡ placeOf (shelfAt words) (keyOf h)
+    place-is = a ∙ ap (placeAmong words) k ∙ among-place words (keyOf h) n ∙ ap (λ s. placeOf s (keyOf h)) (sym (at-count words n))
 
-    module _ (u : at ≡ places) (p : ℕ) (f : p ≡ freeOf shelf) where
-      pub table-9 : {r : Loading} → r ≡ refused shelf 9 → p ≡ places → after r store ≡ tableOf shelf store file scanned h
-      unfolding tableOf
-      table-9 e n = rw (e, ← k, ← a, eq-eqb at places u, ← f, eq-eqb p places n)
+    pub table-13 : (at ≡ places → ⊥) → lent (Loaded.Refused 13) words store ≡ tableLent words store file scanned h
+    unfolding tableOf tableLent
+    table-13 d = rw (← place-is, ne-eqb at places d)
 
-      pub table-done : (place : Place) (left : List ℕ) → (p ≡ places → ⊥) → place ≡ loadedPlace h (scanned .lengths)
+    module _ (u : at ≡ places) (p : ℕ) (f : p ≡ freeAmong words) where
+      free-is : p ≡ freeOf (shelfAt words)
+      free-is = f ∙ among-free words n ∙ ap freeOf (sym (at-count words n))
+
+      pub table-9 : p ≡ places → lent (Loaded.Refused 9) words store ≡ tableLent words store file scanned h
+      unfolding tableOf tableLent
+      table-9 d = rw (← place-is, eq-eqb at places u, ← free-is, eq-eqb p places d)
+
+      pub table-done :
+          {left head kept : List ℕ}
+          → (p ≡ places → ⊥)
+          → p < places
           → left ≡ storedBelow sections file (scanned .starts) (scanned .lengths) store p
-          → record { said = Loaded.Done; shelf = withPlace shelf p place; store = left } ≡ tableOf shelf store file scanned h
-      unfolding tableOf
-      table-done place left n e q = rw (e, q) (rw (← k, ← a, eq-eqb at places u, ← f, ne-eqb p places n))
+          → head ≡ headPut words p key (h .version) (h .last)
+          → kept ≡ heldBelow sections head p (scanned .lengths)
+          → lent Loaded.Done kept left ≡ tableLent words store file scanned h
+      unfolding tableOf tableLent
+      table-done d l q e g =
+          let e' = e ∙ ap (λ x. headPut words p x (h .version) (h .last)) k ∙ head-put words n p l (keyOf h) (h .version) (h .last) in
+          rw (q, g, e') (rw (← place-is, eq-eqb at places u, ← free-is, ne-eqb p places d))
 
-  pub load-17 : {r : Loading} → r ≡ refused shelf 17 → (length store ≡ storeSize → ⊥) → after r store ≡ loadOf shelf store file
-  unfolding loadOf
-  load-17 e n = rw (e, ne-eqb (length store) storeSize n)
+  pub load-17 : (length store ≡ storeSize → ⊥) → lent (Loaded.Refused 17) words store ≡ loadLent words store file
+  unfolding loadOf loadLent
+  load-17 d = rw (ne-eqb (length store) storeSize d) (ap (λ w. lent (Loaded.Refused 17) w store) (sym (kept (scanOf file .answer))))
+    where
+      kept : (s : Scan) → wordsBy words (freeOf (shelfAt words)) (scanOf file .lengths) s (Loaded.Refused 17) ≡ words
+      kept (Scan.Table h) = refl
+      kept (Scan.Refused n) = refl
 
   module _ (w : length store ≡ storeSize) where
-    pub load-18 : {r : Loading} → r ≡ refused shelf 18 → spoiledOf shelf ≡ true → after r store ≡ loadOf shelf store file
-    unfolding loadOf
-    load-18 e s = rw (e, eq-eqb (length store) storeSize w, s)
+    pub load-18 : spoiledOf (shelfAt words) ≡ true → lent (Loaded.Refused 18) words store ≡ loadLent words store file
+    unfolding loadOf loadLent
+    load-18 s = rw (eq-eqb (length store) storeSize w, s) (ap (λ w. lent (Loaded.Refused 18) w store) (sym (kept (scanOf file .answer))))
+      where
+        kept : (s : Scan) → wordsBy words (freeOf (shelfAt words)) (scanOf file .lengths) s (Loaded.Refused 18) ≡ words
+        kept (Scan.Table h) = refl
+        kept (Scan.Refused n) = refl
 
-    module _ (s : spoiledOf shelf ≡ false) where
-      read : loadOf shelf store file ≡ answered shelf store file (scanOf file) (scanOf file .answer)
+    module _ (s : spoiledOf (shelfAt words) ≡ false) where
+      read : loadOf (shelfAt words) store file ≡ answered (shelfAt words) store file (scanOf file) (scanOf file .answer)
       unfolding loadOf
       read = rw (eq-eqb (length store) storeSize w, s)
 
       module _ (scanned : Scanned) (e : scanned ≡ scanOf file) where
-        pub load-fault : {r : Loading} (n : ℕ) → r ≡ refused shelf n → scanned .answer ≡ Scan.Refused n → after r store ≡ loadOf shelf store file
-        load-fault n q a = rw q (sym (read ∙ ap (answered shelf store file (scanOf file)) (rw e at a)))
+        pub load-fault : (n : ℕ) → scanned .answer ≡ Scan.Refused n → lent (Loaded.Refused n) words store ≡ loadLent words store file
+        unfolding loadLent
+        load-fault n a = let b : scanOf file .answer ≡ Scan.Refused n = rw e at a in rw (read, b)
 
-        pub load-table : {r : After} (h : Header) → r ≡ tableOf shelf store file scanned h → scanned .answer ≡ Scan.Table h → r ≡ loadOf shelf store file
+        pub load-table : {r : Lent} (h : Header) → r ≡ tableLent words store file scanned h → scanned .answer ≡ Scan.Table h → r ≡ loadLent words store file
+        unfolding loadLent tableLent
         load-table h q a =
-            q ∙ ap (λ s. tableOf shelf store file s h) e ∙ sym (read ∙ ap (answered shelf store file (scanOf file)) (rw e at a))
+            let b : scanOf file .answer ≡ Scan.Table h = rw e at a in
+            q ∙ ap (λ s. tableLent words store file s h) e ∙ rw (read, b)

@@ -1,12 +1,17 @@
--- Two answers that keep one promise are equal, and so are the records and the stores.
+-- Two answers that keep the promise of `load_file` are equal, and so are the numbers and the stores that they leave.
 use mathlib.Core.Path.{_≡_, sym, ap, _∙_}
 use mathlib.Core.List.{List}
 use Prim.Native.Nat.{ℕ}
-use Rattle.shelf.specs.declared.Shelf.{Shelf}
-use Rattle.load.specs.Load.{After, after, loadOf}
-use Rattle.load.specs.declared.Loading.{Loading}
+use Rattle.load.specs.declared.Loaded.{Loaded}
+use Rattle.load.specs.Lent.{Lent, lent, loadLent}
 
-pub load-file-unique : (shelf : Shelf) (store file : List ℕ) (x y : Loading) (u v : List ℕ)
-    → after x u ≡ loadOf shelf store file → after y v ≡ loadOf shelf store file → (x ≡ y) × (u ≡ v)
-load-file-unique shelf store file x y u v p q =
-    (ap (λ (a : After). record { answer = a .said; shelf = a .shelf }) (p ∙ sym q), ap (λ (a : After). a .store) (p ∙ sym q))
+pub load-file-unique :
+    (words store file : List ℕ)
+    (x y : Loaded)
+    (held kept left stored : List ℕ)
+    → lent x held left ≡ loadLent words store file
+    → lent y kept stored ≡ loadLent words store file
+    → (x ≡ y) × (held ≡ kept) × (left ≡ stored)
+load-file-unique words store file x y held kept left stored p q =
+    let e : lent x held left ≡ lent y kept stored = p ∙ sym q in
+    (ap (λ z. z .said) e, ap (λ z. z .words) e, ap (λ z. z .store) e)

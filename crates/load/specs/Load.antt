@@ -9,14 +9,13 @@ use Rattle.base.specs.Bytes.{part}
 use Rattle.section.specs.declared.Header.{Header}
 use Rattle.berth.specs.Berth.{sections, places, storeSize, put}
 use Rattle.shelf.specs.Record.{withPlace, spoiledOf, placeOf, freeOf}
-use Rattle.shelf.specs.declared.Place.{Place}
-use Rattle.shelf.specs.declared.Shelf.{Shelf}
-use Rattle.offer.specs.Offer.{keyOf}
+use Rattle.shelf.specs.Record.{Place}
+use Rattle.shelf.specs.Record.{Shelf}
+use Rattle.shelf.specs.Record.{keyOf}
 use Rattle.file.specs.Scan.{scanOf}
 use Rattle.file.specs.declared.Scan.{Scan}
 use Rattle.file.specs.declared.Scanned.{Scanned}
 use Rattle.load.specs.declared.Loaded.{Loaded}
-use Rattle.load.specs.declared.Loading.{Loading}
 
 -- the paper's number for each case of an answer; 0 for none
 abbrev pub numberOf : Loaded → ℕ
@@ -28,14 +27,6 @@ pub record After : Type 0 where
   pub said : Loaded
   pub shelf : Shelf
   pub store : List ℕ
-
--- what the function gives, with the store at its exit
-abbrev pub after : Loading → List ℕ → After
-after r store = record { said = r .answer; shelf = r .shelf; store = store }
-
--- a refused call gives the number, and the record as it was
-abbrev pub refused : Shelf → ℕ → Loading
-refused shelf n = record { answer = Loaded.Refused n; shelf = shelf }
 
 -- a place with the table of a file
 abbrev pub loadedPlace : Header → List ℕ → Place
@@ -51,9 +42,9 @@ storedBelow (suc k) file starts lengths store p =
     else put (storedBelow k file starts lengths store p) p k (part file (getD starts k 0) (getD lengths k 0))
 
 module _ (shelf : Shelf) (store file : List ℕ) where
-  -- a refused call also leaves the store as it was
+  -- a refused call gives the number, and leaves record and store as they were
   abbrev pub no : ℕ → After
-  no n = after (refused shelf n) store
+  no n = record { said = Loaded.Refused n; shelf = shelf; store = store }
 
   -- 13, 9; else the lowest free place gets the table, and the berth of each of its sections that section and zeros
   unfoldable pub tableOf : Scanned → Header → After

@@ -10,6 +10,12 @@ use Rattle.base.specs.Choice.{if_then_else_}
 use Rattle.base.specs.Bytes.{part}
 use Rattle.berth.specs.Berth.{berthSize, sections}
 use Rattle.berth.specs.Calls.{putIn}
+use Rattle.section.specs.declared.Header.{Header}
+use Rattle.shelf.specs.Record.{freeOf}
+use Rattle.shelf.specs.Layout.{shelfAt}
+use Rattle.file.specs.declared.Scanned.{Scanned}
+use Rattle.load.specs.Load.{tableOf}
+use Rattle.load.specs.Lent.{Lent, lent, loadedIn, tableBy}
 
 -- each section that was found lies in the file, fits a berth, and has no number above the last, which is below 16
 unfoldable pub Within : List ℕ → List ℕ → List ℕ → ℕ → Type 0
@@ -34,3 +40,11 @@ placedBelow (suc k) store p file starts lengths =
 -- .. of the first `count` sections; none is put where the count is above 16
 unfoldable pub eachStored : List ℕ → ℕ → List ℕ → List ℕ → List ℕ → ℕ → List ℕ
 eachStored store p file starts lengths count = if ltb sections count then store else placedBelow count store p file starts lengths
+
+-- the table of a file, loaded on lent numbers
+unfoldable pub tableLent : List ℕ → List ℕ → List ℕ → Scanned → Header → Lent
+tableLent words store file scanned h =
+    lent
+    (tableOf (shelfAt words) store file scanned h .said)
+    (tableBy words (freeOf (shelfAt words)) (scanned .lengths) h (tableOf (shelfAt words) store file scanned h .said))
+    (tableOf (shelfAt words) store file scanned h .store)

@@ -5,27 +5,18 @@ use berth::STORE;
 use file::Scan;
 use file::Scanned;
 use section::Header;
-use shelf::Key;
-use shelf::Place;
-use shelf::Shelf;
 ghost use mathlib.Core.Path.{_≡_};
-ghost use Prim.Native.Nat.{_+_};
+ghost use Prim.Native.Nat.{_<_};
 ghost use lib.ListN.{length};
-ghost use Rattle.berth.specs.Berth.{storeSize};
-ghost use Rattle.offer.specs.Offer.{keyOf};
-ghost use Rattle.load.specs.Steps.{Within, liesIn, eachStored};
-ghost use Rattle.load.specs.Load.{refused as refusedOf, after, loadedPlace, tableOf, loadOf};
+ghost use Rattle.berth.specs.Berth.{places, sections, storeSize};
+ghost use Rattle.shelf.specs.Layout.{count};
+ghost use Rattle.load.specs.Steps.{Within, liesIn, eachStored, tableLent};
+ghost use Rattle.load.specs.Lent.{lent, heldBelow, loadLent};
 
 // The answer to loading a file.
 pub enum Loaded {
     Done,
     Refused(u8),
-}
-
-// The answer, and the record as the call leaves it.
-pub struct Loading {
-    pub answer: Loaded,
-    pub shelf: Shelf,
 }
 
 pub const KEY_HELD: u8 = 13;
@@ -51,7 +42,7 @@ fn lies(total: usize, start: usize, size: usize) -> bool
 
 // Puts each section of a file that has a number below the count into its berth of place p. What does not lie in the file is not
 // put, and nothing is where the count is above 16.
-pub fn store_each(
+fn store_each(
     store: &mut [u8],
     p: usize,
     file: &[u8],
@@ -76,89 +67,67 @@ pub fn store_each(
     }
 }
 
-// The key of a section.
-pub fn key_of(header: Header) -> Key
-    ensures { λ r. ⌜ r ≡ keyOf header ⌝ }
+// Says in the numbers which sections of place p are held, those that have a length.
+fn hold_each(words: &mut [u16], p: usize, lengths: [u16; 16])
+    requires { ⌜ (length (now words) ≡ count) × (p < places) ⌝ }
+    ensures { λ _. ⌜ now (words .exit) ≡ heldBelow sections (now (words .entry)) p lengths ⌝ }
 {
-    Key {
-        table: header.table,
-        extension: header.extension,
-    }
-}
-
-// A place with the table of a file.
-pub fn loaded_place(header: Header, lengths: [u16; 16]) -> Place
-    ensures { λ r. ⌜ r ≡ loadedPlace header lengths ⌝ }
-{
-    let key = key_of(header);
-    Place {
-        taken: true,
-        key,
-        version: header.version,
-        last: header.last,
-        lengths,
-    }
-}
-
-// A refused call gives the number alone.
-fn refused(shelf: Shelf, n: u8) -> Loading
-    ensures { λ r. ⌜ r ≡ refusedOf shelf n ⌝ }
-{
-    Loading {
-        answer: Loaded::Refused(n),
-        shelf,
+    let mut n: usize = 0;
+    while n < SECTIONS {
+        let size = lengths[n];
+        if size != 0 {
+            shelf::put_held(words, p, n, size);
+        }
+        n += 1;
     }
 }
 
 // Puts the table that a file was found to hold into the lowest free place, where its key is not held.
 fn load_table(
-    shelf: Shelf,
+    words: &mut [u16],
     store: &mut [u8],
     file: &[u8],
     scanned: Scanned,
     header: Header,
-) -> Loading
-    requires { ⌜ length (now store) ≡ storeSize ⌝ }
+) -> Loaded
+    requires { ⌜ (length (now words) ≡ count) × (length (now store) ≡ storeSize) ⌝ }
     requires { ⌜ Within (now file) (scanned .starts) (scanned .lengths) (header .last) ⌝ }
-    ensures { λ r. ⌜ after r (now (store .exit)) ≡ tableOf shelf (now (store .entry)) (now (file .entry)) scanned header ⌝ }
+    ensures { λ r. ⌜ lent r (now (words .exit)) (now (store .exit))
+        ≡ tableLent (now (words .entry)) (now (store .entry)) (now (file .entry)) scanned header ⌝ }
 {
-    let key = key_of(header);
-    if shelf::place_of(shelf, key) != PLACES {
-        return refused(shelf, KEY_HELD);
+    let key = shelf::key_of(header);
+    if shelf::place_of(words, key) != PLACES {
+        return Loaded::Refused(KEY_HELD);
     }
-    let p = shelf::free_of(shelf);
+    let p = shelf::free_of(words);
     if p == PLACES {
-        return refused(shelf, offer::NO_FREE_PLACE);
+        return Loaded::Refused(offer::NO_FREE_PLACE);
     }
     let starts = scanned.starts;
     let lengths = scanned.lengths;
-    let count = header.last as usize + 1;
-    store_each(store, p, file, starts, lengths, count);
-    let place = loaded_place(header, lengths);
-    let mut next = shelf;
-    next.places[p] = place;
-    Loading {
-        answer: Loaded::Done,
-        shelf: next,
-    }
+    let sections = header.last as usize + 1;
+    store_each(store, p, file, starts, lengths, sections);
+    shelf::put_head(words, p, key, header.version, header.last);
+    hold_each(words, p, lengths);
+    Loaded::Done
 }
 
 // Loads a file's table into the lowest free place: each of its sections stands in its berth with zeros after it, and no other
 // berth changes. A refused call changes nothing.
-pub fn load_file(shelf: Shelf, store: &mut [u8], file: &[u8]) -> Loading
-    ensures { λ r. ⌜ after r (now (store .exit)) ≡ loadOf shelf (now (store .entry)) (now (file .entry)) ⌝ }
+pub fn load_file(words: &mut [u16], store: &mut [u8], file: &[u8]) -> Loaded
+    ensures { λ r. ⌜ lent r (now (words .exit)) (now (store .exit)) ≡ loadLent (now (words .entry)) (now (store .entry)) (now (file .entry)) ⌝ }
 {
     if store.len() != STORE {
-        return refused(shelf, shelf::STORE_SIZE);
+        return Loaded::Refused(shelf::STORE_SIZE);
     }
-    if shelf::spoiled(shelf) {
-        return refused(shelf, shelf::SHELF_SPOILED);
+    if shelf_check::is_spoiled(words) {
+        return Loaded::Refused(shelf::SHELF_SPOILED);
     }
     // The whole file is read before anything is written.
     let scanned = file::read_file(file);
     let answer = scanned.answer;
     match answer {
-        Scan::Refused(n) => refused(shelf, n),
-        Scan::Table(header) => load_table(shelf, store, file, scanned, header),
+        Scan::Refused(n) => Loaded::Refused(n),
+        Scan::Table(header) => load_table(words, store, file, scanned, header),
     }
 }

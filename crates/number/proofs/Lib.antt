@@ -6,3 +6,4 @@ pub mod Bounds
 pub mod Unique
 pub mod Untouched
 pub mod Unreadable
+pub mod Told

@@ -14,7 +14,8 @@ use lib.Dec.{ltb, eqb}
 use lib.ListN.{length, length-append}
 use borrow.Author.Tests.{le-ltb, ltb-true, ltb-false}
 use Rattle.base.proofs.Cases.{by, same-or}
-use Rattle.number.specs.Number.{largest, spelling, spelt, groups, worth, cutOff, lastIsZero, notShortest, numberIn, refusalOf, Bytes}
+use Rattle.number.specs.Number.{largest, spelling, spelt, groups, worth, cutOff, lastIsZero, notShortest, numberIn, Bytes}
+use Rattle.number.specs.Answer.{numberTold}
 use Rattle.number.specs.declared.Number.{Number}
 use Rattle.number.proofs.Spelling.{spelt-1, spelt-2, spelt-3}
 use Rattle.number.proofs.Reading.{one-in, zero-in, two-in, zero-in-3, three-in, above-in}
@@ -139,14 +140,14 @@ unfolding numberIn
 answers s at = by (cutOff s || (notShortest s || ltb largest (worth (groups s)))) (λ t. inl (rw t)) (λ f. inr (rw f))
 
 pub refused-11 : (s : List ℕ) → Bytes s → (at : ℕ)
-    → (refusalOf (numberIn s at) ≡ 11) ↔ ((n : ℕ) → n ≤ largest → (rest : List ℕ) → s ≡ spelt n ++ rest → ⊥)
+    → (numberTold (numberIn s at) .number ≡ 11) ↔ ((n : ℕ) → n ≤ largest → (rest : List ℕ) → s ≡ spelt n ++ rest → ⊥)
 refused-11 s w at = (
   λ e n m rest q.
-      let z : _≡_ {A = ℕ} 11 0 = sym e ∙ ap (λ s. refusalOf (numberIn s at)) q ∙ ap refusalOf (read-spelt n m rest at) in
+      let z : _≡_ {A = ℕ} 11 0 = sym e ∙ ap (λ s. numberTold (numberIn s at) .number) q ∙ ap (λ r. numberTold r .number) (read-spelt n m rest at) in
       omega arith,
   λ none.
       ⊎-elim
-      (λ r. ap refusalOf r)
+      (λ r. ap (λ x. numberTold x .number) r)
       (λ v. let k = only-spelt at _ _ s w v in absurd (none _ (k .most) (k .rest) (k .here)))
       (answers s at),
 )

@@ -7,14 +7,15 @@ use lib.Dec.{ltb}
 use lib.ListN.{length, drop}
 use Rattle.base.specs.Choice.{_if_}
 use Rattle.base.proofs.Tables.{among}
-use Rattle.number.specs.Number.{spelt, writtenNo, Writing, writing, writtenOf}
+use Rattle.number.specs.Number.{spelt, Writing, writing, writtenOf}
+use Rattle.number.specs.Answer.{spelledTold}
 use Rattle.number.specs.declared.Written.{Written}
 
-pub write-number-untouched : (n : ℕ) (out : List ℕ) → 0 < writtenNo (writtenOf n out .said) → writtenOf n out .out ≡ out
+pub write-number-untouched : (n : ℕ) (out : List ℕ) → 0 < spelledTold (writtenOf n out .said) .number → writtenOf n out .out ≡ out
 unfolding writtenOf
 write-number-untouched n out =
     among (λ no. writing (Written.Refused no) out)
-    (λ (w : Writing). 0 < writtenNo (w .said) → w .out ≡ out)
+    (λ (w : Writing). 0 < spelledTold (w .said) .number → w .out ≡ out)
     (15 if ltb (length out) (length (spelt n)) ∷ [])
     (writing (Written.Bytes (length (spelt n))) (spelt n ++ drop (length (spelt n)) out))
     (λ _. refl, tt)

@@ -58,15 +58,6 @@ numberIn s at = first Number.Refused (faults s) (Number.Value (worth (groups s))
 abbrev pub numberAt : List ℕ → ℕ → Number
 numberAt file at = numberIn (drop at file) at
 
--- the paper's number of refusal for each case; 0 for none
-abbrev pub refusalOf : Number → ℕ
-refusalOf (Number.Value n next) = 0
-refusalOf (Number.Refused n) = n
-
-abbrev pub writtenNo : Written → ℕ
-writtenNo (Written.Bytes n) = 0
-writtenNo (Written.Refused n) = n
-
 -- what writing leaves: the answer and the output
 pub record Writing : Type 0 where
   pub said : Written

@@ -16,13 +16,14 @@ use Rattle.section.specs.declared.Header.{Header}
 use Rattle.section.specs.declared.Reading.{Reading}
 use Rattle.section.specs.declared.Reading.the-variants as reading
 use Rattle.shelf.specs.Record.{placeAt, withPlace, holds, spoiledOf, placeOf, freeOf, Same}
-use Rattle.shelf.specs.declared.Place.{Place}
-use Rattle.shelf.specs.declared.Shelf.{Shelf}
+use Rattle.shelf.specs.Record.{Place}
+use Rattle.shelf.specs.Record.{Shelf}
 use Rattle.shelf.proofs.Equal.{Four, same-spoiled, same-place, same-free, same-with}
 use Rattle.shelf.proofs.Find.{place-le, place-taken}
 use Rattle.offer.specs.declared.Step.{Step}
 use Rattle.offer.specs.declared.Step.the-variants.{Refuse, Repeats, Begins, BeginsAgain, Adds}
-use Rattle.offer.specs.Offer.{After, keyOf, begunPlace, addedPlace, offerOf}
+use Rattle.offer.specs.Offer.{After, begunPlace, addedPlace, offerOf}
+use Rattle.shelf.specs.Record.{keyOf}
 use Rattle.offer.specs.Steps.{heldStep, newStep, soundStep, readingStep, stepOf, done}
 use Rattle.offer.proofs.Steps.{InRange, Fits, below, step-done, step-fits}
 

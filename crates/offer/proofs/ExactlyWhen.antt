@@ -27,11 +27,12 @@ use Rattle.section.specs.declared.Reading.the-variants as reading
 use Rattle.section.proofs.ExactlyWhen as section
 use Rattle.shelf.specs.Record.{placeAt, lengthAt, holds, spoiledOf, placeOf, freeOf}
 use Rattle.shelf.specs.declared.Key.{Key}
-use Rattle.shelf.specs.declared.Place.{Place}
-use Rattle.shelf.specs.declared.Shelf.{Shelf}
+use Rattle.shelf.specs.Record.{Place}
+use Rattle.shelf.specs.Record.{Shelf}
 use Rattle.shelf.proofs.Words.{Some, Held, HasKey, Spoiled, decided, not-held, none-free}
 use Rattle.offer.specs.declared.Offered.{Offered}
-use Rattle.offer.specs.Offer.{After, numberOf, keyOf, newOf, heldOf, soundOf, readingOf, offerOf}
+use Rattle.offer.specs.Offer.{After, numberOf, newOf, heldOf, soundOf, readingOf, offerOf}
+use Rattle.shelf.specs.Record.{keyOf}
 
 bytes-so : (a b : List ℕ) → Decides (same a b) (a ≡ b)
 bytes-so a b = (same-equal a b, λ e. rw e (same-refl b))

@@ -1,5 +1,6 @@
 pub mod Stands
 pub mod Steps
-pub mod Equal
-pub mod Unique
 pub mod ExactlyWhen
+pub mod Equal
+pub mod Lent
+pub mod Unique

@@ -1,8 +1,7 @@
 -- Laws of the step that an offer comes to, and that the whole of an offer is its step, done.
---   held-adds, held-repeats, held-differs    the steps of a held key with the same version and last
+--   held-again, held-last, held-adds, held-repeats, held-differs    the steps of a held key with the same version and last
 --   step-done                                an offer is its step, done
 --   Fits, step-fits                          what a step that writes may rely on
---   began, began-again, added                what each such step leaves
 use mathlib.Core.Path.{_≡_, refl, sym, ap, subst, _∙_}
 use mathlib.Core.List.{List}
 use mathlib.Core.Bool.{Bool, true, false, not}
@@ -17,22 +16,31 @@ use Rattle.base.proofs.Cases.{by, either}
 use Rattle.berth.specs.Berth.{berthSize, storeSize, places, sections, put, wipedWhere, standing}
 use Rattle.berth.proofs.Berths.{where-length}
 use Rattle.berth.specs.Calls.{putIn, wipedWhereIn, standsIn}
-use Rattle.section.specs.Section.{readOf}
+use Rattle.section.specs.Section.{readOf, headerOf}
 use Rattle.section.specs.declared.Header.{Header}
 use Rattle.section.specs.declared.Reading.{Reading}
 use Rattle.section.specs.declared.Reading.the-variants as reading
 use Rattle.section.proofs.Laws.{SoundFacts, sound-facts}
 use Rattle.shelf.specs.Record.{placeAt, withPlace, lengthAt, holds, spoiledOf, placeOf, freeOf}
-use Rattle.shelf.specs.declared.Place.{Place}
-use Rattle.shelf.specs.declared.Shelf.{Shelf}
+use Rattle.shelf.specs.Record.{Place}
+use Rattle.shelf.specs.Record.{Shelf}
 use Rattle.shelf.proofs.Find.{place-le, place-taken, free-le}
 use Rattle.shelf.proofs.Words.{SoundPlace, sound-place}
 use Rattle.offer.specs.declared.Offered.{Offered}
 use Rattle.offer.specs.declared.Step.{Step}
 use Rattle.offer.specs.declared.Step.the-variants.{Refuse, Repeats, Begins, BeginsAgain, Adds}
-use Rattle.offer.specs.Offer.{After, keyOf, begunPlace, addedPlace, newOf, heldOf, soundOf, readingOf, offerOf}
+use Rattle.offer.specs.Offer.{After, begunPlace, addedPlace, newOf, heldOf, soundOf, readingOf, offerOf}
+use Rattle.shelf.specs.Record.{keyOf}
 use Rattle.offer.specs.Steps.{heldStep, newStep, soundStep, readingStep, stepOf, done}
 use Rattle.offer.proofs.Stands.{put-at, wiped-at, stands-at}
+
+pub held-again : (place : Place) (store payload : List ℕ) (p : ℕ) (h : Header) → (place .version ≡ h .version → ⊥) → BeginsAgain p h ≡ heldStep place store payload p h
+unfolding heldStep
+held-again place store payload p h d = rw (ne-eqb _ _ d)
+
+pub held-last : (place : Place) (store payload : List ℕ) (p : ℕ) (h : Header) → place .version ≡ h .version → (place .last ≡ h .last → ⊥) → Refuse 10 ≡ heldStep place store payload p h
+unfolding heldStep
+held-last place store payload p h v d = rw (eq-eqb _ _ v, ne-eqb _ _ d)
 
 module _ (place : Place) (store payload : List ℕ) (p : ℕ) (h : Header) (v : place .version ≡ h .version) (l : place .last ≡ h .last) where
   pub held-adds : lengthAt place (h .number) ≡ 0 → Adds p h ≡ heldStep place store payload p h
@@ -125,9 +133,14 @@ module _ (shelf : Shelf) (store payload : List ℕ) where
   -- the store, the place, the number and the bytes are such that a berth takes them
   pub record InRange (p : ℕ) (h : Header) : Type 0 where
     pub whole : length store ≡ storeSize
+    pub unspoiled : spoiledOf shelf ≡ false
     pub place : p < places
     pub number : h .number < sections
+    pub version : h .version < 32
+    pub last : h .last < sections
+    pub least : 8 ≤ length payload
     pub size : length payload ≤ berthSize
+    pub header : h ≡ headerOf payload
 
   -- .. and a table is there
   abbrev pub Held : ℕ → Header → Type 0
@@ -140,9 +153,20 @@ module _ (shelf : Shelf) (store payload : List ℕ) where
   Fits (BeginsAgain p h) = Held p h
   Fits (Adds p h) = Held p h
 
-  module _ (w : length store ≡ storeSize) (h : Header) (f : SoundFacts payload h) where
+  module _ (w : length store ≡ storeSize) (u : spoiledOf shelf ≡ false) (h : Header) (f : SoundFacts payload h) where
     in-range : (p : ℕ) → p < places → InRange p h
-    in-range p l = record { whole = w; place = l; number = omega (arith, f .number, f .last); size = f .most }
+    in-range p l =
+        record {
+          whole = w;
+          unspoiled = u;
+          place = l;
+          number = omega (arith, f .number, f .last);
+          version = f .version;
+          last = omega (arith, f .last);
+          least = f .least;
+          size = f .most;
+          header = f .header;
+        }
 
     held-fits : (p : ℕ) → p < places → placeAt shelf p .taken ≡ true → Fits (heldStep (placeAt shelf p) store payload p h)
     unfolding heldStep
@@ -166,9 +190,9 @@ module _ (shelf : Shelf) (store payload : List ℕ) where
         let l = below (place-le shelf (keyOf h)) e in
         held-fits (placeOf shelf (keyOf h)) l (place-taken shelf (keyOf h) l))
 
-  reading-fits : length store ≡ storeSize → (r : Reading) → readOf payload ≡ r → Fits (readingStep shelf store payload r)
-  reading-fits w (reading.Sound h) e = sound-fits w h (sound-facts payload h e)
-  reading-fits w (reading.Refused n) e = tt
+  reading-fits : length store ≡ storeSize → spoiledOf shelf ≡ false → (r : Reading) → readOf payload ≡ r → Fits (readingStep shelf store payload r)
+  reading-fits w u (reading.Sound h) e = sound-fits w u h (sound-facts payload h e)
+  reading-fits w u (reading.Refused n) e = tt
 
   pub step-fits : Fits (stepOf shelf store payload)
   unfolding stepOf
@@ -178,50 +202,4 @@ module _ (shelf : Shelf) (store payload : List ℕ) where
       (λ a.
       either Fits (spoiledOf shelf)
       (λ _. tt)
-      (λ _. reading-fits (eqb-true (length store) storeSize (not-false (eqb (length store) storeSize) a)) (readOf payload) refl))
-
-  -- what was decided, done
-  decided : {r : Step} {x : After} → stepOf shelf store payload ≡ r → x ≡ done shelf store payload r → x ≡ offerOf shelf store payload
-  decided e q = q ∙ ap (done shelf store payload) (sym e) ∙ step-done
-
-  pub repeated : stepOf shelf store payload ≡ Repeats → record { said = Offered.Repeat; shelf = shelf; store = store } ≡ offerOf shelf store payload
-  unfolding done
-  repeated e = decided e refl
-
-  pub refused : (n : ℕ) → stepOf shelf store payload ≡ Refuse n → record { said = Offered.Refused n; shelf = shelf; store = store } ≡ offerOf shelf store payload
-  unfolding done
-  refused n e = decided e refl
-
-  module _ (p : ℕ) (h : Header) where
-    pub begins-fit : stepOf shelf store payload ≡ Begins p h → InRange p h
-    begins-fit e = subst Fits e step-fits
-
-    pub again-fit : stepOf shelf store payload ≡ BeginsAgain p h → InRange p h
-    again-fit e = subst Fits e step-fits .0
-
-    pub adds-fit : stepOf shelf store payload ≡ Adds p h → InRange p h
-    adds-fit e = subst Fits e step-fits .0
-
-    module _ {n : ℕ} {left : List ℕ} (m : n ≡ h .number) where
-      put-left : (before : List ℕ) → length before ≡ storeSize → InRange p h → left ≡ putIn before p n payload → left ≡ put before p (h .number) payload
-      put-left before w f e = e ∙ ap (λ k. putIn before p k payload) m ∙ put-at before p w (f .place) (h .number) (f .number) payload (f .size)
-
-      pub began : {place : Place} → stepOf shelf store payload ≡ Begins p h → left ≡ putIn store p n payload → place ≡ begunPlace h (length payload)
-          → record { said = Offered.Began; shelf = withPlace shelf p place; store = left } ≡ offerOf shelf store payload
-      unfolding done
-      began e s q = let f = begins-fit e in decided e (rw (q, put-left store (f .whole) f s))
-
-      pub added : {place : Place} → stepOf shelf store payload ≡ Adds p h → left ≡ putIn store p n payload → place ≡ addedPlace (placeAt shelf p) h (length payload)
-          → record { said = Offered.Added; shelf = withPlace shelf p place; store = left } ≡ offerOf shelf store payload
-      unfolding done
-      added e s q = let f = adds-fit e in decided e (rw (q, put-left store (f .whole) f s))
-
-      pub began-again : {place : Place} {wiped : List ℕ} → stepOf shelf store payload ≡ BeginsAgain p h → wiped ≡ wipedWhereIn (holds (placeAt shelf p)) store p
-          → left ≡ putIn wiped p n payload → place ≡ begunPlace h (length payload)
-          → record { said = Offered.BeganAgain; shelf = withPlace shelf p place; store = left } ≡ offerOf shelf store payload
-      unfolding done
-      began-again {wiped = wiped} e v s q =
-          let f = again-fit e in
-          let v' : wiped ≡ wipedWhere (holds (placeAt shelf p)) sections store p = v ∙ wiped-at store p (f .whole) (f .place) (holds (placeAt shelf p)) in
-          let w : length wiped ≡ storeSize = ap length v' ∙ where-length (holds (placeAt shelf p)) store (f .whole) p (f .place) sections (omega arith) in
-          decided e (rw (q, put-left wiped w f s, v'))
+      (λ b. reading-fits (eqb-true (length store) storeSize (not-false (eqb (length store) storeSize) a)) b (readOf payload) refl))

@@ -1,20 +1,17 @@
--- Two answers, each with the store that it leaves, that keep the promise of `offer` are equal.
+-- Two answers, each with the numbers and the store that it leaves, that keep the promise of `offer` are equal.
 use mathlib.Core.Path.{_≡_, sym, ap, _∙_}
 use mathlib.Core.List.{List}
 use Prim.Native.Nat.{ℕ}
-use Rattle.shelf.specs.declared.Shelf.{Shelf}
-use Rattle.offer.specs.declared.Offering.{Offering}
-use Rattle.offer.specs.Offer.{After, after, offerOf}
+use Rattle.offer.specs.declared.Offered.{Offered}
+use Rattle.offer.specs.Lent.{Lent, lent, offerLent}
 
 pub unique :
-    (shelf : Shelf)
-    (store payload : List ℕ)
-    (x y : Offering)
-    (left kept : List ℕ)
-    → after x left ≡ offerOf shelf store payload
-    → after y kept ≡ offerOf shelf store payload
-    → (x ≡ y) × (left ≡ kept)
-unique shelf store payload x y left kept p q =
-    let e : after x left ≡ after y kept = p ∙ sym q in
-    let given : After → Offering = λ z. record { shelf = z .shelf; answer = z .said } in
-    (ap given e, ap (λ z. z .store) e)
+    (words store payload : List ℕ)
+    (x y : Offered)
+    (held kept left stored : List ℕ)
+    → lent x held left ≡ offerLent words store payload
+    → lent y kept stored ≡ offerLent words store payload
+    → (x ≡ y) × (held ≡ kept) × (left ≡ stored)
+unique words store payload x y held kept left stored p q =
+    let e : lent x held left ≡ lent y kept stored = p ∙ sym q in
+    (ap (λ z. z .said) e, ap (λ z. z .words) e, ap (λ z. z .store) e)

@@ -1,2 +1,3 @@
 pub mod Offer
 pub mod Steps
+pub mod Lent

@@ -11,12 +11,11 @@ use Rattle.section.specs.declared.Header.{Header}
 use Rattle.section.specs.declared.Reading.{Reading}
 use Rattle.section.specs.declared.Reading.the-variants.{Sound, Refused}
 use Rattle.berth.specs.Berth.{sections, places, storeSize, put, wipedWhere, standing}
-use Rattle.shelf.specs.Record.{placeAt, withPlace, lengthAt, holds, spoiledOf, placeOf, freeOf}
+use Rattle.shelf.specs.Record.{keyOf, placeAt, withPlace, lengthAt, holds, spoiledOf, placeOf, freeOf}
 use Rattle.shelf.specs.declared.Key.{Key}
-use Rattle.shelf.specs.declared.Place.{Place}
-use Rattle.shelf.specs.declared.Shelf.{Shelf}
+use Rattle.shelf.specs.Record.{Place}
+use Rattle.shelf.specs.Record.{Shelf}
 use Rattle.offer.specs.declared.Offered.{Offered}
-use Rattle.offer.specs.declared.Offering.{Offering}
 
 -- what a call leaves: the answer, the record, the store
 pub record After : Type 0 where
@@ -31,14 +30,6 @@ numberOf Offered.BeganAgain = 0
 numberOf Offered.Added = 0
 numberOf Offered.Repeat = 0
 numberOf (Offered.Refused n) = n
-
--- what the function gives, with the store at its exit
-abbrev pub after : Offering → List ℕ → After
-after r store = record { said = r .answer; shelf = r .shelf; store = store }
-
--- a table's key is its table id with its table id extension
-abbrev pub keyOf : Header → Key
-keyOf h = record { table = h .table; extension = h .extension }
 
 -- a place with the one section that begins its table
 abbrev pub begunPlace : Header → ℕ → Place

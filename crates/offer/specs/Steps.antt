@@ -12,12 +12,13 @@ use Rattle.section.specs.declared.Reading.{Reading}
 use Rattle.section.specs.declared.Reading.the-variants as reading
 use Rattle.berth.specs.Berth.{sections, places, storeSize, put, wipedWhere, standing}
 use Rattle.shelf.specs.Record.{placeAt, withPlace, lengthAt, holds, spoiledOf, placeOf, freeOf}
-use Rattle.shelf.specs.declared.Place.{Place}
-use Rattle.shelf.specs.declared.Shelf.{Shelf}
+use Rattle.shelf.specs.Record.{Place}
+use Rattle.shelf.specs.Record.{Shelf}
 use Rattle.offer.specs.declared.Offered.{Offered}
 use Rattle.offer.specs.declared.Step.{Step}
 use Rattle.offer.specs.declared.Step.the-variants.{Refuse, Repeats, Begins, BeginsAgain, Adds}
-use Rattle.offer.specs.Offer.{After, keyOf, begunPlace, addedPlace, no}
+use Rattle.offer.specs.Offer.{After, begunPlace, addedPlace, no}
+use Rattle.shelf.specs.Record.{keyOf}
 
 -- key held in place p
 unfoldable pub heldStep : Place → List ℕ → List ℕ → ℕ → Header → Step

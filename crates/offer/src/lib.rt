@@ -1,17 +1,17 @@
-// Offering a section to the shelf (document 01, "Offering a sound section").
+// Offering a section to the shelf (document 01, "Offering a sound section"), over the numbers and the store that the host lends.
 use section::Header;
 use section::Reading;
-use shelf::Key;
-use shelf::Place;
-use shelf::Shelf;
 ghost use mathlib.Core.Path.{_≡_};
-ghost use mathlib.Core.Bool.{false};
+ghost use mathlib.Core.Bool.{true, false};
 ghost use Prim.Native.Nat.{_<_, _≤_};
 ghost use lib.ListN.{length};
 ghost use Rattle.berth.specs.Berth.{berthSize, places, sections, storeSize};
-ghost use Rattle.shelf.specs.Record.{lengthAt, spoiledOf};
-ghost use Rattle.offer.specs.Offer.{after, begunPlace, addedPlace, offerOf};
+ghost use Rattle.berth.specs.Calls.{putIn};
+ghost use Rattle.shelf.specs.Record.{placeAt, spoiledOf};
+ghost use Rattle.shelf.specs.Layout.{count, takenIn, shelfIn, shelfAt};
+ghost use Rattle.shelf.specs.Writes.{heldPut};
 ghost use Rattle.offer.specs.Steps.{heldStep, soundStep, stepOf};
+ghost use Rattle.offer.specs.Lent.{lent, offerLent};
 
 pub enum Offered {
     // The key was not held: the section begins the table.
@@ -25,15 +25,15 @@ pub enum Offered {
     Refused(u8),
 }
 
-// The record as the call leaves it, and the answer.
-pub struct Offering {
-    pub shelf: Shelf,
-    pub answer: Offered,
-}
-
 pub const NO_FREE_PLACE: u8 = 9;
 
 pub const DIFFERS: u8 = 10;
+
+fn half(x: u8) -> u16
+    ensures { λ r. ⌜ r ≡ x ⌝ }
+{
+    x as u16
+}
 
 fn wide8(x: u8) -> usize
     ensures { λ r. ⌜ r ≡ x ⌝ }
@@ -47,39 +47,6 @@ fn wide16(x: u16) -> usize
     x as usize
 }
 
-// A place with the one section that begins its table.
-fn begun(header: Header, size: usize) -> Place
-    requires { ⌜ (header .number < sections) × (size ≤ berthSize) ⌝ }
-    ensures { λ r. ⌜ r ≡ begunPlace header size ⌝ }
-{
-    let number = wide8(header.number);
-    let length = size as u16;
-    let mut lengths = [0u16; 16];
-    lengths[number] = length;
-    Place {
-        taken: true,
-        key: Key {
-            table: header.table,
-            extension: header.extension,
-        },
-        version: header.version,
-        last: header.last,
-        lengths,
-    }
-}
-
-// A place with one section more.
-fn added(place: Place, header: Header, size: usize) -> Place
-    requires { ⌜ (header .number < sections) × (size ≤ berthSize) ⌝ }
-    ensures { λ r. ⌜ r ≡ addedPlace place header size ⌝ }
-{
-    let number = wide8(header.number);
-    let length = size as u16;
-    let mut next = place;
-    next.lengths[number] = length;
-    next
-}
-
 // What an offer comes to, before anything is written: where the table is begun, begun again or added to, and the
 // section's header.
 enum Step {
@@ -91,20 +58,20 @@ enum Step {
 }
 
 // The step of a sound section whose key is held in place p.
-fn held_step(place: Place, store: &[u8], payload: &[u8], header: Header, p: usize) -> Step
-    requires { ⌜ (length (now store) ≡ storeSize) × (p < places) × (header .number < sections)
-        × (lengthAt place (header .number) ≤ berthSize) ⌝ }
-    ensures { λ r. ⌜ r ≡ heldStep place (now (store .entry)) (now (payload .entry)) p header ⌝ }
+fn held_step(words: &[u16], store: &[u8], payload: &[u8], header: Header, p: usize) -> Step
+    requires { ⌜ (length (now words) ≡ count) × (length (now store) ≡ storeSize) × (spoiledOf (shelfIn (now words)) ≡ false) ⌝ }
+    requires { ⌜ (p < places) × (takenIn (now words) p ≡ true) ⌝ }
+    requires { ⌜ (header .number < sections) × (header .version < 32) × (header .last < 16) ⌝ }
+    ensures { λ r. ⌜ r ≡ heldStep (placeAt (shelfIn (now (words .entry))) p) (now (store .entry)) (now (payload .entry)) p header ⌝ }
 {
-    if place.version != header.version {
+    if shelf::version_of(words, p) != half(header.version) {
         return Step::BeginsAgain(p, header);
     }
-    if place.last != header.last {
+    if shelf::last_of(words, p) != half(header.last) {
         return Step::Refuse(DIFFERS);
     }
     let number = wide8(header.number);
-    let lengths = place.lengths;
-    let length = wide16(lengths[number]);
+    let length = wide16(shelf::length_of(words, p, number));
     if length == 0 {
         return Step::Adds(p, header);
     }
@@ -115,20 +82,16 @@ fn held_step(place: Place, store: &[u8], payload: &[u8], header: Header, p: usiz
 }
 
 // The step of a sound section.
-fn sound_step(shelf: Shelf, store: &[u8], payload: &[u8], header: Header) -> Step
-    requires { ⌜ (length (now store) ≡ storeSize) × (spoiledOf shelf ≡ false) × (header .number < sections) ⌝ }
-    ensures { λ r. ⌜ r ≡ soundStep shelf (now (store .entry)) (now (payload .entry)) header ⌝ }
+fn sound_step(words: &[u16], store: &[u8], payload: &[u8], header: Header) -> Step
+    requires { ⌜ (length (now store) ≡ storeSize) × (spoiledOf (shelfAt (now words)) ≡ false) ⌝ }
+    requires { ⌜ (header .number < sections) × (header .version < 32) × (header .last < 16) ⌝ }
+    ensures { λ r. ⌜ r ≡ soundStep (shelfAt (now (words .entry))) (now (store .entry)) (now (payload .entry)) header ⌝ }
 {
-    let key = Key {
-        table: header.table,
-        extension: header.extension,
-    };
-    let p = shelf::place_of(shelf, key);
+    let p = shelf::place_of(words, shelf::key_of(header));
     if p < berth::PLACES {
-        let place = shelf.places[p];
-        return held_step(place, store, payload, header, p);
+        return held_step(words, store, payload, header, p);
     }
-    let free = shelf::free_of(shelf);
+    let free = shelf::free_of(words);
     if free < berth::PLACES {
         return Step::Begins(free, header);
     }
@@ -136,73 +99,56 @@ fn sound_step(shelf: Shelf, store: &[u8], payload: &[u8], header: Header) -> Ste
 }
 
 // The step of a payload: it reads all that it is lent, and writes nothing.
-fn step_of(shelf: Shelf, store: &[u8], payload: &[u8]) -> Step
-    ensures { λ r. ⌜ r ≡ stepOf shelf (now (store .entry)) (now (payload .entry)) ⌝ }
+fn step_of(words: &[u16], store: &[u8], payload: &[u8]) -> Step
+    ensures { λ r. ⌜ r ≡ stepOf (shelfAt (now (words .entry))) (now (store .entry)) (now (payload .entry)) ⌝ }
 {
     if store.len() != berth::STORE {
         return Step::Refuse(shelf::STORE_SIZE);
     }
-    if shelf::spoiled(shelf) {
+    if shelf_check::is_spoiled(words) {
         return Step::Refuse(shelf::SHELF_SPOILED);
     }
     let reading = section::read(payload);
     match reading {
-        Reading::Sound(header) => sound_step(shelf, store, payload, header),
+        Reading::Sound(header) => sound_step(words, store, payload, header),
         Reading::Refused(number) => Step::Refuse(number),
     }
 }
 
-// Offers a payload. A refused call leaves record and store as they were; the refusals are 17, 18, then 1 to 10.
-pub fn offer(mut shelf: Shelf, store: &mut [u8], payload: &[u8]) -> Offering
-    ensures { λ r. ⌜ after r (now (store .exit)) ≡ offerOf shelf (now (store .entry)) (now (payload .entry)) ⌝ }
+// Stores a section and says in the numbers that it is held.
+fn add(words: &mut [u16], store: &mut [u8], payload: &[u8], p: usize, n: usize)
+    requires { ⌜ length (now payload) ≤ berthSize ⌝ }
+    ensures { λ _. ⌜ now (words .exit) ≡ heldPut (now (words .entry)) p n (length (now (payload .entry))) ⌝ }
+    ensures { λ _. ⌜ now (store .exit) ≡ putIn (now (store .entry)) p n (now (payload .entry)) ⌝ }
 {
-    let step = step_of(shelf, store, payload);
+    let size = payload.len() as u16;
+    berth::put(store, p, n, payload);
+    shelf::put_held(words, p, n, size);
+}
+
+// Offers a payload to the record that the numbers are. A refused call and a repeat leave numbers and store as they were; the
+// refusals are 17, 18, then 1 to 10.
+pub fn offer(words: &mut [u16], store: &mut [u8], payload: &[u8]) -> Offered
+    ensures { λ r. ⌜ lent r (now (words .exit)) (now (store .exit)) ≡ offerLent (now (words .entry)) (now (store .entry)) (now (payload .entry)) ⌝ }
+{
+    let step = step_of(words, store, payload);
     match step {
-        Step::Repeats => {
-            return Offering {
-                shelf,
-                answer: Offered::Repeat,
-            };
-        }
-        Step::Refuse(refusal) => {
-            return Offering {
-                shelf,
-                answer: Offered::Refused(refusal),
-            };
+        Step::Repeats => Offered::Repeat,
+        Step::Refuse(refusal) => Offered::Refused(refusal),
+        Step::Adds(p, header) => {
+            add(words, store, payload, p, wide8(header.number));
+            Offered::Added
         }
         Step::Begins(p, header) => {
-            let number = wide8(header.number);
-            berth::put(store, p, number, payload);
-            let place = begun(header, payload.len());
-            shelf.places[p] = place;
-            return Offering {
-                shelf,
-                answer: Offered::Began,
-            };
+            shelf::put_head(words, p, shelf::key_of(header), header.version, header.last);
+            add(words, store, payload, p, wide8(header.number));
+            Offered::Began
         }
         Step::BeginsAgain(p, header) => {
-            let number = wide8(header.number);
-            let before = shelf.places[p];
-            let lengths = before.lengths;
-            berth::wipe_where(store, p, lengths);
-            berth::put(store, p, number, payload);
-            let place = begun(header, payload.len());
-            shelf.places[p] = place;
-            return Offering {
-                shelf,
-                answer: Offered::BeganAgain,
-            };
-        }
-        Step::Adds(p, header) => {
-            let number = wide8(header.number);
-            let before = shelf.places[p];
-            berth::put(store, p, number, payload);
-            let place = added(before, header, payload.len());
-            shelf.places[p] = place;
-            return Offering {
-                shelf,
-                answer: Offered::Added,
-            };
+            berth::wipe_where(store, p, shelf::mask_of(words, p));
+            shelf::put_head(words, p, shelf::key_of(header), header.version, header.last);
+            add(words, store, payload, p, wide8(header.number));
+            Offered::BeganAgain
         }
     }
 }

@@ -5,7 +5,7 @@ use mathlib.Core.Path.{_≡_, refl, sym, ap, _∙_}
 use mathlib.Core.List.{List}
 use Prim.Native.Nat.{ℕ}
 use Rattle.answers.specs.Answers.{Lent, lent}
-use Rattle.shelf.specs.declared.Shelf.{Shelf}
+use Rattle.shelf.specs.Record.{Shelf}
 use lib.ListN.{length}
 use Rattle.berth.specs.Calls.{putIn}
 use Rattle.offer.proofs.Stands.{put-at}

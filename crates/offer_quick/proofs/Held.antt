@@ -26,9 +26,10 @@ use Rattle.section.specs.declared.Header.{Header}
 use Rattle.section.specs.declared.Reading.{Reading}
 use Rattle.section.specs.declared.Reading.the-variants as reading
 use Rattle.shelf.specs.Record.{placeAt, lengthAt, spoiledOf, placeOf, freeOf}
-use Rattle.shelf.specs.declared.Place.{Place}
-use Rattle.shelf.specs.declared.Shelf.{Shelf}
-use Rattle.offer.specs.Offer.{keyOf, newOf, heldOf, soundOf, offerOf}
+use Rattle.shelf.specs.Record.{Place}
+use Rattle.shelf.specs.Record.{Shelf}
+use Rattle.offer.specs.Offer.{newOf, heldOf, soundOf, offerOf}
+use Rattle.shelf.specs.Record.{keyOf}
 use Rattle.offer.specs.declared.Offered.{Offered}
 use Rattle.shelf_words.specs.Words.{count, placeIn, shelfIn, shelfAt}
 use Rattle.shelf_places.proofs.Here.{place-at, sound-in}

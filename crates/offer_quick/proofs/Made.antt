@@ -18,9 +18,10 @@ use Rattle.section.specs.declared.Reading.{Reading}
 use Rattle.section.specs.declared.Reading.the-variants as reading
 use Rattle.section.proofs.Laws.{SoundFacts, sound-facts}
 use Rattle.shelf.specs.Record.{placeAt, lengthAt, holds, spoiledOf, placeOf, freeOf}
-use Rattle.shelf.specs.declared.Shelf.{Shelf}
+use Rattle.shelf.specs.Record.{Shelf}
 use Rattle.shelf.proofs.Find.{place-le}
-use Rattle.offer.specs.Offer.{After, keyOf, newOf, heldOf, soundOf, readingOf, offerOf}
+use Rattle.offer.specs.Offer.{After, newOf, heldOf, soundOf, readingOf, offerOf}
+use Rattle.shelf.specs.Record.{keyOf}
 use Rattle.offer.specs.declared.Offered.{Offered}
 use Rattle.offer.proofs.Steps.{below}
 use Rattle.offer_quick.specs.declared.Frequent.{Frequent}

@@ -2,11 +2,12 @@
 use Prim.Native.Nat.{ℕ}
 use mathlib.Core.List.{List}
 use Rattle.shelf.specs.Record.{placeOf}
-use Rattle.shelf.specs.declared.Shelf.{Shelf}
+use Rattle.shelf.specs.Record.{Shelf}
 use Rattle.section.specs.Section.{readOf}
 use Rattle.section.specs.declared.Reading.{Reading}
 use Rattle.section.specs.declared.Reading.the-variants.{Sound, Refused}
-use Rattle.offer.specs.Offer.{keyOf, offerOf}
+use Rattle.offer.specs.Offer.{offerOf}
+use Rattle.shelf.specs.Record.{keyOf}
 use Rattle.offer.specs.declared.Offered.{Offered}
 use Rattle.offer_quick.specs.declared.Frequent.{Frequent}
 use Rattle.offer_quick.specs.declared.Frequent.the-variants.{Repeats, Adds, Other}

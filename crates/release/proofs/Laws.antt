@@ -4,7 +4,6 @@
 --   release-untouched                a refused release leaves record and store as they were
 --   released-zeros, released-spared  the sixteen berths of the place are zeros, and every other berth is as it was
 --   release-same                     what a free place happens to hold never matters
---   release-unique                   two answers that keep the promise are equal, with their records and stores
 use mathlib.Core.Path.{_≡_, refl, sym, ap, _∙_}
 use mathlib.Core.Bool.{true}
 use mathlib.Core.List.{List}
@@ -23,16 +22,15 @@ use Rattle.berth.specs.Berth.{berthSize, sections, places, standing}
 use Rattle.berth.proofs.Berths.{where-picked, where-spared}
 use Rattle.shelf.specs.Record.{Same, noPlace, freePlace, placeAt, withPlace, placeOf}
 use Rattle.shelf.specs.declared.Key.{Key}
-use Rattle.shelf.specs.declared.Place.{Place}
-use Rattle.shelf.specs.declared.Shelf.{Shelf}
+use Rattle.shelf.specs.Record.{Place}
+use Rattle.shelf.specs.Record.{Shelf}
 use Rattle.ask.specs.Ask.{unasked, holdingOf}
 use Rattle.ask.specs.declared.Holding.{Holding}
 use Rattle.ask.proofs.ExactlyWhen.{asked-table, asked-decided}
 use Rattle.ask.proofs.Held.{held}
 use Rattle.ask.proofs.Alike.{by-holding, holding-same}
-use Rattle.release.specs.Release.{After, after, numberOf, releaseOf}
+use Rattle.release.specs.Release.{After, numberOf, releaseOf}
 use Rattle.release.specs.declared.Released.{Released}
-use Rattle.release.specs.declared.Releasing.{Releasing}
 use Rattle.release.proofs.Steps.{refuse, done, release-refused, release-done}
 
 module _ (shelf : Shelf) (store : List ℕ) (key : Key) where
@@ -78,11 +76,6 @@ module _ (shelf : Shelf) (store : List ℕ) (key : Key) where
         let w = held shelf (length store) key p e in
         ap (λ a. standing (a .store) q m count) (release-done shelf store key p e)
         ∙ where-spared (λ _. true) store (w .whole) p (w .place) sections (omega arith) q m count h (λ r _ _. other r) l
-
-  pub release-unique : (x y : Releasing) (u v : List ℕ) → after x u ≡ releaseOf shelf store key → after y v ≡ releaseOf shelf store key
-      → (x .answer ≡ y .answer) × (x .shelf ≡ y .shelf) × (u ≡ v)
-  release-unique x y u v p q =
-      (ap (λ a. a .said) (p ∙ sym q), ap (λ a. a .shelf) (p ∙ sym q), ap (λ a. a .store) (p ∙ sym q))
 
 -- a taken place is one of the list
 there : (shelf : Shelf) (p : ℕ) → placeAt shelf p .taken ≡ true → p < length (shelf .places)

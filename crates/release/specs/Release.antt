@@ -6,10 +6,9 @@ use Rattle.base.specs.Choice.{first}
 use Rattle.berth.specs.Berth.{sections, wipedWhere}
 use Rattle.shelf.specs.Record.{freePlace, withPlace, placeOf}
 use Rattle.shelf.specs.declared.Key.{Key}
-use Rattle.shelf.specs.declared.Shelf.{Shelf}
+use Rattle.shelf.specs.Record.{Shelf}
 use Rattle.ask.specs.Ask.{unasked}
 use Rattle.release.specs.declared.Released.{Released}
-use Rattle.release.specs.declared.Releasing.{Releasing}
 
 -- what a call leaves: the answer, the record, the store
 pub record After : Type 0 where
@@ -21,10 +20,6 @@ pub record After : Type 0 where
 abbrev pub numberOf : Released → ℕ
 numberOf Released.Done = 0
 numberOf (Released.Refused n) = n
-
--- what the function gives, with the store at its exit
-abbrev pub after : Releasing → List ℕ → After
-after r store = record { said = r .answer; shelf = r .shelf; store = store }
 
 unfoldable pub releaseOf : Shelf → List ℕ → Key → After
 releaseOf shelf store key =

@@ -6,7 +6,7 @@ use Prim.Native.Nat.{ℕ}
 use lib.ListN.{length}
 use Rattle.shelf.specs.Record.{Same}
 use Rattle.shelf.specs.declared.Key.{Key}
-use Rattle.shelf.specs.declared.Shelf.{Shelf}
+use Rattle.shelf.specs.Record.{Shelf}
 use Rattle.ask.specs.Ask.{holdingOf}
 use Rattle.ask.proofs.Alike.{by-holding, holding-same, asked-same}
 use Rattle.save.specs.Save.{placeSaved, saveOf}

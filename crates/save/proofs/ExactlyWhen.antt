@@ -16,7 +16,7 @@ use Rattle.base.specs.Tables.{Rule, _says_, None, above, said, Agree}
 use Rattle.base.proofs.Tables.{words, given, passed, silent, among}
 use Rattle.shelf.specs.Record.{placeOf}
 use Rattle.shelf.specs.declared.Key.{Key}
-use Rattle.shelf.specs.declared.Shelf.{Shelf}
+use Rattle.shelf.specs.Record.{Shelf}
 use Rattle.ask.specs.Ask.{unasked, holdingOf}
 use Rattle.ask.specs.declared.Holding.{Holding}
 use Rattle.shelf.proofs.Words.{spoiled-exactly, not-held}

@@ -18,7 +18,7 @@ use Rattle.berth.specs.Berth.{berthSize, sections, laid}
 use Rattle.berth.proofs.Laid.{laid-length, laid-beside}
 use Rattle.shelf.specs.Record.{placeAt}
 use Rattle.shelf.specs.declared.Key.{Key}
-use Rattle.shelf.specs.declared.Shelf.{Shelf}
+use Rattle.shelf.specs.Record.{Shelf}
 use Rattle.ask.specs.Ask.{holdingOf}
 use Rattle.ask.specs.declared.Holding.{Holding}
 use Rattle.ask.proofs.Held.{held, asked-refused, asked-held}
@@ -26,7 +26,7 @@ use Rattle.number.specs.Number.{spelt}
 use Rattle.number.proofs.Bounds.{spelt-1-long, spelt-2-long}
 use Rattle.file.specs.Layout.{form, largestFile, listed, fileOf}
 use Rattle.save.specs.Sizes.{sizeOf, countOf, sizeBelow, countBelow, Berthed}
-use Rattle.save.specs.Save.{heldBelow, placeFile, save, refuse, unsaved, written, placeSaved, savedFile, saveOf}
+use Rattle.save.specs.Save.{Save, heldBelow, placeFile, save, refuse, unsaved, written, placeSaved, savedFile, saveOf}
 use Rattle.save.specs.declared.Saved.{Saved}
 use Rattle.save.proofs.Listing.{Stands, Ready, small, held-count, listed-size}
 
@@ -151,3 +151,8 @@ module _ (shelf : Shelf) (store : List ℕ) (key : Key) where
         sym
         (asked-held (refuse out) (unsaved (savedFile shelf store key) out) (written (savedFile shelf store key) out) shelf (length store) key p e
         ∙ ap (λ file. first (refuse out) (unsaved file out) (written file out)) (file-in p e))
+
+    -- by the lengths that were read
+    pub save-by : (p : ℕ) (e : holdingOf shelf (length store) key ≡ Holding.In p) {x : Save} {lengths : List ℕ}
+        → lengths ≡ placeAt shelf p .lengths → x ≡ placeSaved lengths store p out → x ≡ saveOf shelf store key out
+    save-by p e q s = s ∙ ap (λ l. placeSaved l store p out) q ∙ save-held p e

@@ -8,7 +8,7 @@ use Rattle.base.specs.Choice.{Row, _if_, first}
 use Rattle.berth.specs.Berth.{sections, standing}
 use Rattle.shelf.specs.Record.{placeOf}
 use Rattle.shelf.specs.declared.Key.{Key}
-use Rattle.shelf.specs.declared.Shelf.{Shelf}
+use Rattle.shelf.specs.Record.{Shelf}
 use Rattle.ask.specs.Ask.{unasked, asked}
 use Rattle.file.specs.Layout.{fileOf, chosen}
 use Rattle.file.specs.Scan.{holds}

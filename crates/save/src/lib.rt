@@ -3,11 +3,11 @@ use ask::Holding;
 use berth::SECTIONS;
 use number::Written;
 use shelf::Key;
-use shelf::Shelf;
 ghost use mathlib.Core.Path.{_≡_};
 ghost use Prim.Native.Nat.{_+_, _*_, _<_, _≤_};
 ghost use lib.ListN.{length};
 ghost use Rattle.berth.specs.Berth.{berthSize, places, sections, storeSize, laid};
+ghost use Rattle.shelf.specs.Layout.{shelfAt};
 ghost use Rattle.number.specs.Number.{spelt};
 ghost use Rattle.file.specs.Layout.{listed};
 ghost use Rattle.save.specs.Sizes.{heldOf, sizeOf, countOf, sizeBelow, countBelow, Berthed};
@@ -153,16 +153,12 @@ fn save_place(store: &[u8], p: usize, lengths: [u16; 16], out: &mut [u8]) -> Sav
 }
 
 // Saves the table with that key as a file at the front of the output; what lies past the file stays as it was.
-pub fn save_table(shelf: Shelf, store: &[u8], key: Key, out: &mut [u8]) -> Saved
-    ensures { λ r. ⌜ save r (now (out .exit)) ≡ saveOf shelf (now (store .entry)) key (now (out .entry)) ⌝ }
+pub fn save_table(words: &[u16], store: &[u8], key: Key, out: &mut [u8]) -> Saved
+    ensures { λ r. ⌜ save r (now (out .exit)) ≡ saveOf (shelfAt (now (words .entry))) (now (store .entry)) key (now (out .entry)) ⌝ }
 {
-    let holding = ask::held_in(shelf, store.len(), key);
+    let holding = ask::held_in(words, store.len(), key);
     match holding {
         Holding::Refused(no) => Saved::Refused(no),
-        Holding::In(p) => {
-            let place = shelf.places[p];
-            let lengths = place.lengths;
-            save_place(store, p, lengths, out)
-        }
+        Holding::In(p) => save_place(store, p, shelf::lengths_of(words, p), out),
     }
 }

@@ -1,3 +1,4 @@
 pub mod ExactlyWhen
 pub mod Reserved
 pub mod Laws
+pub mod Answers

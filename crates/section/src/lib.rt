@@ -2,6 +2,7 @@
 // A payload is one section, so a section that is longer or shorter than its payload is refused and never clipped.
 ghost use mathlib.Core.Path.{_≡_};
 ghost use Rattle.section.specs.Section.{readOf};
+ghost use Rattle.section.specs.Answer.{readingCode, soundCode};
 
 // What the header says, and where the body lies in the payload.
 pub struct Header {
@@ -98,4 +99,28 @@ pub fn read(payload: &[u8]) -> Reading
         start: HEADER,
         length,
     })
+}
+
+// A sound section in one number: each field begins at its bit.
+fn sound_code(h: Header) -> u64
+    ensures { λ r. ⌜ r ≡ soundCode h ⌝ }
+{
+    let table = h.table as u64 * answers::BIT_8;
+    let extension = h.extension as u64 * answers::BIT_16;
+    let version = h.version as u64 * answers::BIT_32;
+    let number = h.number as u64 * answers::BIT_40;
+    let last = h.last as u64 * answers::BIT_48;
+    table + extension + version + number + last
+}
+
+// The section that the payload is, in one number as a host gets it: 0 in the low 8 bits and the fields above, or the
+// refusal alone.
+pub fn read_code(payload: &[u8]) -> u64
+    ensures { λ r. ⌜ r ≡ readingCode (readOf (now (payload .entry))) ⌝ }
+{
+    let reading = read(payload);
+    match reading {
+        Reading::Sound(h) => sound_code(h),
+        Reading::Refused(n) => n as u64,
+    }
 }

@@ -16,17 +16,17 @@ use Rattle.base.specs.Below.{some, lowest}
 use Rattle.base.proofs.Cases.{by, same-or}
 use Rattle.berth.specs.Berth.{places, sections}
 use Rattle.shelf.specs.declared.Key.{Key}
-use Rattle.shelf.specs.declared.Place.{Place}
-use Rattle.shelf.specs.declared.Shelf.{Shelf}
+use Rattle.shelf.specs.Record.{Place}
+use Rattle.shelf.specs.Record.{Shelf}
 use Rattle.shelf.specs.Record.{noPlace, placeAt, withPlace, wrongAt, holds, sameKey, spoiledPlace, alike, spoiledOf, hasKey, placeOf, freeOf, Same}
 
 -- tests that agree below n
-some-alike : (f g : ℕ → Bool) (n : ℕ) → ((k : ℕ) → k < n → f k ≡ g k) → some n f ≡ some n g
+pub some-alike : (f g : ℕ → Bool) (n : ℕ) → ((k : ℕ) → k < n → f k ≡ g k) → some n f ≡ some n g
 unfolding some
 some-alike f g zero h = refl
 some-alike f g (suc n) h = rw (some-alike f g n (λ k l. h k (omega arith)), h n (omega arith))
 
-lowest-alike : (f g : ℕ → Bool) (n : ℕ) → ((k : ℕ) → k < n → f k ≡ g k) → lowest n f ≡ lowest n g
+pub lowest-alike : (f g : ℕ → Bool) (n : ℕ) → ((k : ℕ) → k < n → f k ≡ g k) → lowest n f ≡ lowest n g
 unfolding lowest
 lowest-alike f g zero h = refl
 lowest-alike f g (suc n) h = rw (lowest-alike f g n (λ k l. h k (omega arith)), h n (omega arith))

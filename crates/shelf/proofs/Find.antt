@@ -12,7 +12,7 @@ use Rattle.base.proofs.Below.{lowest-le, lowest-holds, lowest-below}
 use Rattle.base.proofs.Cases.{and-left}
 use Rattle.berth.specs.Berth.{places}
 use Rattle.shelf.specs.declared.Key.{Key}
-use Rattle.shelf.specs.declared.Shelf.{Shelf}
+use Rattle.shelf.specs.Record.{Shelf}
 use Rattle.shelf.specs.Record.{placeAt, sameKey, hasKey, placeOf, freeOf}
 
 pub lowest-at : (n : ℕ) {i : ℕ} (f : ℕ → Bool) → i ≡ n → lowest i f ≡ i → lowest n f ≡ n

@@ -1,7 +1,7 @@
-pub mod Gather
-pub mod Four
-pub mod Names
+pub mod Lists
 pub mod Find
 pub mod Words
 pub mod Equal
-pub mod Unique
+pub mod Numbers
+pub mod Writes
+pub mod Lent

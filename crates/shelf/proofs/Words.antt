@@ -19,8 +19,8 @@ use Rattle.base.proofs.Below.{some-which, some-found, lowest-all, lowest-below}
 use Rattle.base.proofs.Tables.{words, less, same, itself, or-so, and-so, not-so, fails, denied}
 use Rattle.berth.specs.Berth.{places, sections, berthSize}
 use Rattle.shelf.specs.declared.Key.{Key}
-use Rattle.shelf.specs.declared.Place.{Place}
-use Rattle.shelf.specs.declared.Shelf.{Shelf}
+use Rattle.shelf.specs.Record.{Place}
+use Rattle.shelf.specs.Record.{Shelf}
 use Rattle.shelf.specs.Record.{placeAt, lengthAt, holds, sameKey, wrongAt, spoiledPlace, alike, spoiledOf, hasKey, placeOf, freeOf}
 
 -- some number below n passes, in words

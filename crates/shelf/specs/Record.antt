@@ -7,10 +7,20 @@ use Prim.Native.Nat.{_<_}
 use lib.Dec.{ltb, eqb}
 use lib.ListN.{getD, set, replicate}
 use Rattle.base.specs.Below.{some, every, lowest}
+use Rattle.section.specs.declared.Header.{Header}
 use Rattle.berth.specs.Berth.{places, sections, berthSize}
 use Rattle.shelf.specs.declared.Key.{Key}
-use Rattle.shelf.specs.declared.Place.{Place}
-use Rattle.shelf.specs.declared.Shelf.{Shelf}
+
+-- a place: free, or a table with the byte length of each of its sixteen sections; 0 where a section is not held
+pub record Place : Type 0 where
+  pub taken : Bool
+  pub key : Key
+  pub version : ℕ
+  pub last : ℕ
+  pub lengths : List ℕ
+
+pub record Shelf : Type 0 where
+  pub places : List Place
 
 -- a place that is free, as a fresh shelf has it
 abbrev pub freePlace : Place
@@ -51,6 +61,10 @@ lengthAt place n = getD (place .lengths) n 0
 
 abbrev pub holds : Place → ℕ → Bool
 holds place n = not (eqb (lengthAt place n) 0)
+
+-- a table's key is its table id with its table id extension
+abbrev pub keyOf : Header → Key
+keyOf h = record { table = h .table; extension = h .extension }
 
 abbrev pub sameKey : Key → Key → Bool
 sameKey a b = eqb (a .table) (b .table) && eqb (a .extension) (b .extension)

@@ -1,13 +1,18 @@
-// The shelf's record (document 01, "The shelf"): four places, each free or with one table of sixteen sections. The
-// record goes in by value and comes back; any value of its type may be handed in, so every call asks `spoiled` first.
+// The shelf's record as the host lends it (document 01, "The shelf"): four places, each free or with one table of sixteen
+// sections, in 84 numbers of 16 bits. What a number means is in specs/Layout. Any numbers may be lent: a call that names no
+// place of a record finds nothing and writes nothing.
+use berth::PLACES;
+use berth::SECTIONS;
+use section::Header;
 ghost use mathlib.Core.Path.{_≡_};
-ghost use mathlib.Core.Bool.{not, _&&_, _||_};
-ghost use Prim.Native.Nat.{_≤_, _<_};
-ghost use lib.Dec.{ltb, eqb};
-ghost use Rattle.berth.specs.Berth.{berthSize, places, sections};
-ghost use Rattle.shelf.specs.Record.{fresh, spoiledOf, alike, placeOf, freeOf};
-ghost use Rattle.base.specs.Below.{some};
-ghost use Rattle.shelf.specs.Parts.{headSpoiled, wrongInOne, nothingHeld, orFour, Named};
+ghost use Prim.Native.Nat.{_+_, _*_, _^_, _<_, _≤_};
+ghost use lib.Bits.{bitOr};
+ghost use lib.ListN.{length, getD};
+ghost use Rattle.berth.specs.Berth.{places, sections};
+ghost use Rattle.shelf.specs.Record.{keyOf, hasKey};
+ghost use Rattle.base.specs.Bits.{bit};
+ghost use Rattle.shelf.specs.Layout.{count, heldLength, placeIn, placeAmong, freeAmong, versionAmong, lastAmong, maskAmong, lengthAmong, lengthsAmong};
+ghost use Rattle.shelf.specs.Writes.{heldIn, rowIn, heldPut, headPut, freedPut, freshPut, freshNumber};
 
 // What tells one table from another.
 pub struct Key {
@@ -15,18 +20,18 @@ pub struct Key {
     pub extension: u16,
 }
 
-// A place: free, or a table with the byte length of each held section. Length 0: that section is not held.
-pub struct Place {
-    pub taken: bool,
-    pub key: Key,
-    pub version: u8,
-    pub last: u8,
-    pub lengths: [u16; 16],
+// The key of a section.
+pub fn key_of(header: Header) -> Key
+    ensures { λ r. ⌜ r ≡ keyOf header ⌝ }
+{
+    Key {
+        table: header.table,
+        extension: header.extension,
+    }
 }
 
-pub struct Shelf {
-    pub places: [Place; 4],
-}
+// The numbers of a record.
+pub const WORDS: usize = 84;
 
 pub const STORE_SIZE: u8 = 17;
 
@@ -34,142 +39,41 @@ pub const SHELF_SPOILED: u8 = 18;
 
 pub const TABLE_NOT_HELD: u8 = 14;
 
-// 18 is for a version above 31, a last above 15, and a length outside 8 to 1,024.
-const HIGHEST_VERSION: u8 = 31;
+// Where the heads begin, how many numbers each has, and where the masks begin.
+const HEADS: usize = 64;
 
-const HIGHEST_LAST: u8 = 15;
+const HEAD: usize = 4;
 
-const SHORTEST: u16 = 8;
+const MASKS: usize = 80;
 
-const LONGEST: u16 = berth::BERTH as u16;
+// Added to the table id of a taken place.
+const TAKEN: u16 = 256;
 
-// How many extensions there are, and how many keys.
-const EXTENSIONS: u32 = 65536;
-
-const KEYS: u32 = 16777216;
-
-// The section numbers, to be compared a whole table at a time.
-const NUMBERS: [u8; 16] = [0, 1, 2, 3, 4, 5, 6, 7, 8, 9, 10, 11, 12, 13, 14, 15];
-
-// Whether, in a taken place, a section is held that is above last or whose length is outside 8 to 1,024.
-fn wrong_at(taken: bool, last: u8, number: u8, length: u16) -> bool
-    ensures { λ r. ⌜ r ≡ (taken && (not (eqb length 0) && (ltb last number || (ltb length 8 || ltb berthSize length)))) ⌝ }
+fn half(x: u8) -> u16
+    ensures { λ r. ⌜ (r ≡ x) × (r < 256) ⌝ }
 {
-    taken & ((length != 0) & ((last < number) | ((length < SHORTEST) | (LONGEST < length))))
+    x as u16
 }
 
-// Whether a taken place has a wrong length, or nothing held. One pass over the sixteen numbers of all four places,
-// without a branch on what they hold: the compiler makes wide operations of it.
-fn lengths_spoiled(a: Place, b: Place, c: Place, d: Place) -> bool
-    ensures { λ r. ⌜ r ≡ (some sections (wrongInOne a b c d)
-        || orFour (nothingHeld a) (nothingHeld b) (nothingHeld c) (nothingHeld d)) ⌝ }
+// Whether the table with that key is in place p. The table id is compared together with the sign that the place is taken.
+fn has_key(words: &[u16], p: usize, key: Key) -> bool
+    requires { ⌜ (length (now words) ≡ count) × (p < places) ⌝ }
+    ensures { λ r. ⌜ r ≡ hasKey (placeIn (now (words .entry)) p) key ⌝ }
 {
-    let numbers = NUMBERS;
-    let taken_a = a.taken;
-    let taken_b = b.taken;
-    let taken_c = c.taken;
-    let taken_d = d.taken;
-    let last_a = a.last;
-    let last_b = b.last;
-    let last_c = c.last;
-    let last_d = d.last;
-    let mut wrong = false;
-    let mut held_a = false;
-    let mut held_b = false;
-    let mut held_c = false;
-    let mut held_d = false;
-    let mut i: usize = 0;
-    while i < berth::SECTIONS {
-        let number = numbers[i];
-        let length_a = a.lengths[i];
-        let length_b = b.lengths[i];
-        let length_c = c.lengths[i];
-        let length_d = d.lengths[i];
-        wrong = wrong
-            | (((wrong_at(taken_a, last_a, number, length_a)
-                | wrong_at(taken_b, last_b, number, length_b))
-                | wrong_at(taken_c, last_c, number, length_c))
-                | wrong_at(taken_d, last_d, number, length_d));
-        held_a = held_a | (length_a != 0);
-        held_b = held_b | (length_b != 0);
-        held_c = held_c | (length_c != 0);
-        held_d = held_d | (length_d != 0);
-        i += 1;
-    }
-    wrong
-        | ((((taken_a & !held_a) | (taken_b & !held_b)) | (taken_c & !held_c))
-            | (taken_d & !held_d))
-}
-
-// Whether a taken place has a version above 31 or a last above 15.
-fn head_spoiled(place: Place) -> bool
-    ensures { λ r. ⌜ r ≡ headSpoiled place ⌝ }
-{
-    place.taken & ((HIGHEST_VERSION < place.version) | (HIGHEST_LAST < place.last))
-}
-
-// A number for the key of a taken place p; a free place has a number that no key has, and no other place.
-fn named(place: Place, p: u32) -> u32
-    requires { ⌜ p < places ⌝ }
-    ensures { λ r. ⌜ Named place p r ⌝ }
-{
-    if place.taken {
-        let table = place.key.table as u32;
-        let extension = place.key.extension as u32;
-        return table * EXTENSIONS + extension;
-    }
-    KEYS + p
-}
-
-// Whether two taken places have one key.
-fn keys_spoiled(a: Place, b: Place, c: Place, d: Place) -> bool
-    ensures { λ r. ⌜ r ≡ ((alike a b || (alike a c || alike b c)) || ((alike a d || alike b d) || alike c d)) ⌝ }
-{
-    let name_a = named(a, 0);
-    let name_b = named(b, 1);
-    let name_c = named(c, 2);
-    let name_d = named(d, 3);
-    ((name_a == name_b) | ((name_a == name_c) | (name_b == name_c)))
-        | (((name_a == name_d) | (name_b == name_d)) | (name_c == name_d))
-}
-
-// Whether a shelf record is spoiled (18). Every test is made, whatever the others say: no branch depends on the record.
-pub fn spoiled(shelf: Shelf) -> bool
-    ensures { λ r. ⌜ r ≡ spoiledOf shelf ⌝ }
-{
-    let a = shelf.places[0];
-    let b = shelf.places[1];
-    let c = shelf.places[2];
-    let d = shelf.places[3];
-    let heads = ((head_spoiled(a) | head_spoiled(b)) | head_spoiled(c)) | head_spoiled(d);
-    (heads | lengths_spoiled(a, b, c, d)) | keys_spoiled(a, b, c, d)
-}
-
-// A fresh shelf: four free places.
-pub fn fresh() -> Shelf
-    ensures { λ r. ⌜ r ≡ fresh ⌝ }
-{
-    let free = Place {
-        taken: false,
-        key: Key {
-            table: 0,
-            extension: 0,
-        },
-        version: 0,
-        last: 0,
-        lengths: [0; 16],
-    };
-    Shelf { places: [free; 4] }
+    let first = TAKEN + half(key.table);
+    (words[HEADS + 1 + HEAD * p] == key.extension) & (words[HEADS + HEAD * p] == first)
 }
 
 // The place of a key, or 4 where it is not held.
-pub fn place_of(shelf: Shelf, key: Key) -> usize
-    ensures { λ r. ⌜ (r ≡ placeOf shelf key) × (r ≤ places) ⌝ }
+pub fn place_of(words: &[u16], key: Key) -> usize
+    ensures { λ r. ⌜ (r ≡ placeAmong (now (words .entry)) key) × (r ≤ places) ⌝ }
 {
+    if words.len() != WORDS {
+        return PLACES;
+    }
     let mut p: usize = 0;
-    while p < berth::PLACES {
-        let place = shelf.places[p];
-        if place.taken & ((place.key.table == key.table) & (place.key.extension == key.extension)) {
+    while p < PLACES {
+        if has_key(words, p, key) {
             return p;
         }
         p += 1;
@@ -178,16 +82,209 @@ pub fn place_of(shelf: Shelf, key: Key) -> usize
 }
 
 // The lowest free place, or 4 where there is none.
-pub fn free_of(shelf: Shelf) -> usize
-    ensures { λ r. ⌜ (r ≡ freeOf shelf) × (r ≤ places) ⌝ }
+pub fn free_of(words: &[u16]) -> usize
+    ensures { λ r. ⌜ (r ≡ freeAmong (now (words .entry))) × (r ≤ places) ⌝ }
 {
+    if words.len() != WORDS {
+        return PLACES;
+    }
     let mut free: usize = 0;
-    while free < berth::PLACES {
-        let place = shelf.places[free];
-        if !place.taken {
+    while free < PLACES {
+        if words[HEADS + HEAD * free] / TAKEN != 1 {
             return free;
         }
         free += 1;
     }
     free
+}
+
+// The version of the table in place p.
+pub fn version_of(words: &[u16], p: usize) -> u16
+    ensures { λ r. ⌜ r ≡ versionAmong (now (words .entry)) p ⌝ }
+{
+    if words.len() != WORDS {
+        return 0;
+    }
+    if PLACES <= p {
+        return 0;
+    }
+    words[HEADS + 2 + HEAD * p]
+}
+
+// Its last number.
+pub fn last_of(words: &[u16], p: usize) -> u16
+    ensures { λ r. ⌜ r ≡ lastAmong (now (words .entry)) p ⌝ }
+{
+    if words.len() != WORDS {
+        return 0;
+    }
+    if PLACES <= p {
+        return 0;
+    }
+    words[HEADS + 3 + HEAD * p]
+}
+
+// Which of its sections are held: bit n is 1 for section n.
+pub fn mask_of(words: &[u16], p: usize) -> u16
+    ensures { λ r. ⌜ r ≡ maskAmong (now (words .entry)) p ⌝ }
+{
+    if words.len() != WORDS {
+        return 0;
+    }
+    if PLACES <= p {
+        return 0;
+    }
+    words[MASKS + p]
+}
+
+fn held_length(mask: u16, n: usize, size: u16) -> u16
+    requires { ⌜ n < sections ⌝ }
+    ensures { λ r. ⌜ r ≡ heldLength (bit mask n) size ⌝ }
+{
+    if (mask >> n) % 2 == 1 {
+        if size == 0 {
+            return 1;
+        }
+        return size;
+    }
+    0
+}
+
+// The length of its section n, 0 where that is not held.
+pub fn length_of(words: &[u16], p: usize, n: usize) -> u16
+    ensures { λ r. ⌜ r ≡ lengthAmong (now (words .entry)) p n ⌝ }
+{
+    if words.len() != WORDS {
+        return 0;
+    }
+    if PLACES <= p {
+        return 0;
+    }
+    if SECTIONS <= n {
+        return 0;
+    }
+    held_length(words[MASKS + p], n, words[SECTIONS * p + n])
+}
+
+// The lengths of its sixteen sections.
+pub fn lengths_of(words: &[u16], p: usize) -> [u16; 16]
+    ensures { λ r. ⌜ r ≡ lengthsAmong (now (words .entry)) p ⌝ }
+{
+    let mut lengths = [0u16; 16];
+    let mut n: usize = 0;
+    while n < SECTIONS {
+        lengths[n] = length_of(words, p, n);
+        n += 1;
+    }
+    lengths
+}
+
+fn with_bit(mask: u16, n: usize) -> u16
+    requires { ⌜ n < sections ⌝ }
+    ensures { λ r. ⌜ r ≡ bitOr mask (2 ^ n) ⌝ }
+{
+    mask | (1u16 << n)
+}
+
+fn put_length(words: &mut [u16], p: usize, n: usize, size: u16)
+    requires { ⌜ (length (now words) ≡ count) × (p < places) × (n < sections) ⌝ }
+    ensures { λ _. ⌜ now (words .exit) ≡ heldIn (now (words .entry)) p n size ⌝ }
+{
+    let mask = with_bit(words[MASKS + p], n);
+    words[SECTIONS * p + n] = size;
+    words[MASKS + p] = mask;
+}
+
+// Section n of the table in place p is held from here on.
+pub fn put_held(words: &mut [u16], p: usize, n: usize, size: u16)
+    ensures { λ _. ⌜ now (words .exit) ≡ heldPut (now (words .entry)) p n size ⌝ }
+{
+    if words.len() != WORDS {
+        return;
+    }
+    if PLACES <= p {
+        return;
+    }
+    if SECTIONS <= n {
+        return;
+    }
+    put_length(words, p, n, size);
+}
+
+// The head and the mask of place p.
+fn put_row(words: &mut [u16], p: usize, a: u16, b: u16, c: u16, d: u16, mask: u16)
+    requires { ⌜ (length (now words) ≡ count) × (p < places) ⌝ }
+    ensures { λ _. ⌜ now (words .exit) ≡ rowIn (now (words .entry)) p a b c d mask ⌝ }
+{
+    words[HEADS + HEAD * p] = a;
+    words[HEADS + 1 + HEAD * p] = b;
+    words[HEADS + 2 + HEAD * p] = c;
+    words[HEADS + 3 + HEAD * p] = d;
+    words[MASKS + p] = mask;
+}
+
+// Place p is taken by a table that holds nothing yet.
+pub fn put_head(words: &mut [u16], p: usize, key: Key, version: u8, last: u8)
+    ensures { λ _. ⌜ now (words .exit) ≡ headPut (now (words .entry)) p key version last ⌝ }
+{
+    if words.len() != WORDS {
+        return;
+    }
+    if PLACES <= p {
+        return;
+    }
+    put_row(
+        words,
+        p,
+        TAKEN + half(key.table),
+        key.extension,
+        half(version),
+        half(last),
+        0,
+    );
+}
+
+// Place p is free.
+pub fn put_free(words: &mut [u16], p: usize)
+    ensures { λ _. ⌜ now (words .exit) ≡ freedPut (now (words .entry)) p ⌝ }
+{
+    if words.len() != WORDS {
+        return;
+    }
+    if PLACES <= p {
+        return;
+    }
+    put_row(words, p, p as u16, 0, 0, 0, 1);
+}
+
+// Number k of a fresh record. The head of a free place is like no other, and each section has a length, so that the record passes
+// the quick test for 18.
+fn fresh_number(k: usize) -> u16
+    requires { ⌜ k < count ⌝ }
+    ensures { λ r. ⌜ r ≡ freshNumber k ⌝ }
+{
+    if k < HEADS {
+        return 8;
+    }
+    if k < MASKS {
+        if k % HEAD == 0 {
+            return ((k - HEADS) / HEAD) as u16;
+        }
+        return 0;
+    }
+    1
+}
+
+// A fresh record: four free places.
+pub fn put_fresh(words: &mut [u16])
+    ensures { λ _. ⌜ now (words .exit) ≡ freshPut (now (words .entry)) ⌝ }
+{
+    if words.len() != WORDS {
+        return;
+    }
+    let mut i: usize = 0;
+    while i < WORDS {
+        words[i] = fresh_number(i);
+        i += 1;
+    }
 }

@@ -6,7 +6,7 @@ use Prim.Native.Nat.{ℕ}
 use Rattle.answers.specs.Answers.{Lent, lent}
 use Rattle.answers.proofs.Same.{re-word}
 use Rattle.shelf.specs.declared.Key.{Key}
-use Rattle.shelf.specs.declared.Shelf.{Shelf}
+use Rattle.shelf.specs.Record.{Shelf}
 use lib.ListN.{length}
 use borrow.Author.Tests.{eq-eqb}
 use Rattle.berth.specs.Berth.{storeSize}

@@ -27,7 +27,7 @@ use Rattle.berth.proofs.Berths.{Spared, standing-first}
 use Rattle.shelf.specs.Record.{placeAt, withPlace, lengthAt, holds, sameKey, hasKey, spoiledOf, placeOf, freeOf}
 use Rattle.shelf.specs.declared.Key.{Key}
 use Rattle.shelf.proofs.Words.{Wrong}
-use Rattle.offer.specs.Offer.{keyOf}
+use Rattle.shelf.specs.Record.{keyOf}
 use Rattle.file.specs.Layout.{sameTable}
 use Rattle.file.specs.Scan.{scanOf}
 use Rattle.file.specs.declared.Scan.{Scan}

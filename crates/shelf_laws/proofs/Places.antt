@@ -24,8 +24,8 @@ use Rattle.base.proofs.Tables.{fails, denied}
 use Rattle.berth.specs.Berth.{places, sections, berthSize}
 use Rattle.shelf.specs.Record.{noPlace, placeAt, withPlace, lengthAt, holds, sameKey, spoiledOf, hasKey, placeOf, freeOf}
 use Rattle.shelf.specs.declared.Key.{Key}
-use Rattle.shelf.specs.declared.Place.{Place}
-use Rattle.shelf.specs.declared.Shelf.{Shelf}
+use Rattle.shelf.specs.Record.{Place}
+use Rattle.shelf.specs.Record.{Shelf}
 use Rattle.shelf.proofs.Words.{Held, Wrong, OneKey, Spoiled, decided, SoundPlace, one-place}
 use Rattle.shelf_laws.specs.State.{Formed}
 

@@ -18,7 +18,7 @@ use Rattle.section.specs.Section.{headerOf, version, sectionNumber, lastSection
 use Rattle.section.proofs.Laws.{SoundFacts}
 use Rattle.berth.specs.Berth.{sections, places, storeSize, put, standing}
 use Rattle.shelf.specs.Record.{placeAt, withPlace, lengthAt, holds, hasKey, placeOf}
-use Rattle.shelf.specs.declared.Place.{Place}
+use Rattle.shelf.specs.Record.{Place}
 use Rattle.shelf.proofs.Words.{Wrong, SoundPlace, sound-place}
 use Rattle.offer.specs.Offer.{begunPlace, addedPlace}
 use Rattle.shelf_laws.specs.State.{State}

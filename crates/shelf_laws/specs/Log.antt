@@ -7,7 +7,7 @@ use Rattle.base.specs.Choice.{if_then_else_}
 use Rattle.section.specs.Section.{sectionNumber, lastSectionNumber}
 use Rattle.shelf.specs.Record.{sameKey}
 use Rattle.shelf.specs.declared.Key.{Key}
-use Rattle.offer.specs.Offer.{keyOf}
+use Rattle.shelf.specs.Record.{keyOf}
 use Rattle.file.specs.Scan.{scanOf}
 use Rattle.file.specs.declared.Scan.{Scan}
 use Rattle.shelf_laws.specs.File.{carries, sectionIn}

@@ -8,8 +8,8 @@ use Rattle.section.specs.Section.{headerOf, sectionNumber}
 use Rattle.berth.specs.Berth.{places}
 use Rattle.shelf.specs.Record.{placeAt, holds, placeOf, freeOf}
 use Rattle.shelf.specs.declared.Key.{Key}
-use Rattle.shelf.specs.declared.Shelf.{Shelf}
-use Rattle.offer.specs.Offer.{keyOf}
+use Rattle.shelf.specs.Record.{Shelf}
+use Rattle.shelf.specs.Record.{keyOf}
 use Rattle.offer.specs.declared.Offered.{Offered}
 use Rattle.release.specs.declared.Released.{Released}
 use Rattle.load.specs.declared.Loaded.{Loaded}

@@ -6,7 +6,7 @@ use lib.ListN.{length}
 use Rattle.berth.specs.Berth.{places, sections}
 use Rattle.shelf.specs.Record.{placeAt}
 use Rattle.shelf.specs.declared.Key.{Key}
-use Rattle.shelf.specs.declared.Shelf.{Shelf}
+use Rattle.shelf.specs.Record.{Shelf}
 use Rattle.offer.specs.Offer as Offer
 use Rattle.release.specs.Release as Release
 use Rattle.ask.specs.Ask as Ask

@@ -17,8 +17,8 @@ use Rattle.base.specs.Choice.{if_then_else_}
 use Rattle.base.proofs.Cases.{by, same-or}
 use Rattle.berth.specs.Berth.{places}
 use Rattle.shelf.specs.Record.{noPlace, placeAt, withPlace}
-use Rattle.shelf.specs.declared.Place.{Place}
-use Rattle.shelf.specs.declared.Shelf.{Shelf}
+use Rattle.shelf.specs.Record.{Place}
+use Rattle.shelf.specs.Record.{Shelf}
 use Rattle.shelf_words.specs.Words.{count, over, placeIn, shelfIn, shelfAt, placeWords, shelfWords, putAt, placeSet, wordsAfter}
 use Rattle.shelf_places.specs.Places.{lengthened, withLength, lengthPut, tablePut, marked, tidied, allTidied}
 use Rattle.shelf_places.proofs.Here.{place-at}

@@ -8,8 +8,8 @@ use Rattle.base.specs.Choice.{if_then_else_}
 use Rattle.berth.specs.Berth.{places, sections}
 use Rattle.shelf.specs.Record.{placeAt, withPlace, placeOf, freeOf}
 use Rattle.shelf.specs.declared.Key.{Key}
-use Rattle.shelf.specs.declared.Place.{Place}
-use Rattle.shelf.specs.declared.Shelf.{Shelf}
+use Rattle.shelf.specs.Record.{Place}
+use Rattle.shelf.specs.Record.{Shelf}
 use Rattle.shelf_words.specs.Words.{perPlace, count, over, shelfIn, wordsAfter}
 
 -- the place of a key, and the lowest free one, or 4; any other count of numbers than 76 has neither

@@ -22,7 +22,7 @@ use Rattle.base.proofs.Below.{some-all}
 use Rattle.base.proofs.Cases.{by, unlike, and-left, and-right, or-left, or-right}
 use Rattle.shelf.specs.Record.{lengthAt, holds, wrongAt, alike, spoiledOf}
 use Rattle.shelf.specs.Parts.{Named, headSpoiled, nothingHeld, orFour, wrongInOne}
-use Rattle.shelf.specs.declared.Place.{Place}
+use Rattle.shelf.specs.Record.{Place}
 use Rattle.shelf.proofs.Four.{spoiled-parts}
 use Rattle.shelf_words.specs.Words.{placeIn, shelfIn, shelfAt}
 use Rattle.shelf_quick.specs.Quick.{FineHead, FineLengths, keyNumber, twoAlike}

@@ -8,7 +8,7 @@ use mathlib.Core.List.{List}
 use lib.ListN.{getD}
 use Rattle.berth.specs.Berth.{sections, berthSize}
 use Rattle.shelf.specs.Record.{alike}
-use Rattle.shelf.specs.declared.Place.{Place}
+use Rattle.shelf.specs.Record.{Place}
 
 -- the place whose numbers start at `at` has a version of at most 31, and a last of at most 15
 pub record FineHead (words : List ℕ) (at : ℕ) : Type 0 where

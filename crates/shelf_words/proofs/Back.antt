@@ -12,8 +12,8 @@ use lib.Seq.{take-at, drop-at, getD-drop, drop-drop}
 use borrow.Author.Tests.{eq-eqb, ne-eqb}
 use Rattle.base.specs.Bytes.{part}
 use Rattle.shelf.specs.Record.{placeAt}
-use Rattle.shelf.specs.declared.Place.{Place}
-use Rattle.shelf.specs.declared.Shelf.{Shelf}
+use Rattle.shelf.specs.Record.{Place}
+use Rattle.shelf.specs.Record.{Shelf}
 use Rattle.shelf_words.specs.Words.{perPlace, placeIn, shelfIn, over, placeWords, shelfWords}
 use Rattle.shelf_words.proofs.Copies.{place-long}
 

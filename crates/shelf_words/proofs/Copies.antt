@@ -18,8 +18,8 @@ use Rattle.base.specs.Choice.{if_then_else_}
 use Rattle.base.specs.Bytes.{part}
 use Rattle.shelf_words.specs.Words.{over, placeWords, putAt, placeSet, shelfWords}
 use Rattle.shelf.specs.Record.{placeAt}
-use Rattle.shelf.specs.declared.Place.{Place}
-use Rattle.shelf.specs.declared.Shelf.{Shelf}
+use Rattle.shelf.specs.Record.{Place}
+use Rattle.shelf.specs.Record.{Shelf}
 
 module _ (words : List ℕ) (at : ℕ) (fits : at + 16 ≤ length words) where
   pub gathered-more : (l : List ℕ) (i : ℕ) → length l ≡ 16 → i < 16 → take i l ≡ take i (drop at words) →

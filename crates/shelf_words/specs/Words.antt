@@ -8,8 +8,8 @@ use Rattle.berth.specs.Berth.{places, sections}
 use Rattle.base.specs.Choice.{if_then_else_}
 use Rattle.base.specs.Bytes.{part}
 use Rattle.shelf.specs.Record.{placeAt, withPlace, fresh}
-use Rattle.shelf.specs.declared.Place.{Place}
-use Rattle.shelf.specs.declared.Shelf.{Shelf}
+use Rattle.shelf.specs.Record.{Place}
+use Rattle.shelf.specs.Record.{Shelf}
 
 -- the numbers of a place, and of a record
 abbrev pub perPlace : ℕ

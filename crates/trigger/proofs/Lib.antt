@@ -1,1 +1,14 @@
 pub mod Lengths
+pub mod Ids
+pub mod Answers
+pub mod Laid
+pub mod Clean
+pub mod Unrolled
+pub mod Names
+pub mod Aims
+pub mod Reading
+pub mod Repeats
+pub mod ExactlyWhen
+pub mod Places
+pub mod Belonging
+pub mod Unique

@@ -60,8 +60,3 @@ triggerOf s =
 -- the first fault from the left, or the trigger
 unfoldable pub readOf : List ℕ → Answer
 readOf s = first Answer.Refused (faults s) (Answer.Trigger (triggerOf s))
-
--- the paper's number of an answer, 0 for none
-abbrev pub numberOf : Answer → ℕ
-numberOf (Answer.Trigger t) = 0
-numberOf (Answer.Refused n) = n

@@ -1,10 +1,12 @@
-// An A/93 trigger: read whole from a payload, or refused by the first fault from the left. Texts and bytes are answered
-// as places in the payload, so nothing is copied.
+// An A/93 trigger: read whole from a payload, or refused by the first fault from the left; and whether it belongs to an
+// application. Texts and bytes are answered as places in the payload, so nothing is copied.
 ghost use mathlib.Core.Path.{_≡_};
 ghost use Prim.Native.Nat.{_+_, _≤_};
 ghost use lib.ListN.{length};
-ghost use Rattle.base.specs.Bytes.{word};
-ghost use Rattle.trigger_faults.specs.Fields.{headFault, targetFault, targetAt, userAt, Sound};
+ghost use Rattle.base.specs.Bytes.{word, same};
+ghost use Rattle.trigger_faults.specs.Fields.{targetAt, userAt};
+ghost use Rattle.trigger_faults.specs.Parts.{headFault, targetFault, Sound};
+ghost use Rattle.trigger.specs.Belongs.{belongsOf};
 ghost use Rattle.trigger.specs.Trigger.{descriptionOf, idOf, moduleOf, targetOf, triggerOf, readOf};
 use trigger_faults::ABSOLUTE_URI;
 use trigger_faults::HTTP_URI;
@@ -172,4 +174,44 @@ pub fn read_trigger(payload: &[u8]) -> Answer
         Parts::Faulty(n) => Answer::Refused(n),
         Parts::Placed(at, tail) => Answer::Trigger(trigger_of(payload, at, tail)),
     }
+}
+
+// Whether two runs of bytes are the same. All are looked at: a loop without an exit is one of wide steps.
+fn is_same(found: &[u8], id: &[u8]) -> bool
+    ensures { λ r. ⌜ r ≡ same (now (found .entry)) (now (id .entry)) ⌝ }
+{
+    let count = found.len();
+    if count != id.len() {
+        return false;
+    }
+    let mut equal = true;
+    let mut i = 0;
+    while i < count {
+        equal = equal & (found[i] == id[i]);
+        i += 1;
+    }
+    equal
+}
+
+// Whether a trigger that was read from a payload belongs to the application with an id. Any trigger may be handed in with
+// any payload: one that names an application by bytes that do not lie in the payload belongs to none.
+pub fn belongs(payload: &[u8], trigger: Trigger, application: &[u8]) -> bool
+    ensures { λ r. ⌜ r ≡ belongsOf (now (payload .entry)) trigger (now (application .entry)) ⌝ }
+{
+    let idlength = trigger.idlength;
+    if idlength == 0 {
+        return true;
+    }
+    let id = trigger.id;
+    let place = id.place;
+    let count = id.length;
+    let size = payload.len();
+    if size < place {
+        return false;
+    }
+    if size - place < count {
+        return false;
+    }
+    let end = place + count;
+    is_same(&payload[place..end], application)
 }

@@ -1,8 +1,6 @@
 -- A trigger's places and lengths fit 16 bits, since none has more than 4,096 bytes.
---   narrow          of every trigger that is read
---   by-its-numbers  whether a trigger belongs is told by the numbers of its application id alone
-use mathlib.Core.Path.{_≡_, refl}
-use mathlib.Core.Bool.{Bool}
+--   narrow       of every trigger that is read
+use mathlib.Core.Path.{_≡_}
 use mathlib.Core.List.{List}
 use Prim.Native.Nat.{ℕ, _+_, _<_, _≤_}
 use native.Mathlib.Omega.{arith}
@@ -13,11 +11,10 @@ use Rattle.trigger.specs.declared.Extent.{Extent}
 use Rattle.trigger.specs.declared.Target.{Target}
 use Rattle.trigger.specs.declared.Trigger.{Trigger}
 use Rattle.trigger.specs.Trigger.{readOf}
-use Rattle.belonging.specs.Belongs.{belongsOf}
-use Rattle.trigger_laws.specs.Places.{TargetLies}
-use Rattle.trigger_laws.proofs.Places.{placed}
-use Rattle.trigger_laws.proofs.Clean.{reads-clean}
-use Rattle.trigger_answers.specs.Trigger.{NarrowTarget, NarrowTrigger, named}
+use Rattle.trigger.specs.Places.{TargetLies}
+use Rattle.trigger.proofs.Places.{all-placed}
+use Rattle.trigger.proofs.Clean.{reads-clean}
+use Rattle.trigger_answers.specs.Aim.{NarrowTarget, NarrowTrigger}
 
 narrow-target : (from to : ℕ) (t : Target) → to ≤ 4096 → TargetLies from to t → NarrowTarget t
 narrow-target from to Target.None h l = tt
@@ -30,7 +27,7 @@ narrow-target from to (Target.Reserved r) h l = (omega arith, omega arith)
 
 pub narrow : (s : List ℕ) → Octets s → (t : Trigger) → readOf s ≡ Answer.Trigger t → NarrowTrigger t
 narrow s o t e =
-    let p = placed s o t e in
+    let p = all-placed s o t e in
     let small : length s ≤ 4096 = reads-clean s t e .0 .head .small in
     let user : t .user .place + t .user .length ≡ length s = p .user in
     let id : t .id .place + t .id .length ≤ t .user .place = p .id .1 in
@@ -39,7 +36,3 @@ narrow s o t e =
       target = narrow-target (t .id .place + t .id .length) (t .user .place) (t .target) (omega arith) (p .target);
       user = (omega arith, omega arith);
     }
-
-pub by-its-numbers : (s id : List ℕ) (t : Trigger) → belongsOf s (named (t .idlength) (t .id .place) (t .id .length)) id ≡ belongsOf s t id
-unfolding belongsOf
-by-its-numbers s id t = refl

@@ -1,1 +1,2 @@
-pub mod Trigger
+pub mod Aim
+pub mod Lent

@@ -3,16 +3,15 @@ ghost use mathlib.Core.Path.{_≡_};
 ghost use mathlib.Core.List.{_++_};
 ghost use Prim.Native.Nat.{_≤_, _<_};
 ghost use lib.ListN.{length, drop};
-ghost use Rattle.trigger.specs.Trigger.{readOf};
-ghost use Rattle.belonging.specs.Belongs.{belongsOf};
-ghost use Rattle.trigger_answers.specs.Trigger.{aimOf, numbersOf, answerOf, fieldsOf, Narrow, NarrowTarget, NarrowTrigger, named};
+ghost use Rattle.answers.specs.Answers.{out as outOf};
+ghost use Rattle.trigger.specs.Belongs.{belongsOf};
+ghost use Rattle.trigger.specs.Answer.{numbersOf};
+ghost use Rattle.trigger_answers.specs.Aim.{aimOf, Narrow, NarrowTarget, NarrowTrigger};
+ghost use Rattle.trigger_answers.specs.Lent.{triggerLent, withId};
 use trigger::Answer;
 use trigger::Extent;
 use trigger::Target;
 use trigger::Trigger;
-
-// The output is too small.
-const OUTPUT_TOO_SMALL: u8 = 15;
 
 // How many numbers a trigger is answered in.
 const NUMBERS: usize = 11;
@@ -44,7 +43,7 @@ struct Aim {
 // A target that is bytes of the payload.
 fn bytes_aim(kind: u16, of: u16, bytes: Extent) -> Aim
     requires { ⌜ Narrow bytes ⌝ }
-    ensures { λ r. ⌜ r ≡ Rattle.trigger_answers.specs.Trigger.aim kind of (bytes .place) (bytes .length) 0 ⌝ }
+    ensures { λ r. ⌜ r ≡ Rattle.trigger_answers.specs.Aim.aim kind of (bytes .place) (bytes .length) 0 ⌝ }
 {
     let first = bytes.place as u16;
     let second = bytes.length as u16;
@@ -118,15 +117,14 @@ fn put(t: Trigger, fields: &mut [u16])
 
 // Reads the payload as a trigger and puts its numbers at the front of the buffer, or answers the refusal.
 pub fn trigger_read(payload: &[u8], fields: &mut [u16]) -> u8
-    ensures { λ r. ⌜ r ≡ answerOf (readOf (now (payload .entry))) (now (fields .entry)) ⌝ }
-    ensures { λ _. ⌜ now (fields .exit) ≡ fieldsOf (readOf (now (payload .entry))) (now (fields .entry)) ⌝ }
+    ensures { λ r. ⌜ outOf r (now (fields .exit)) ≡ triggerLent (now (payload .entry)) (now (fields .entry)) ⌝ }
 {
     let answer = trigger::read_trigger(payload);
     match answer {
         Answer::Refused(n) => n,
         Answer::Trigger(t) => {
             if fields.len() < NUMBERS {
-                return OUTPUT_TOO_SMALL;
+                return answers::OUTPUT_TOO_SMALL;
             }
             put(t, fields);
             0
@@ -142,7 +140,7 @@ pub fn trigger_belongs(
     size: u16,
     application: &[u8],
 ) -> bool
-    ensures { λ r. ⌜ r ≡ belongsOf (now (payload .entry)) (named idlength place size) (now (application .entry)) ⌝ }
+    ensures { λ r. ⌜ r ≡ belongsOf (now (payload .entry)) (withId idlength place size) (now (application .entry)) ⌝ }
 {
     let id = Extent {
         place: place as usize,
@@ -159,5 +157,5 @@ pub fn trigger_belongs(
         target: Target::None,
         user,
     };
-    belonging::belongs(payload, trigger, application)
+    trigger::belongs(payload, trigger, application)
 }

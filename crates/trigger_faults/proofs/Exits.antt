@@ -15,7 +15,8 @@ use Rattle.base.specs.Choice.{Row, first}
 use Rattle.base.proofs.Cases.{by}
 use Rattle.base.specs.Bytes.{byte, word}
 use Rattle.trigger_faults.specs.declared.Parts.{Parts}
-use Rattle.trigger_faults.specs.Fields.{headFaults, targetFaults, userFaults, headFault, targetFault, userFault, partsOf, wrongLength, isUri, someHigh, targetAt, userAt, faults, Sound}
+use Rattle.trigger_faults.specs.Fields.{headFaults, targetFaults, userFaults, wrongLength, isUri, someHigh, targetAt, userAt, faults}
+use Rattle.trigger_faults.specs.Parts.{headFault, targetFault, userFault, partsOf, Sound}
 use Rattle.trigger_faults.proofs.Tables.{first-split, stops, goes, Passed, passed, passed-left, passed-right}
 
 pub record Head (s : List ℕ) : Type 0 where

@@ -2,3 +2,4 @@ pub mod Gathers
 pub mod Tables
 pub mod Truth
 pub mod Exits
+pub mod Told

@@ -12,7 +12,7 @@ use lib.Dec.{eqb}
 use borrow.Author.Tests.{eqb-false}
 use Rattle.base.specs.Choice.{Row, first, if_then_else_}
 use Rattle.base.proofs.Cases.{by, unlike, and-left, and-right}
-use Rattle.trigger_faults.specs.Fields.{faultOf}
+use Rattle.trigger_faults.specs.Parts.{faultOf}
 
 pub first-split : {A : Type 0} (refused : ℕ → A) (rows rest : List Row) (other : A)
     → first refused (rows ++ rest) other ≡ first refused rows (first refused rest other)

@@ -1,15 +1,13 @@
 -- Document 01, "A trigger" (A/93, clause 6) and "Numbers of refusal": when each is given, field by field.
 -- A field's 20 precedes its rule; 23 precedes the target bytes' 20, and 24 follows it.
 use Prim.Native.Nat.{ℕ, _+_}
-use mathlib.Core.Path.{_≡_}
 use mathlib.Core.List.{List, [], _∷_, _++_}
 use mathlib.Core.Bool.{Bool, not, _&&_, _||_}
 use lib.ListN.{length}
 use lib.Dec.{ltb, leb, eqb}
-use Rattle.base.specs.Choice.{Row, _if_, first}
+use Rattle.base.specs.Choice.{Row, _if_}
 use Rattle.base.specs.Bytes.{byte, word}
 use Rattle.base.specs.Below.{some}
-use Rattle.trigger_faults.specs.declared.Parts.{Parts}
 
 -- the trigger ends inside a field that goes up to a place
 abbrev pub cut : List ℕ → ℕ → Bool
@@ -58,19 +56,6 @@ userFaults s at =
     ∷ 25 if ltb (at + 2 + word s at) (length s)
     ∷ []
 
--- the number of the first row that holds, 0 where none does; then of each of the three parts
-abbrev pub faultOf : List Row → ℕ
-faultOf rows = first (λ n. n) rows 0
-
-unfoldable pub headFault : List ℕ → ℕ
-headFault s = faultOf (headFaults s)
-
-unfoldable pub targetFault : List ℕ → ℕ → ℕ
-targetFault s at = faultOf (targetFaults s at)
-
-unfoldable pub userFault : List ℕ → ℕ → ℕ
-userFault s at = faultOf (userFaults s at)
-
 -- the application id's length; the places of the target's type and of the user data's length
 abbrev pub idLength : List ℕ → ℕ
 idLength s = word s 1
@@ -81,16 +66,6 @@ targetAt s = 3 + idLength s
 abbrev pub userAt : List ℕ → ℕ
 userAt s = targetAt s + 3 + word s (targetAt s + 1)
 
--- no part of a payload has a fault
-pub record Sound (s : List ℕ) : Type 0 where
-  pub head : headFault s ≡ 0
-  pub target : targetFault s (targetAt s) ≡ 0
-  pub user : userFault s (userAt s) ≡ 0
-
 -- 26, then field by field
 abbrev pub faults : List ℕ → List Row
 faults s = headFaults s ++ (targetFaults s (targetAt s) ++ userFaults s (userAt s))
-
--- the first fault, or the places of the target's type and of the user data's length
-unfoldable pub partsOf : List ℕ → Parts
-partsOf s = first Parts.Faulty (faults s) (Parts.Placed (targetAt s) (userAt s))

@@ -3,7 +3,8 @@ ghost use mathlib.Core.Path.{_≡_};
 ghost use Prim.Native.Nat.{_+_, _≤_};
 ghost use lib.ListN.{length};
 ghost use Rattle.base.specs.Bytes.{word};
-ghost use Rattle.trigger_faults.specs.Fields.{headFault, targetFault, userFault, wrongLength, isUri, someHigh, partsOf};
+ghost use Rattle.trigger_faults.specs.Fields.{wrongLength, isUri, someHigh};
+ghost use Rattle.trigger_faults.specs.Parts.{headFault, targetFault, userFault, partsOf};
 
 // Refusals.
 const CUT_OFF: u8 = 20;

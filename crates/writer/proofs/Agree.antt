@@ -1,6 +1,6 @@
 -- Sections written and read agree.
 --   reads-back    a written section is read as its label, its number, the last number and its part of the body
---   writes-back   a sound section whose reserved bits are 1 is what the writer writes for its own fields
+--   writes-back   a sound section whose reserved bits are 1 is laid out as its own fields are
 use mathlib.Core.Path.{_≡_, refl, sym, ap, _∙_}
 use mathlib.Core.List.{List, [], _∷_, _++_}
 use mathlib.Core.Logic.{inl, inr, ⊎-elim}
@@ -17,21 +17,10 @@ use Rattle.section.specs.declared.Reading.the-variants.{Sound}
 use Rattle.section.proofs.Laws.{SoundFacts, sound-facts}
 use Rattle.section.proofs.ExactlyWhen.{sound}
 use Rattle.writer.specs.Writer.{full, most, lastOf, bodyAt, sectionOf, written}
+pub use Rattle.writer.specs.Theorems.{found}
+use Rattle.writer.specs.Theorems.{Reads-Back, ReservedOnes, labelIn, Writes-Back}
 use Rattle.writer.specs.declared.Label.{Label}
 use Rattle.writer.proofs.Laws.{last-le, length-body, ends-within, starts-within, length-section}
-
--- what a reader finds in a section that carries these bytes
-abbrev pub found : Label → ℕ → ℕ → List ℕ → Header
-found label k last bytes =
-    record {
-      table = label .table;
-      extension = label .extension;
-      version = label .version;
-      number = k;
-      last = last;
-      start = 8;
-      length = length bytes;
-    }
 
 pub section-reads : (label : Label) (k last : ℕ) (bytes : List ℕ) → label .version ≤ 31 → k ≤ last → last ≤ 15 → length bytes ≤ full →
     readOf (sectionOf label k last bytes) ≡ Sound (found label k last bytes)
@@ -66,13 +55,12 @@ module _ (label : Label) (body : List ℕ) (k : ℕ) (fits : length body ≤ mos
       let e = length-body body k known in
       omega arith
 
-  pub reads-back : readOf (written label body k) ≡ Sound (found label k (lastOf (length body)) (bodyAt body k))
+  read-back : readOf (written label body k) ≡ Sound (found label k (lastOf (length body)) (bodyAt body k))
   unfolding written
-  reads-back = section-reads label k (lastOf (length body)) (bodyAt body k) five known (last-le (length body) fits) length-carried
+  read-back = section-reads label k (lastOf (length body)) (bodyAt body k) five known (last-le (length body) fits) length-carried
 
--- the reserved bits of a section are 1
-abbrev pub ReservedOnes : List ℕ → Type 0
-ReservedOnes s = (byte s 1 / 16 % 4 ≡ 3) × (byte s 5 / 64 ≡ 3)
+pub reads-back : (label : Label) (body : List ℕ) (k : ℕ) → Reads-Back label body k
+reads-back label body k fits five known = read-back label body k fits five known
 
 -- a list of eight bytes and more begins with them
 opened : (s : List ℕ) → 8 ≤ length s →
@@ -80,12 +68,7 @@ opened : (s : List ℕ) → 8 ≤ length s →
 opened s l =
     drop-cons s 0 0 (omega arith) ∙ ap (λ r. byte s 0 ∷ r) (drop-cons s 1 0 (omega arith) ∙ ap (λ r. byte s 1 ∷ r) (drop-cons s 2 0 (omega arith) ∙ ap (λ r. byte s 2 ∷ r) (drop-cons s 3 0 (omega arith) ∙ ap (λ r. byte s 3 ∷ r) (drop-cons s 4 0 (omega arith) ∙ ap (λ r. byte s 4 ∷ r) (drop-cons s 5 0 (omega arith) ∙ ap (λ r. byte s 5 ∷ r) (drop-cons s 6 0 (omega arith) ∙ ap (λ r. byte s 6 ∷ r) (drop-cons s 7 0 (omega arith))))))))
 
--- the label that a section has
-abbrev pub labelOf : Header → Label
-labelOf h = record { table = h .table; extension = h .extension; version = h .version }
-
-pub writes-back : (s : List ℕ) (h : Header) → Octets s → readOf s ≡ Sound h → ReservedOnes s →
-    s ≡ sectionOf (labelOf h) (h .number) (h .last) (drop 8 s)
+pub writes-back : (s : List ℕ) → Writes-Back s
 unfolding sectionOf
 writes-back s h o e r =
     let f = sound-facts s h e in

@@ -10,22 +10,10 @@ use native.Mathlib.Omega.{arith}
 use lib.ListN.{length, take, drop, length-append, length-drop, drop-of-length-le, take-append-drop}
 use lib.Seq.{length-take-le, take-add, drop-drop}
 use Rattle.writer.specs.Writer.{full, most, lastOf, bodyAt}
+pub use Rattle.writer.specs.Theorems.{firstBodies}
+use Rattle.writer.specs.Theorems.{joined, EachAtMost, All-Full, Bodies-Join, Fewest}
 
--- lists one after the other
-abbrev pub joined : List (List ℕ) → List ℕ
-joined [] = []
-joined (b ∷ bs) = b ++ joined bs
-
--- the bodies of sections 0 to n - 1, joined
-abbrev pub firstBodies : List ℕ → ℕ → List ℕ
-firstBodies body zero = []
-firstBodies body (suc n) = firstBodies body n ++ bodyAt body n
-
-abbrev pub EachAtMost : ℕ → List (List ℕ) → Type 0
-EachAtMost n [] = Unit {0}
-EachAtMost n (b ∷ bs) = (length b ≤ n) × EachAtMost n bs
-
-pub all-full : (body : List ℕ) (k : ℕ) → k < lastOf (length body) → length (bodyAt body k) ≡ full
+pub all-full : (body : List ℕ) → All-Full body
 unfolding bodyAt lastOf
 all-full body k h = length-take-le full (drop (full * k) body) (rw length-drop (omega arith))
 
@@ -37,7 +25,7 @@ first-bodies body (suc n) =
     let e : full * n + full ≡ full * suc n = omega arith in
     rw (first-bodies body n) (sym (take-add (full * n) full body) ∙ ap (λ k. take k body) e)
 
-pub bodies-join : (body : List ℕ) → firstBodies body (lastOf (length body) + 1) ≡ body
+pub bodies-join : (body : List ℕ) → Bodies-Join body
 unfolding lastOf
 bodies-join body =
     let n = (length body - 1) / full + 1 in
@@ -54,9 +42,7 @@ carries (b ∷ bs) h =
     let l : length b ≤ full = h .0 in
     rw length-append (omega arith)
 
--- one section at least, since a table without sections is no table
-pub fewest : (body : List ℕ) (b : List ℕ) (bs : List (List ℕ)) → EachAtMost full (b ∷ bs) → joined (b ∷ bs) ≡ body →
-    lastOf (length body) + 1 ≤ length (b ∷ bs)
+pub fewest : (body : List ℕ) → Fewest body
 unfolding lastOf
 fewest body b bs h e =
     let c : length (joined (b ∷ bs)) ≤ full * length (b ∷ bs) = carries (b ∷ bs) h in

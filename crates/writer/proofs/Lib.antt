@@ -2,5 +2,5 @@ pub mod Laws
 pub mod Agree
 pub mod Fewest
 pub mod Unique
-pub mod Untouched
 pub mod ExactlyWhen
+pub mod Answers

@@ -1,1 +1,3 @@
 pub mod Writer
+pub mod Answer
+pub mod Theorems

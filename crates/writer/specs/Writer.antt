@@ -51,15 +51,6 @@ sectionOf label k last bytes = headerOf label k last (length bytes) ++ bytes
 unfoldable pub written : Label → List ℕ → ℕ → List ℕ
 written label body k = sectionOf label k (lastOf (length body)) (bodyAt body k)
 
--- the paper's number for each case of an answer; 0 for none
-abbrev pub countedNo : Counted → ℕ
-countedNo (Counted.Sections n) = 0
-countedNo (Counted.Refused n) = n
-
-abbrev pub writtenNo : Written → ℕ
-writtenNo (Written.Bytes n) = 0
-writtenNo (Written.Refused n) = n
-
 -- 40: body too long
 abbrev pub uncounted : ℕ → List Row
 uncounted n = 40 if ltb most n ∷ []

@@ -3,7 +3,9 @@
 ghost use mathlib.Core.Path.{_≡_};
 ghost use Prim.Native.Nat.{_+_, _≤_};
 ghost use lib.ListN.{length};
+ghost use Rattle.answers.specs.Answers.{out as outOf};
 ghost use Rattle.writer.specs.Writer.{lastOf, endOf, countOf, headerOf, sectionOf, writeOf, write};
+ghost use Rattle.writer.specs.Answer.{countLent, sectionLent};
 
 // How many sections a body makes.
 pub enum Counted {
@@ -46,6 +48,9 @@ const COUNTED: usize = 5;
 const INDICATORS: usize = 112;
 
 const RESERVED: u8 = 192;
+
+// What a count of sections is multiplied by to begin at bit 8 of an answer.
+const COUNT: u16 = 256;
 
 // The last section number of a body of so many bytes.
 fn last_of(length: usize) -> usize
@@ -127,4 +132,27 @@ pub fn write_section(label: Label, body: &[u8], k: u8, out: &mut [u8]) -> Writte
     let last_number = last as u8;
     fill(label, k, last_number, &body[start..end], &mut out[..size]);
     Written::Bytes(size)
+}
+
+// How many sections a body of so many bytes makes, in one number as a host gets it: the refusal alone, or 0 in the low 8 bits
+// and the count above.
+pub fn count_code(length: usize) -> u16
+    ensures { λ r. ⌜ r ≡ countLent length ⌝ }
+{
+    let counted = count_sections(length);
+    match counted {
+        Counted::Sections(n) => n as u16 * COUNT,
+        Counted::Refused(n) => n as u16,
+    }
+}
+
+// Writes section k of the table that carries the body; the answer is a refusal, or a size from bit 8 up.
+pub fn section_code(label: Label, body: &[u8], k: u8, out: &mut [u8]) -> u32
+    ensures { λ r. ⌜ outOf r (now (out .exit)) ≡ sectionLent label (now (body .entry)) k (now (out .entry)) ⌝ }
+{
+    let written = write_section(label, body, k, out);
+    match written {
+        Written::Bytes(size) => answers::size_code(size),
+        Written::Refused(n) => n as u32,
+    }
 }

@@ -1,11 +1,19 @@
 -- `ask::complete` meets its promise.
-use mathlib.Core.Path.{sym}
-use native.Mathlib.Omega.{arith}
+use mathlib.Core.Path.{_≡_, sym, ap, _∙_}
 use Rattle.base.proofs.Tests.{told}
-use Rattle.ask.proofs.Held.{held, whole-refused, whole-lacks, whole-complete}
+use native.Mathlib.Omega.{arith}
+use Rattle.ask.proofs.Held.{whole-refused, whole-lacks, whole-complete}
+use Rattle.ask.proofs.Lent.{last-read, last-low, gap-read}
 use borrow.Author.Needs.{needs}
 use Rattle.ask.proofs.complete.Statement.{statement}
 use Rattle.ask.proofs.complete.Tie as tie
+use Rattle.ask.proofs.complete.Reads as reads
+use Rattle.ask.proofs.complete.Lts as lts
+use Rattle.ask.proofs.first_gap.Reads as first-gap-reads
+use Rattle.ask.proofs.held_in.Reads as held-in-reads
+use Rattle.ask.proofs.wide.Reads as wide-reads
+use Rattle.shelf.proofs.last_of.Reads as last-of-reads
+use Rattle.shelf.proofs.mask_of.Reads as mask-of-reads
 
 held-in-requires : tie.Need-held-in-requires
 held-in-requires c κs = search needs
@@ -16,29 +24,32 @@ enum-known-holding c = search needs
 enum-known-holding-2 : tie.Need-enum-known-holding-2
 enum-known-holding-2 c = search needs
 
-mul-place : tie.Need-mul-place
-mul-place c =
-    let w = held _ _ _ _ (told (c .before .before .before .held-in .ensures) (c .before .holding2 .given .1)) in omega (arith, w .place)
+last-of-requires : tie.Need-last-of-requires
+last-of-requires c κs = search needs
 
-element-copy-out-place : tie.Need-element-copy-out-place
-element-copy-out-place c =
-    let w = held _ _ _ _ (told (c .before .before .before .held-in .ensures) (c .before .holding2 .given .1)) in w .place
+wide-requires : tie.Need-wide-requires
+wide-requires c κs = search needs
+
+mask-of-requires : tie.Need-mask-of-requires
+mask-of-requires c κs = search needs
 
 first-gap-requires : tie.Need-first-gap-requires
-first-gap-requires c κs =
-    let w = held _ _ _ _ (told (c .before .before .before .before .held-in .ensures) (c .before .before .holding2 .given .1)) in w .last
-
-cast-if1 : tie.Need-cast-if1
-cast-if1 c = search needs
+first-gap-requires c κs = last-low _ _ _ _ (told (c .before .before .before .before .before .before .held-in .ensures) (c .before .before .before .before .holding2 .given .1)) (c .before .wide .ensures ∙ c .before .before .last-of .ensures)
 
 returns : tie.Need-returns
 returns c = sym (whole-refused _ _ _ _ (told (c .before .before .before .held-in .ensures) (c .before .holding .given .1)))
 
 returns-2 : tie.Need-returns-2
-returns-2 c = sym (whole-lacks _ _ _ _ (told (c .before .before .before .before .before .before .before .held-in .ensures) (c .before .before .before .before .before .holding2 .given .1)) _ (c .before .before .first-gap .ensures) (c .if1 .taken))
+returns-2 c =
+    let e = (told (c .before .before .before .before .before .before .before .before .held-in .ensures) (c .before .before .before .before .before .before .holding2 .given .1)) in
+    let l = c .before .before .before .wide .ensures ∙ c .before .before .before .before .last-of .ensures in
+    sym (whole-lacks _ _ _ _ e _ (gap-read _ _ _ _ e (c .before .before .mask-of .ensures) l (c .before .first-gap .ensures)) (rw (← last-read _ _ _ _ e l) (c .if1 .taken)))
 
 returns-3 : tie.Need-returns-3
-returns-3 c = sym (whole-complete _ _ _ _ (told (c .before .before .before .before .before .before .before .held-in .ensures) (c .before .before .before .before .before .holding2 .given .1)) _ (c .before .before .first-gap .ensures) (c .if1 .left))
+returns-3 c =
+    let e = (told (c .before .before .before .before .before .before .before .before .held-in .ensures) (c .before .before .before .before .before .before .holding2 .given .1)) in
+    let l = c .before .before .before .wide .ensures ∙ c .before .before .before .before .last-of .ensures in
+    sym (whole-complete _ _ _ _ e _ (gap-read _ _ _ _ e (c .before .before .mask-of .ensures) l (c .before .first-gap .ensures)) (rw (← last-read _ _ _ _ e l) (c .if1 .left)))
 
 pub complete-spec : {M : Type 1} → statement M
 complete-spec =
@@ -47,10 +58,10 @@ complete-spec =
     held-in-requires
     enum-known-holding
     enum-known-holding-2
-    mul-place
-    element-copy-out-place
+    last-of-requires
+    wide-requires
+    mask-of-requires
     first-gap-requires
-    cast-if1
     returns
     returns-2
     returns-3)

@@ -1,12 +1,18 @@
 -- `ask::copy_section` meets its promise.
-use mathlib.Core.Path.{sym, ap, _∙_}
-use native.Mathlib.Omega.{arith}
+use mathlib.Core.Path.{_≡_, sym, ap, _∙_}
 use Rattle.base.proofs.Tests.{told}
+use Rattle.ask.proofs.Held.{copy-refused, copy-16, copy-15, copy-done}
+use Rattle.ask.proofs.Lent.{length-read, length-past}
 use Rattle.ask.specs.Ask.{copy}
-use Rattle.ask.proofs.Held.{held, copy-refused, copy-16, copy-15, copy-done}
 use borrow.Author.Needs.{needs}
 use Rattle.ask.proofs.copy_section.Statement.{statement}
 use Rattle.ask.proofs.copy_section.Tie as tie
+use Rattle.ask.proofs.copy_section.Reads as reads
+use Rattle.ask.proofs.copy_section.Lts as lts
+use Rattle.ask.proofs.held_in.Reads as held-in-reads
+use Rattle.ask.proofs.wide.Reads as wide-reads
+use Rattle.berth.proofs.copy_out.Reads as copy-out-reads
+use Rattle.shelf.proofs.length_of.Reads as length-of-reads
 
 held-in-requires : tie.Need-held-in-requires
 held-in-requires c κs = search needs
@@ -17,23 +23,23 @@ enum-known-holding c = search needs
 enum-known-holding-2 : tie.Need-enum-known-holding-2
 enum-known-holding-2 c = search needs
 
-mul-length-at : tie.Need-mul-length-at
-mul-length-at c =
-    let w = held _ _ _ _ (told (c .before .before .before .held-in .ensures) (c .before .holding2 .given .1)) in omega (arith, w .place)
+length-of-requires : tie.Need-length-of-requires
+length-of-requires c κs = search needs
 
-element-copy-out-length-at : tie.Need-element-copy-out-length-at
-element-copy-out-length-at c =
-    let w = held _ _ _ _ (told (c .before .before .before .held-in .ensures) (c .before .holding2 .given .1)) in w .place
-
-length-at-requires : tie.Need-length-at-requires
-length-at-requires c κs = search needs
+wide-requires : tie.Need-wide-requires
+wide-requires c κs = search needs
 
 returns : tie.Need-returns
-returns c = sym (copy-16 _ _ _ _ (told (c .before .before .before .before .before .before .held-in .ensures) (c .before .before .before .before .holding2 .given .1)) _ _ _ (c .before .length-at .ensures .0) (c .if1 .taken))
+returns c =
+    let e = (told (c .before .before .before .before .before .before .held-in .ensures) (c .before .before .before .before .holding2 .given .1)) in
+    let n = c .before .wide .ensures ∙ length-read _ _ _ _ e _ (c .before .before .length-of .ensures) in
+    sym (copy-16 _ _ _ _ e _ _ _ n (c .if1 .taken))
 
 returns-2 : tie.Need-returns-2
 returns-2 c =
-    sym (copy-15 _ _ _ _ (told (c .before .before .before .before .before .before .before .held-in .ensures) (c .before .before .before .before .before .holding2 .given .1)) _ _ _ (c .before .before .length-at .ensures .0) (c .before .if1 .left) (c .if2 .taken))
+    let e = (told (c .before .before .before .before .before .before .before .held-in .ensures) (c .before .before .before .before .before .holding2 .given .1)) in
+    let n = c .before .before .wide .ensures ∙ length-read _ _ _ _ e _ (c .before .before .before .length-of .ensures) in
+    sym (copy-15 _ _ _ _ e _ _ _ n (c .before .if1 .left) (c .if2 .taken))
 
 copy-out-requires : tie.Need-copy-out-requires
 copy-out-requires c κs = search needs
@@ -46,9 +52,10 @@ same-length c = search needs
 
 returns-4 : tie.Need-returns-4
 returns-4 c =
-    let to = c .before .before .before .before .before .before in
+    let e = (told (c .before .before .before .before .before .before .before .before .before .before .before .held-in .ensures) (c .before .before .before .before .before .before .before .before .before .holding2 .given .1)) in
+    let n = c .before .before .before .before .before .before .wide .ensures ∙ length-read _ _ _ _ e _ (c .before .before .before .before .before .before .before .length-of .ensures) in
     ap (copy _) (c .before .before .copy-out .ensures)
-    ∙ sym (copy-done _ _ _ _ (told (c .before .before .before .before .before .before .before .before .before .before .before .held-in .ensures) (c .before .before .before .before .before .before .before .before .before .holding2 .given .1)) _ _ _ (to .length-at .ensures .0) (c .before .before .before .before .before .if1 .left) (search needs) (to .length-at .ensures .1))
+    ∙ sym (copy-done _ _ _ _ e _ _ _ n (c .before .before .before .before .before .if1 .left) (search needs) (λ past. c .before .before .before .before .before .before .wide .ensures ∙ length-past _ _ _ _ e _ (c .before .before .before .before .before .before .before .length-of .ensures) past))
 
 pub copy-section-spec : {M : Type 1} → statement M
 copy-section-spec =
@@ -57,9 +64,8 @@ copy-section-spec =
     held-in-requires
     enum-known-holding
     enum-known-holding-2
-    mul-length-at
-    element-copy-out-length-at
-    length-at-requires
+    length-of-requires
+    wide-requires
     returns
     returns-2
     copy-out-requires

@@ -7,7 +7,8 @@ use Prim.Native.Nat.{ℕ, _+_, _≤_}
 use lib.ListN.{length, take, drop}
 use denote.Ref.{now}
 use Rattle.descriptors.specs.Loop.{stepOf, viewOf, contentOf}
-use Rattle.descriptors.proofs.Steps.{Stands, reads-there, view-reads}
+use Rattle.descriptors.specs.Theorems.{Stands}
+use Rattle.descriptors.proofs.Steps.{reads-there, view-reads}
 use Rattle.descriptors.proofs.view.Statement.{statement}
 use Rattle.descriptors.proofs.view.Tie as tie
 use Rattle.descriptors.proofs.view.Reads as reads

@@ -1,12 +1,14 @@
 -- `release::release_table` meets its promise.
-use mathlib.Core.Path.{sym}
-use native.Mathlib.Omega.{arith}
 use Rattle.base.proofs.Tests.{told}
-use Rattle.ask.proofs.Held.{held}
-use Rattle.release.proofs.Steps.{release-refused, released}
+use Rattle.release.proofs.Lent.{lent-refused, lent-done}
 use borrow.Author.Needs.{needs}
 use Rattle.release.proofs.release_table.Statement.{statement}
 use Rattle.release.proofs.release_table.Tie as tie
+use Rattle.release.proofs.release_table.Reads as reads
+use Rattle.release.proofs.release_table.Lts as lts
+use Rattle.ask.proofs.held_in.Reads as held-in-reads
+use Rattle.berth.proofs.wipe_all.Reads as wipe-all-reads
+use Rattle.shelf.proofs.put_free.Reads as put-free-reads
 
 held-in-requires : tie.Need-held-in-requires
 held-in-requires c κs = search needs
@@ -20,29 +22,23 @@ enum-known-holding-2 c = search needs
 wipe-all-requires : tie.Need-wipe-all-requires
 wipe-all-requires c κs = search needs
 
-fresh-requires : tie.Need-fresh-requires
-fresh-requires c κs = search needs
-
-element-copy-out-free : tie.Need-element-copy-out-free
-element-copy-out-free c = search needs
-
-mul-free : tie.Need-mul-free
-mul-free c =
-    let w = held _ _ _ _ (told (c .before .before .before .before .before .before .before .before .before .held-in .ensures) (c .before .before .before .before .before .before .before .holding2 .given .1)) in omega (arith, w .place)
-
-element-set-from-free : tie.Need-element-set-from-free
-element-set-from-free c =
-    let w = held _ _ _ _ (told (c .before .before .before .before .before .before .before .before .before .held-in .ensures) (c .before .before .before .before .before .before .before .holding2 .given .1)) in w .place
-
-returns : tie.Need-returns
-returns c = sym (release-refused _ _ _ _ (told (c .before .before .before .held-in .ensures) (c .before .holding .given .1)))
+put-free-requires : tie.Need-put-free-requires
+put-free-requires c κs = search needs
 
 same-length : tie.Need-same-length
 same-length c = search needs
 
+returns : tie.Need-returns
+returns c = lent-refused _ _ _ _ (told (c .before .before .before .held-in .ensures) (c .before .holding .given .1))
+
+same-length-2 : tie.Need-same-length-2
+same-length-2 c = search needs
+
+same-length-3 : tie.Need-same-length-3
+same-length-3 c = search needs
+
 returns-2 : tie.Need-returns-2
-returns-2 c =
-    released _ _ _ _ (told (c .before .before .before .before .before .before .before .before .before .held-in .ensures) (c .before .before .before .before .before .before .before .holding2 .given .1)) _ _ (c .before .fresh .ensures) (c .before .before .before .before .wipe-all .ensures)
+returns-2 c = lent-done _ _ _ _ (told (c .before .before .before .before .before .before .before .before .before .before .before .held-in .ensures) (c .before .before .before .before .before .before .before .before .before .holding2 .given .1)) (c .before .before .before .before .before .before .wipe-all .ensures) (c .before .before .put-free .ensures)
 
 pub release-table-spec : {M : Type 1} → statement M
 release-table-spec =
@@ -52,10 +48,9 @@ release-table-spec =
     enum-known-holding
     enum-known-holding-2
     wipe-all-requires
-    fresh-requires
-    element-copy-out-free
-    mul-free
-    element-set-from-free
-    returns
+    put-free-requires
     same-length
+    returns
+    same-length-2
+    same-length-3
     returns-2)

@@ -1,12 +1,18 @@
 -- `save::save_table` meets its promise.
-use mathlib.Core.Path.{_∙_}
-use native.Mathlib.Omega.{arith}
 use Rattle.base.proofs.Tests.{told}
-use Rattle.ask.proofs.Held.{held}
-use Rattle.save.proofs.Saving.{held-stands, save-refused, save-held}
+use mathlib.Core.Path.{sym, subst}
+use denote.Ref.{now}
+use Rattle.ask.proofs.Lent.{lengths-read}
+use Rattle.save.specs.Sizes.{Berthed}
+use Rattle.save.proofs.Saving.{held-stands, save-refused, save-by}
 use borrow.Author.Needs.{needs}
 use Rattle.save.proofs.save_table.Statement.{statement}
 use Rattle.save.proofs.save_table.Tie as tie
+use Rattle.save.proofs.save_table.Reads as reads
+use Rattle.save.proofs.save_table.Lts as lts
+use Rattle.ask.proofs.held_in.Reads as held-in-reads
+use Rattle.save.proofs.save_place.Reads as save-place-reads
+use Rattle.shelf.proofs.lengths_of.Reads as lengths-of-reads
 
 held-in-requires : tie.Need-held-in-requires
 held-in-requires c κs = search needs
@@ -17,18 +23,15 @@ enum-known-holding c = search needs
 enum-known-holding-2 : tie.Need-enum-known-holding-2
 enum-known-holding-2 c = search needs
 
-mul-place : tie.Need-mul-place
-mul-place c =
-    let w = held _ _ _ _ (told (c .before .before .before .held-in .ensures) (c .before .holding2 .given .1)) in omega (arith, w .place)
-
-element-copy-out-place : tie.Need-element-copy-out-place
-element-copy-out-place c =
-    let w = held _ _ _ _ (told (c .before .before .before .held-in .ensures) (c .before .holding2 .given .1)) in w .place
+lengths-of-requires : tie.Need-lengths-of-requires
+lengths-of-requires c κs = search needs
 
 save-place-requires : tie.Need-save-place-requires
-save-place-requires c κs =
-    let r = held-stands _ (c .before .before .before .before .before .before .before .before .before .args .store .now) (c .before .before .before .before .before .before .before .before .before .args .key) _ (told (c .before .before .before .before .before .before .held-in .ensures) (c .before .before .before .before .holding2 .given .1)) in
-    ((r .place, r .whole), r .berthed)
+save-place-requires c κs = 
+    let a = c .before .before .before .before .before .before .before .before .before .args in
+    let e = told (c .before .before .before .before .before .held-in .ensures) (c .before .before .before .holding2 .given .1) in
+    let r = held-stands _ (now (a .store)) (a .key) _ e in
+    ((r .place, r .whole), subst Berthed (sym (lengths-read _ _ _ _ e (c .before .lengths-of .ensures))) (r .berthed))
 
 returns : tie.Need-returns
 returns c = save-refused _ _ _ _ _ (told (c .before .before .before .held-in .ensures) (c .before .holding .given .1))
@@ -37,9 +40,9 @@ same-length : tie.Need-same-length
 same-length c = search needs
 
 returns-2 : tie.Need-returns-2
-returns-2 c =
-    c .before .before .save-place .ensures
-    ∙ save-held _ _ _ _ _ (told (c .before .before .before .before .before .before .before .before .before .held-in .ensures) (c .before .before .before .before .before .before .before .holding2 .given .1))
+returns-2 c = 
+    let e = told (c .before .before .before .before .before .before .before .before .held-in .ensures) (c .before .before .before .before .before .before .holding2 .given .1) in
+    save-by _ _ _ _ _ e (lengths-read _ _ _ _ e (c .before .before .before .before .lengths-of .ensures)) (c .before .before .save-place .ensures)
 
 pub save-table-spec : {M : Type 1} → statement M
 save-table-spec =
@@ -48,8 +51,7 @@ save-table-spec =
     held-in-requires
     enum-known-holding
     enum-known-holding-2
-    mul-place
-    element-copy-out-place
+    lengths-of-requires
     save-place-requires
     returns
     same-length

@@ -1,34 +1,41 @@
--- `shelf::place_of` meets its promise. The invariant: no place that was passed has the key.
-use mathlib.Core.Path.{_≡_, sym, _∙_}
-use mathlib.Core.Bool.{not}
-use Prim.Native.Nat.{_≤_, _-_}
+-- `shelf::place_of` meets its promise: the search for the lowest place that has the key.
 use borrow.Author.Needs.{needs}
+use mathlib.Core.Path.{_≡_, sym, _∙_}
+use Prim.Native.Nat.{_≤_, _-_}
 use native.Mathlib.Omega.{arith}
+use lib.ListN.{length}
 use Rattle.base.specs.Below.{lowest}
 use Rattle.base.proofs.Below.{lowest-none, lowest-more, lowest-found}
 use Rattle.shelf.proofs.Find.{lowest-at}
 use Rattle.shelf.specs.Record.{placeAt, hasKey, placeOf}
+use Rattle.shelf.specs.Layout.{shelfIn}
+use Rattle.shelf.proofs.Numbers.{key-told, among-place, place-none}
 use Rattle.shelf.proofs.place_of.Statement.{statement}
 use Rattle.shelf.proofs.place_of.Tie as tie
+use Rattle.shelf.proofs.place_of.Reads as reads
+use Rattle.shelf.proofs.place_of.Lts as lts
+use Rattle.shelf.proofs.has_key.Reads as has-key-reads
 
 abbrev Inv-loop : tie.InvT-loop
-Inv-loop key shelf p₀ p = (p ≤ 4) × (lowest p (λ k. hasKey (placeAt shelf k) key) ≡ p)
+Inv-loop words key p₀ p = (p ≤ 4) × (length words ≡ 84) × (lowest p (λ k. hasKey (placeAt (shelfIn words) k) key) ≡ p)
 
 abbrev μ-loop : tie.MeasureT-loop
-μ-loop key shelf p₀ p = 4 - p
-
-loop-holds : tie.Need-loop-holds Inv-loop μ-loop
-loop-holds c = (search needs, lowest-none _)
-
-mul-place : tie.Need-mul-place Inv-loop μ-loop
-mul-place c = search needs
-
-element-copy-out-place : tie.Need-element-copy-out-place Inv-loop μ-loop
-element-copy-out-place c = search needs
+μ-loop words key p₀ p = 4 - p
 
 returns : tie.Need-returns Inv-loop μ-loop
-unfolding placeOf hasKey
-returns c = (sym (lowest-found _ 4 (c .before .before .before .before .before .before .before .before .loop .p) (omega arith) (c .before .before .before .before .before .before .before .before .loop .inv .1) (c .if1 .taken)), search needs)
+returns c = (sym (place-none _ _ (c .if1 .taken)), search needs)
+
+loop-holds : tie.Need-loop-holds Inv-loop μ-loop
+loop-holds c = (search needs, search needs, lowest-none _)
+
+has-key-requires : tie.Need-has-key-requires Inv-loop μ-loop
+has-key-requires c κs = search needs
+
+returns-2 : tie.Need-returns-2 Inv-loop μ-loop
+unfolding placeOf
+returns-2 c =
+    let k = c .before .before .before .loop in
+    (sym (among-place _ _ (k .inv .1) ∙ lowest-found _ 4 (k .p) (omega arith) (k .inv .2) (key-told _ (k .p) _ (omega arith) (c .before .has-key .ensures) (c .if2 .taken))), search needs)
 
 add-p : tie.Need-add-p Inv-loop μ-loop
 add-p c = search needs
@@ -37,14 +44,16 @@ loop-less : tie.Need-loop-less Inv-loop μ-loop
 loop-less c = search needs
 
 loop-again : tie.Need-loop-again Inv-loop μ-loop
-unfolding hasKey
-loop-again c = (search needs, lowest-more _ _ (c .before .before .before .before .before .before .before .before .loop .inv .1) (c .if1 .left))
+loop-again c =
+    let k = c .before .before .before .loop in
+    (search needs, k .inv .1, lowest-more _ (k .p) (k .inv .2) (key-told _ (k .p) _ (omega arith) (c .before .has-key .ensures) (c .if2 .left)))
 
-returns-2 : tie.Need-returns-2 Inv-loop μ-loop
+returns-3 : tie.Need-returns-3 Inv-loop μ-loop
 unfolding placeOf
-returns-2 c =
-    let e : c .before .loop .p ≡ 4 = omega arith in
-    (e ∙ sym (lowest-at 4 _ e (c .before .loop .inv .1)), search needs)
+returns-3 c =
+    let k = c .before .loop in
+    let e : k .p ≡ 4 = omega arith in
+    (e ∙ sym (among-place _ _ (k .inv .1) ∙ lowest-at 4 _ e (k .inv .2)), search needs)
 
 pub place-of-spec : {M : Type 1} → statement M
 place-of-spec =
@@ -52,11 +61,11 @@ place-of-spec =
     (tie.spec
     Inv-loop
     μ-loop
-    loop-holds
-    mul-place
-    element-copy-out-place
     returns
+    loop-holds
+    has-key-requires
+    returns-2
     add-p
     loop-less
     loop-again
-    returns-2)
+    returns-3)

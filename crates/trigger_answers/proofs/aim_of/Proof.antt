@@ -1,6 +1,6 @@
 -- `aim_of` meets its promise: each arm is a case of the definition.
 use mathlib.Core.Path.{_∙_, sym, ap, subst}
-use Rattle.trigger_answers.specs.Trigger.{aimOf, NarrowTarget}
+use Rattle.trigger_answers.specs.Aim.{aimOf, NarrowTarget}
 use borrow.Author.Needs.{needs}
 use Rattle.trigger_answers.proofs.aim_of.Statement.{statement}
 use Rattle.trigger_answers.proofs.aim_of.Tie as tie

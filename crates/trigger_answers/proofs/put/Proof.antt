@@ -4,6 +4,7 @@ use mathlib.Core.List.{[], _∷_}
 use lib.ListN.{length-set}
 use lib.Seq.{sets-eq}
 use borrow.Author.Needs.{needs}
+use Rattle.trigger_answers.proofs.Laws.{aim-numbers}
 use Rattle.trigger_answers.proofs.put.Statement.{statement}
 use Rattle.trigger_answers.proofs.put.Tie as tie
 
@@ -62,7 +63,7 @@ returns : tie.Need-returns
 returns c =
     let g = c .before .before .before .before .before .before .before .before .args in
     let a = c .before .before .before .before .aim-of .result in
-    rw (← c .before .before .before .before .aim-of .ensures)
+    rw (aim-numbers (g .t .target), ← c .before .before .before .before .aim-of .ensures)
     (sets-eq
     (g .t .idlength ∷ g .t .description ∷ g .t .id .place ∷ g .t .id .length
     ∷ a .kind ∷ a .of ∷ a .first ∷ a .second ∷ a .third ∷ g .t .user .place ∷ g .t .user .length ∷ [])

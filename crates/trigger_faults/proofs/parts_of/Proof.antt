@@ -5,7 +5,8 @@ use mathlib.Core.Path.{_≡_, sym, ap, _∙_}
 use Prim.Native.Nat.{ℕ, _+_, _≤_}
 use denote.Ref.{now}
 use lib.ListN.{length}
-use Rattle.trigger_faults.specs.Fields.{headFault, targetFault, userFault, targetAt, userAt, Sound, partsOf}
+use Rattle.trigger_faults.specs.Fields.{targetAt, userAt}
+use Rattle.trigger_faults.specs.Parts.{headFault, targetFault, userFault, Sound, partsOf}
 use Rattle.trigger_faults.specs.declared.Parts.{Parts}
 use Rattle.trigger_faults.proofs.Exits.{head-sound, target-sound, read-head, read-target, read-user, placed}
 use Rattle.trigger_faults.proofs.parts_of.Statement.{statement}

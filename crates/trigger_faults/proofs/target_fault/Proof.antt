@@ -5,7 +5,7 @@ use Prim.Native.Nat.{_+_}
 use denote.Ref.{now}
 use Rattle.base.specs.Bytes.{word}
 use Rattle.base.proofs.Tests.{tests}
-use Rattle.trigger_faults.specs.Fields.{targetFault}
+use Rattle.trigger_faults.specs.Parts.{targetFault}
 use Rattle.trigger_faults.proofs.target_fault.Statement.{statement}
 use Rattle.trigger_faults.proofs.target_fault.Tie as tie
 use Rattle.trigger_faults.proofs.target_fault.Reads as reads

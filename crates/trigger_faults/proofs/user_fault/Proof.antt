@@ -4,7 +4,7 @@ use mathlib.Core.Path.{_≡_, _∙_}
 use denote.Ref.{now}
 use Rattle.base.specs.Bytes.{word}
 use Rattle.base.proofs.Tests.{tests}
-use Rattle.trigger_faults.specs.Fields.{userFault}
+use Rattle.trigger_faults.specs.Parts.{userFault}
 use Rattle.trigger_faults.proofs.user_fault.Statement.{statement}
 use Rattle.trigger_faults.proofs.user_fault.Tie as tie
 use Rattle.trigger_faults.proofs.user_fault.Reads as reads

@@ -3,7 +3,8 @@ use Prim.Native.Nat.{_+_, _-_, _*_, _≤_}
 use native.Mathlib.Omega.{arith}
 use borrow.Author.Needs.{needs}
 use Rattle.listing.specs.Listing.{sectionOf}
-use Rattle.listing.specs.Words.{lines, Grew}
+use Rattle.listing.specs.Words.{lines}
+use Rattle.listing.specs.Growing.{Grew}
 use Rattle.listing.proofs.Lines.{no-line, one-more, all-lines}
 use Rattle.listing.proofs.Text.section_lines.Statement.{statement}
 use Rattle.listing.proofs.Text.section_lines.Tie as tie

@@ -1,0 +1,91 @@
+-- What is proved of loops, in words of the loop `s` and the place asked: each is a theorem of `proofs/` by the same name in small letters.
+use Prim.Native.Nat.{ℕ, _+_, _/_, _<_, _≤_}
+use mathlib.Core.Path.{_≡_}
+use mathlib.Core.Bool.{Bool, true}
+use mathlib.Core.List.{List, [], _∷_}
+use mathlib.Core.Logic.{_↔_, _⊎_}
+use lib.ListN.{length}
+use Rattle.base.specs.Bytes.{byte, part}
+use Rattle.descriptors.specs.declared.Descriptor.{Descriptor}
+use Rattle.descriptors.specs.declared.Step.{Step}
+use Rattle.descriptors.specs.Loop.{stepOf, viewOf, descriptorAt}
+use Rattle.descriptors.specs.Answer.{stepCode}
+use Rattle.descriptors.specs.Mark.{mark, isTriggerTap}
+use Rattle.descriptors.specs.Walk.{walk, walkOf, Unrefused, tiles}
+
+-- d stands at a place of the loop, and ends within it
+pub record Stands (s : List ℕ) (at : ℕ) (d : Descriptor) : Type 0 where
+  pub here : d ≡ descriptorAt s at
+  pub ends : at + 2 + byte s (at + 1) ≤ length s
+
+-- a descriptor stands at a place that marks a trigger Tap
+pub record Marked (s : List ℕ) (at : ℕ) : Type 0 where
+  pub found : Descriptor
+  pub here : stepOf s at ≡ Step.Descriptor found
+  pub tag : found .tag ≡ 0x72
+  pub long : found .length ≡ 24
+  pub view : viewOf s at ≡ mark
+
+module _ (s : List ℕ) where
+  module _ (at : ℕ) where
+    -- the place asked is beyond the loop's end
+    abbrev pub Beyond : Type 0
+    Beyond = length s < at
+
+    -- the descriptor runs past the loop, by its head or by its content
+    abbrev pub RunsPast : Type 0
+    RunsPast = (length s < at + 2) ⊎ (length s < at + 2 + byte s (at + 1))
+
+    -- 19 is given exactly beyond the loop's end, or before it where the descriptor runs past
+    abbrev pub Refused-19 : Type 0
+    Refused-19 = (stepCode (stepOf s at) ≡ 19) ↔ (Beyond ⊎ ((at < length s) × RunsPast))
+
+    -- no other number is given
+    abbrev pub Refused-Range : Type 0
+    Refused-Range = (n : ℕ) → stepOf s at ≡ Step.Refused n → n ≡ 19
+
+    -- a walk is over exactly at the loop's end
+    abbrev pub Over : Type 0
+    Over = (stepOf s at ≡ Step.Over) ↔ (at ≡ length s)
+
+    -- a descriptor is read exactly when it stands there
+    abbrev pub Reads : Type 0
+    Reads = (d : Descriptor) → (stepOf s at ≡ Step.Descriptor d) ↔ Stands s at d
+
+    -- the view of a descriptor is its content, as long as the descriptor says
+    abbrev pub View-Whole : Type 0
+    View-Whole = (d : Descriptor) → stepOf s at ≡ Step.Descriptor d → (viewOf s at ≡ part s (d .start) (d .length)) × (length (viewOf s at) ≡ d .length)
+
+    -- where no descriptor is read the view is empty
+    abbrev pub View-None : Type 0
+    View-None = ((d : Descriptor) → stepOf s at ≡ Step.Descriptor d → ⊥) → viewOf s at ≡ []
+
+    -- a trigger Tap is marked exactly so
+    abbrev pub Tap-Exactly : Type 0
+    Tap-Exactly = (isTriggerTap s at ≡ true) ↔ Marked s at
+
+    -- two answers that keep one promise are equal
+    abbrev pub One-Step : Type 0
+    One-Step = (x y : Step) → x ≡ stepOf s at → y ≡ stepOf s at → x ≡ y
+
+    abbrev pub One-View : Type 0
+    One-View = (x y : List ℕ) → x ≡ viewOf s at → y ≡ viewOf s at → x ≡ y
+
+    abbrev pub One-Tap : Type 0
+    One-Tap = (x y : Bool) → x ≡ isTriggerTap s at → y ≡ isTriggerTap s at → x ≡ y
+
+    -- a walk has no more answers than steps
+    abbrev pub Few : Type 0
+    Few = (k : ℕ) → length (walk k s at) ≤ k
+
+  -- where no step is refused, heads and views, joined in order, are the loop
+  abbrev pub Tiling : Type 0
+  Tiling = Unrefused (walkOf s) → tiles s (walkOf s) ≡ s
+
+  -- a walk of a loop is over or refused by then: more steps answer no more
+  abbrev pub Settled : Type 0
+  Settled = (j : ℕ) → walk (j + (length s / 2 + 1)) s 0 ≡ walkOf s
+
+-- an empty loop has no descriptor
+abbrev pub Empty-Loop : Type 0
+Empty-Loop = walkOf [] ≡ Step.Over ∷ []

@@ -1,0 +1,229 @@
+-- What the numbers say of the record that they are.
+--   at-count, spoiled-count       84 numbers are the record that is read in them; any other count is spoiled
+--   place-at, taken-at            a place of the record is a place of the numbers
+--   length-in, length-at, held-at the lengths of a taken place
+--   capped-same, capped-low, capped-above, capped-below       a version or a last, read as a byte
+--   key-at, key-told, free-told   what a search looks at
+--   among-place, among-free, among-version, among-last, among-length   what is found in 84 numbers
+use mathlib.Core.Path.{_≡_, refl, sym, ap, _∙_}
+use mathlib.Core.Bool.{Bool, true, false, not, _&&_}
+use mathlib.Core.List.{List}
+use Prim.Native.Nat.{ℕ, zero, suc, _+_, _*_, _/_, _%_, _^_, _<_, _≤_}
+use native.Mathlib.Omega.{arith}
+use lib.Dec.{eqb, ltb}
+use lib.ListN.{length, getD}
+use borrow.Author.Tests.{eq-eqb, ne-eqb, eqb-true, eqb-false, le-ltb, lt-ltb, ltb-true, ltb-false}
+use Rattle.base.specs.Below.{some}
+use Rattle.base.specs.Choice.{if_then_else_}
+use Rattle.base.proofs.Cases.{by, unlike}
+use Rattle.shelf.specs.Record.{Place, Shelf, lengthAt, holds, spoiledPlace, spoiledOf, placeAt, freePlace, fresh, hasKey, placeOf, freeOf}
+use Rattle.shelf.specs.declared.Key.{Key}
+use Rattle.base.specs.Bits.{bit}
+use Rattle.shelf.specs.Layout.{heldLength, capped, lengthIn, lengthsIn, tableIn, takenIn, placeIn, shelfIn, shelfAt, noRecord, hasPlace, hasSection, placeAmong, freeAmong, versionAmong, lastAmong, maskAmong, lengthAmong}
+use Rattle.shelf.proofs.Lists.{getD-listed}
+
+-- 84 numbers, or none
+pub at-count : (words : List ℕ) → length words ≡ 84 → shelfAt words ≡ shelfIn words
+unfolding shelfAt
+at-count words n = rw (eq-eqb (length words) 84 n)
+
+pub no-record : (words : List ℕ) → (length words ≡ 84 → ⊥) → spoiledOf (shelfAt words) ≡ true
+unfolding shelfAt spoiledOf spoiledPlace some noRecord fresh
+no-record words d = rw (ne-eqb (length words) 84 d)
+
+pub spoiled-count : (words : List ℕ) → spoiledOf (shelfAt words) ≡ false → length words ≡ 84
+spoiled-count words e =
+    by (eqb (length words) 84)
+    (λ t. eqb-true _ _ t)
+    (λ f. absurd (unlike (sym (no-record words (eqb-false _ _ f)) ∙ e)))
+
+-- a place of the record is a place of the numbers
+pub place-at : (words : List ℕ) (p : ℕ) → p < 4 → placeAt (shelfIn words) p ≡ placeIn words p
+unfolding shelfIn
+place-at words zero h = refl
+place-at words (suc zero) h = refl
+place-at words (suc (suc zero)) h = refl
+place-at words (suc (suc (suc zero))) h = refl
+place-at words (suc (suc (suc (suc p)))) h = absurd (omega arith)
+
+pub taken-in : (words : List ℕ) (p : ℕ) → placeIn words p .taken ≡ takenIn words p
+unfolding placeIn tableIn
+taken-in words p = by (takenIn words p) (λ t. rw t) (λ t. rw t)
+
+pub taken-at : (words : List ℕ) (p : ℕ) → p < 4 → placeAt (shelfIn words) p .taken ≡ takenIn words p
+taken-at words p h = rw (place-at words p h) (taken-in words p)
+
+pub table-at : (words : List ℕ) (p : ℕ) → p < 4 → takenIn words p ≡ true → placeAt (shelfIn words) p ≡ tableIn words p
+unfolding placeIn
+table-at words p h t = place-at words p h ∙ rw t
+
+-- the lengths of a table
+pub length-in : (words : List ℕ) (p n : ℕ) → n < 16 → lengthAt (tableIn words p) n ≡ lengthIn words p n
+unfolding tableIn lengthsIn
+length-in words p n h = getD-listed 16 (lengthIn words p) n h
+
+pub length-at : (words : List ℕ) (p n : ℕ) → p < 4 → n < 16 → takenIn words p ≡ true → lengthAt (placeAt (shelfIn words) p) n ≡ lengthIn words p n
+length-at words p n h l t = rw (table-at words p h t) (length-in words p n l)
+
+-- a section is held where its bit is 1
+pub bit-held : (words : List ℕ) (p n : ℕ) → not (eqb (lengthIn words p n) 0) ≡ bit (getD words (80 + p) 0) n
+bit-held words p n =
+    by (bit (getD words (80 + p) 0) n)
+    (λ b. by (eqb (getD words (16 * p + n) 0) 0) (λ e. rw (b, e)) (λ e. rw (b, e, e)))
+    (λ b. rw b)
+
+pub held-at : (words : List ℕ) (p n : ℕ) → n < 16 → holds (tableIn words p) n ≡ bit (getD words (80 + p) 0) n
+held-at words p n h = rw (length-in words p n h) (bit-held words p n)
+
+-- a version or a last, read as a byte
+pub capped-low : (x : ℕ) → x ≤ 31 → capped x ≡ x
+capped-low x h = rw (le-ltb 255 x (omega arith))
+
+pub capped-same : (x v : ℕ) → v < 255 → eqb (capped x) v ≡ eqb x v
+capped-same x v h =
+    by (ltb 255 x)
+    (λ t. let l : 255 < x = ltb-true _ _ t in rw (t, ne-eqb 255 v (λ z. omega arith), ne-eqb x v (λ z. omega arith)))
+    (λ f. rw f)
+
+-- above a bound under 255 alike
+pub capped-above : (x b : ℕ) → b < 255 → ltb b (capped x) ≡ ltb b x
+capped-above x b h =
+    by (ltb 255 x)
+    (λ t. let l : 255 < x = ltb-true _ _ t in rw (t, lt-ltb b 255 h, lt-ltb b x (omega arith)))
+    (λ f. rw f)
+
+-- .. and below a number of at most 255
+pub capped-below : (x n : ℕ) → n ≤ 255 → ltb (capped x) n ≡ ltb x n
+capped-below x n h =
+    by (ltb 255 x)
+    (λ t. let l : 255 < x = ltb-true _ _ t in rw (t, le-ltb 255 n h, le-ltb x n (omega arith)))
+    (λ f. rw f)
+
+pub no-both : (a b : Bool) → (a ≡ true → b ≡ true → ⊥) → a && b ≡ false
+no-both true true h = absurd (h refl refl)
+no-both true false h = refl
+no-both false b h = refl
+
+off : (b : Bool) → b && false ≡ false
+off true = refl
+off false = refl
+
+-- a head that begins with 256 + t is that of a taken place with table id t
+whole : (h t : ℕ) → t < 256 → eqb h (256 + t) ≡ eqb (h / 256) 1 && eqb (h % 256) t
+whole h t l =
+    by (eqb h (256 + t))
+    (λ e.
+    let q : h ≡ 256 + t = eqb-true _ _ e in
+    rw (e, eq-eqb (h / 256) 1 (omega arith), eq-eqb (h % 256) t (omega arith)))
+    (λ e. rw e (sym (no-both (eqb (h / 256) 1) (eqb (h % 256) t) (λ a b. eqb-false h (256 + t) e (omega (arith, eqb-true (h / 256) 1 a, eqb-true (h % 256) t b))))))
+
+and-swap : (a b : Bool) → a && b ≡ b && a
+and-swap true true = refl
+and-swap true false = refl
+and-swap false true = refl
+and-swap false false = refl
+
+pub key-at :
+    (words : List ℕ)
+    (p first : ℕ)
+    (key : Key)
+    → key .table < 256
+    → first ≡ 256 + key .table
+    → eqb (getD words (65 + 4 * p) 0) (key .extension) && eqb (getD words (64 + 4 * p) 0) first
+    ≡ hasKey (placeIn words p) key
+unfolding hasKey placeIn tableIn
+key-at words p first key h e =
+    rw (e, whole (getD words (64 + 4 * p) 0) (key .table) h)
+    (by (takenIn words p)
+    (λ t. rw t (and-swap (eqb (getD words (65 + 4 * p) 0) (key .extension)) (eqb (getD words (64 + 4 * p) 0 % 256) (key .table))))
+    (λ t. rw t (off (eqb (getD words (65 + 4 * p) 0) (key .extension)))))
+
+-- what a search is told of place p
+pub key-told :
+    (words : List ℕ)
+    (p : ℕ)
+    (key : Key)
+    {r t : Bool}
+    → p < 4
+    → r ≡ hasKey (placeIn words p) key
+    → r ≡ t
+    → hasKey (placeAt (shelfIn words) p) key ≡ t
+key-told words p key h e f = rw (place-at words p h) (sym e ∙ f)
+
+pub free-told : (words : List ℕ) (p : ℕ) → p < 4 → (getD words (64 + 4 * p) 0 / 256 ≡ 1 → ⊥) → not (placeAt (shelfIn words) p .taken) ≡ true
+free-told words p h d = rw (taken-at words p h, ne-eqb (getD words (64 + 4 * p) 0 / 256) 1 d)
+
+pub taken-told : (words : List ℕ) (p : ℕ) → p < 4 → getD words (64 + 4 * p) 0 / 256 ≡ 1 → not (placeAt (shelfIn words) p .taken) ≡ false
+taken-told words p h e = rw (taken-at words p h, eq-eqb (getD words (64 + 4 * p) 0 / 256) 1 e)
+
+-- what is found in 84 numbers, and in any others
+pub among-place : (words : List ℕ) (key : Key) → length words ≡ 84 → placeAmong words key ≡ placeOf (shelfIn words) key
+unfolding placeAmong
+among-place words key n = rw (eq-eqb (length words) 84 n)
+
+pub place-none : (words : List ℕ) (key : Key) → (length words ≡ 84 → ⊥) → placeAmong words key ≡ 4
+unfolding placeAmong
+place-none words key d = rw (ne-eqb (length words) 84 d)
+
+pub among-free : (words : List ℕ) → length words ≡ 84 → freeAmong words ≡ freeOf (shelfIn words)
+unfolding freeAmong
+among-free words n = rw (eq-eqb (length words) 84 n)
+
+pub free-none : (words : List ℕ) → (length words ≡ 84 → ⊥) → freeAmong words ≡ 4
+unfolding freeAmong
+free-none words d = rw (ne-eqb (length words) 84 d)
+
+module _ (words : List ℕ) (p : ℕ) (fits : length words ≡ 84) (hp : p < 4) where
+  pub has-place : hasPlace (length words) p ≡ true
+  has-place = rw (eq-eqb (length words) 84 fits, lt-ltb p 4 hp)
+
+  pub has-section : (n : ℕ) → n < 16 → hasSection (length words) p n ≡ true
+  has-section n h = rw (has-place, lt-ltb n 16 h)
+
+  pub among-version : versionAmong words p ≡ getD words (66 + 4 * p) 0
+  unfolding versionAmong
+  among-version = rw has-place
+
+  pub among-last : lastAmong words p ≡ getD words (67 + 4 * p) 0
+  unfolding lastAmong
+  among-last = rw has-place
+
+  pub among-mask : maskAmong words p ≡ getD words (80 + p) 0
+  unfolding maskAmong
+  among-mask = rw has-place
+
+  pub among-length : (n : ℕ) → n < 16 → lengthAmong words p n ≡ lengthIn words p n
+  unfolding lengthAmong
+  among-length n h = rw (has-section n h)
+
+-- what was read in the numbers, against what a section says
+module _ (words : List ℕ) (p : ℕ) (fits : length words ≡ 84) (hp : p < 4) (t : takenIn words p ≡ true) where
+  version-is : placeAt (shelfIn words) p .version ≡ capped (getD words (66 + 4 * p) 0)
+  unfolding tableIn
+  version-is = ap (λ x. x .version) (table-at words p hp t)
+
+  last-is : placeAt (shelfIn words) p .last ≡ capped (getD words (67 + 4 * p) 0)
+  unfolding tableIn
+  last-is = ap (λ x. x .last) (table-at words p hp t)
+
+  module _ {a b v : ℕ} (e : b ≡ v) (l : v < 255) where
+    same-capped : (x : ℕ) → a ≡ x → a ≡ b → capped x ≡ v
+    same-capped x d q = eqb-true (capped x) v (capped-same x v l ∙ eq-eqb x v (sym d ∙ q ∙ e))
+
+    other-capped : (x : ℕ) → a ≡ x → (a ≡ b → ⊥) → capped x ≡ v → ⊥
+    other-capped x d q z = eqb-false x v (ne-eqb x v (λ y. q (d ∙ y ∙ sym e))) (eqb-true x v (sym (capped-same x v l) ∙ eq-eqb (capped x) v z))
+
+    pub version-same : a ≡ versionAmong words p → a ≡ b → placeAt (shelfIn words) p .version ≡ v
+    version-same d q = version-is ∙ same-capped (getD words (66 + 4 * p) 0) (d ∙ among-version words p fits hp) q
+
+    pub version-other : a ≡ versionAmong words p → (a ≡ b → ⊥) → placeAt (shelfIn words) p .version ≡ v → ⊥
+    version-other d q z = other-capped (getD words (66 + 4 * p) 0) (d ∙ among-version words p fits hp) q (sym version-is ∙ z)
+
+    pub last-same : a ≡ lastAmong words p → a ≡ b → placeAt (shelfIn words) p .last ≡ v
+    last-same d q = last-is ∙ same-capped (getD words (67 + 4 * p) 0) (d ∙ among-last words p fits hp) q
+
+    pub last-other : a ≡ lastAmong words p → (a ≡ b → ⊥) → placeAt (shelfIn words) p .last ≡ v → ⊥
+    last-other d q z = other-capped (getD words (67 + 4 * p) 0) (d ∙ among-last words p fits hp) q (sym last-is ∙ z)
+
+  pub length-same : {c n : ℕ} (m : ℕ) → m < 16 → n ≡ m → c ≡ lengthAmong words p n → c ≡ lengthAt (placeAt (shelfIn words) p) m
+  length-same m h e q = q ∙ ap (lengthAmong words p) e ∙ among-length words p fits hp m h ∙ sym (length-at words p m hp h t)

@@ -1,0 +1,106 @@
+-- The shelf's record as a host lends it, 84 numbers of 16 bits: 64 lengths, that of section n of place p at 16p + n; four heads of
+-- four numbers, that of place p at 64 + 4p: 256 + table id where the place is taken, extension, version, last; four masks, that of
+-- place p at 80 + p: bit n is 1 where section n is held.
+use Prim.Native.Nat.{ℕ, zero, suc, _+_, _*_, _/_, _%_}
+use mathlib.Core.List.{List, [], _∷_}
+use mathlib.Core.Bool.{Bool, true, not, _&&_}
+use lib.Dec.{eqb, ltb}
+use lib.ListN.{length, getD, replicate}
+use Rattle.base.specs.Choice.{if_then_else_}
+use Rattle.base.specs.Bits.{bit}
+use Rattle.berth.specs.Berth.{sections, places}
+use Rattle.shelf.specs.declared.Key.{Key}
+use Rattle.shelf.specs.Record.{Place, Shelf, freePlace, fresh, withPlace, placeOf, freeOf}
+
+-- the numbers of a record
+abbrev pub count : ℕ
+count = 84
+
+-- f 0, f 1, .., f (n - 1)
+unfoldable pub listed : ℕ → (ℕ → ℕ) → List ℕ
+listed zero f = []
+listed (suc n) f = f 0 ∷ listed n (λ k. f (suc k))
+
+-- the length of a section: 0 where it is not held; a held length 0 is read as 1, which is as wrong
+abbrev pub heldLength : Bool → ℕ → ℕ
+heldLength held size = if held then (if eqb size 0 then 1 else size) else 0
+
+-- a number of 16 bits as one of 8: what does not fit is read as 255, which is above every version and last
+abbrev pub capped : ℕ → ℕ
+capped x = if ltb 255 x then 255 else x
+
+-- the length of section n of place p
+abbrev pub lengthIn : List ℕ → ℕ → ℕ → ℕ
+lengthIn words p n = heldLength (bit (getD words (80 + p) 0) n) (getD words (16 * p + n) 0)
+
+-- the sixteen lengths of a place
+unfoldable pub lengthsIn : List ℕ → ℕ → List ℕ
+lengthsIn words p = listed sections (lengthIn words p)
+
+-- the table in place p, where it is taken
+unfoldable pub tableIn : List ℕ → ℕ → Place
+tableIn words p =
+    record {
+      taken = true;
+      key = record { table = getD words (64 + 4 * p) 0 % 256; extension = getD words (65 + 4 * p) 0 };
+      version = capped (getD words (66 + 4 * p) 0);
+      last = capped (getD words (67 + 4 * p) 0);
+      lengths = lengthsIn words p;
+    }
+
+-- a place is taken where its head begins with 256 to 511; nothing else is read of one that is free
+abbrev pub takenIn : List ℕ → ℕ → Bool
+takenIn words p = eqb (getD words (64 + 4 * p) 0 / 256) 1
+
+unfoldable pub placeIn : List ℕ → ℕ → Place
+placeIn words p = if takenIn words p then tableIn words p else freePlace
+
+-- the record that 84 numbers are
+unfoldable pub shelfIn : List ℕ → Shelf
+shelfIn words = record { places = placeIn words 0 ∷ placeIn words 1 ∷ placeIn words 2 ∷ placeIn words 3 ∷ [] }
+
+-- any other count of numbers is no record: it is read as one with a place that is taken and holds nothing, which is spoiled
+unfoldable pub noRecord : Shelf
+noRecord =
+    withPlace fresh 0
+    (record {
+      taken = true;
+      key = record { table = 0; extension = 0 };
+      version = 0;
+      last = 0;
+      lengths = replicate sections 0;
+    })
+
+-- the record that lent numbers are
+unfoldable pub shelfAt : List ℕ → Shelf
+shelfAt words = if not (eqb (length words) count) then noRecord else shelfIn words
+
+-- so many numbers are a record, and it has place p
+abbrev pub hasPlace : ℕ → ℕ → Bool
+hasPlace size p = eqb size count && ltb p places
+
+-- .. and in it section n
+abbrev pub hasSection : ℕ → ℕ → ℕ → Bool
+hasSection size p n = hasPlace size p && ltb n sections
+
+-- what is found in lent numbers; what is no record has no place, and what is asked of no place is 0
+unfoldable pub placeAmong : List ℕ → Key → ℕ
+placeAmong words key = if eqb (length words) count then placeOf (shelfIn words) key else places
+
+unfoldable pub freeAmong : List ℕ → ℕ
+freeAmong words = if eqb (length words) count then freeOf (shelfIn words) else places
+
+unfoldable pub versionAmong : List ℕ → ℕ → ℕ
+versionAmong words p = if hasPlace (length words) p then getD words (66 + 4 * p) 0 else 0
+
+unfoldable pub lastAmong : List ℕ → ℕ → ℕ
+lastAmong words p = if hasPlace (length words) p then getD words (67 + 4 * p) 0 else 0
+
+unfoldable pub maskAmong : List ℕ → ℕ → ℕ
+maskAmong words p = if hasPlace (length words) p then getD words (80 + p) 0 else 0
+
+unfoldable pub lengthAmong : List ℕ → ℕ → ℕ → ℕ
+lengthAmong words p n = if hasSection (length words) p n then lengthIn words p n else 0
+
+abbrev pub lengthsAmong : List ℕ → ℕ → List ℕ
+lengthsAmong words p = listed sections (lengthAmong words p)

@@ -1,0 +1,65 @@
+-- What the shelf's calls write into a record's numbers.
+use Prim.Native.Nat.{ℕ, _+_, _-_, _*_, _/_, _%_, _^_}
+use mathlib.Core.List.{List}
+use mathlib.Core.Bool.{true}
+use lib.Bits.{bitOr}
+use lib.Dec.{eqb, ltb}
+use lib.ListN.{length, getD, set, replicate}
+use Rattle.base.specs.Choice.{if_then_else_}
+use Rattle.berth.specs.Berth.{sections}
+use Rattle.shelf.specs.declared.Key.{Key}
+use Rattle.shelf.specs.Record.{Place}
+use Rattle.shelf.specs.Layout.{count, listed, hasPlace, hasSection}
+
+-- section n of place p is held, with that length
+unfoldable pub heldIn : List ℕ → ℕ → ℕ → ℕ → List ℕ
+heldIn words p n size = set (set words (16 * p + n) size) (80 + p) (bitOr (getD words (80 + p) 0) (2 ^ n))
+
+-- the head and the mask of place p
+unfoldable pub rowIn : List ℕ → ℕ → ℕ → ℕ → ℕ → ℕ → ℕ → List ℕ
+rowIn words p a b c d mask =
+    set (set (set (set (set words (64 + 4 * p) a) (65 + 4 * p) b) (66 + 4 * p) c) (67 + 4 * p) d) (80 + p) mask
+
+-- place p is free: its head p, 0, 0, 0 and its mask 1 are what a check for 18 passes at once
+abbrev pub freedIn : List ℕ → ℕ → List ℕ
+freedIn words p = rowIn words p p 0 0 0 1
+
+-- place p is taken by a table that holds nothing yet
+abbrev pub headIn : List ℕ → ℕ → Key → ℕ → ℕ → List ℕ
+headIn words p key version last = rowIn words p (256 + key .table) (key .extension) version last 0
+
+-- number k of a fresh record: no length is below 8, the head of place p is p, 0, 0, 0 and each mask is 1
+abbrev pub freshNumber : ℕ → ℕ
+freshNumber k = if ltb k 64 then 8 else if ltb k 80 then (if eqb (k % 4) 0 then (k - 64) / 4 else 0) else 1
+
+unfoldable pub freshWords : List ℕ
+freshWords = listed count freshNumber
+
+-- a table that holds nothing yet
+abbrev pub emptyTable : Key → ℕ → ℕ → Place
+emptyTable key version last =
+    record { taken = true; key = key; version = version; last = last; lengths = replicate sections 0 }
+
+-- a table with another length of section n
+abbrev pub withLength : Place → ℕ → ℕ → Place
+withLength place n size =
+    record {
+      taken = place .taken;
+      key = place .key;
+      version = place .version;
+      last = place .last;
+      lengths = set (place .lengths) n size;
+    }
+
+-- what is written in lent numbers: nothing where they are no record, or have no such place or section
+unfoldable pub heldPut : List ℕ → ℕ → ℕ → ℕ → List ℕ
+heldPut words p n size = if hasSection (length words) p n then heldIn words p n size else words
+
+unfoldable pub headPut : List ℕ → ℕ → Key → ℕ → ℕ → List ℕ
+headPut words p key version last = if hasPlace (length words) p then headIn words p key version last else words
+
+unfoldable pub freedPut : List ℕ → ℕ → List ℕ
+freedPut words p = if hasPlace (length words) p then freedIn words p else words
+
+unfoldable pub freshPut : List ℕ → List ℕ
+freshPut words = if eqb (length words) count then freshWords else words

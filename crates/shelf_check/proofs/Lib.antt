@@ -1,0 +1,4 @@
+pub mod Four
+pub mod Pass
+pub mod Quick
+pub mod Whole

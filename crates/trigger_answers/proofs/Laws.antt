@@ -1,0 +1,101 @@
+-- The laws of reading a trigger into a lent buffer (`specs/Lent.antt` has the words).
+--   read-untouched, read-accepted, read-comes-back, by-its-numbers
+--   aim-numbers                          a target's five numbers, in the code's struct
+--   lent-refused, lent-short, lent-put   each way out of a call
+use mathlib.Core.Path.{_≡_, refl, sym, ap, subst, _∙_}
+use mathlib.Core.Bool.{Bool, true, false}
+use mathlib.Core.List.{List, [], _∷_, _++_}
+use mathlib.Core.Logic.{_↔_}
+use Prim.Native.Nat.{ℕ, _<_, _≤_}
+use native.Mathlib.Omega.{arith}
+use lib.Dec.{ltb, eqb}
+use lib.ListN.{length, drop}
+use borrow.Author.Tests.{lt-ltb, le-ltb, ne-eqb, ltb-true, ltb-false}
+use Rattle.base.proofs.Cases.{by}
+use Rattle.answers.specs.Answers.{Out, out, told, puts}
+use Rattle.trigger.specs.declared.Target.{Target}
+use Rattle.trigger.specs.declared.Trigger.{Trigger}
+use Rattle.trigger.specs.declared.Answer.{Answer}
+use Rattle.trigger.specs.Trigger.{readOf}
+use Rattle.trigger.specs.Belongs.{belongsOf}
+use Rattle.trigger.specs.Answer.{targetNumbers, numbersOf, triggerTold, triggerBack}
+use Rattle.trigger.proofs.Answers.{numbers-back}
+use Rattle.trigger.proofs.ExactlyWhen.{refused-range}
+use Rattle.trigger_answers.specs.Aim.{aimOf}
+use Rattle.trigger_answers.specs.Lent.{triggerLent, Read-Untouched, Read-Accepted, Read-Comes-Back, By-Its-Numbers}
+use Rattle.trigger_answers.specs.declared.Aim.{Aim}
+
+pub aim-numbers : (t : Target) → targetNumbers t ≡ aimOf t .kind ∷ aimOf t .of ∷ aimOf t .first ∷ aimOf t .second ∷ aimOf t .third ∷ []
+aim-numbers Target.None = refl
+aim-numbers (Target.Module m) = refl
+aim-numbers (Target.Tap n) = refl
+aim-numbers (Target.AbsoluteUri e) = refl
+aim-numbers (Target.LidUri e) = refl
+aim-numbers (Target.HttpUri e) = refl
+aim-numbers (Target.Reserved r) = refl
+
+pub eleven : (t : Trigger) → length (numbersOf t) ≡ 11
+eleven t = rw (aim-numbers (t .target))
+
+puts-values : (values old : List ℕ) → length values ≤ length old → puts (told 0 values) old ≡ out 0 (values ++ drop (length values) old)
+puts-values values old h = rw (le-ltb (length old) (length values) h)
+
+module _ (s fields : List ℕ) where
+  module _ (n : ℕ) (e : readOf s ≡ Answer.Refused n) where
+    pub lent-refused : out n fields ≡ triggerLent s fields
+    unfolding triggerLent
+    lent-refused = let low : 20 ≤ n = refused-range s n e .0 in rw (e, ne-eqb n 0 (omega arith))
+
+  module _ (t : Trigger) (e : readOf s ≡ Answer.Trigger t) where
+    pub lent-short : length fields < 11 → out 15 fields ≡ triggerLent s fields
+    unfolding triggerLent
+    lent-short h = rw (e, eleven t, lt-ltb (length fields) 11 h)
+
+    pub lent-put : 11 ≤ length fields → {after : List ℕ} → after ≡ numbersOf t ++ drop 11 fields → out 0 after ≡ triggerLent s fields
+    unfolding triggerLent
+    lent-put h q =
+        let room : length (numbersOf t) ≤ length fields = rw (eleven t) h in
+        ap (out 0) (q ∙ ap (λ n. numbersOf t ++ drop n fields) (sym (eleven t)))
+        ∙ sym (puts-values (numbersOf t) fields room)
+        ∙ ap (λ r. puts (triggerTold r) fields) (sym e)
+
+  abbrev left : Out
+  left = triggerLent s fields
+
+  -- what is so of each way out is so of the call
+  each-way : (p : Out → Type 0) → ((n : ℕ) → 20 ≤ n → readOf s ≡ Answer.Refused n → p (out n fields))
+      → ((t : Trigger) → readOf s ≡ Answer.Trigger t → length fields < 11 → p (out 15 fields))
+      → ((t : Trigger) → readOf s ≡ Answer.Trigger t → 11 ≤ length fields → p (out 0 (numbersOf t ++ drop 11 fields)))
+      → p left
+  each-way p a b c = go (readOf s) refl
+    where
+      go : (r : Answer) → readOf s ≡ r → p left
+      go (Answer.Refused n) e = subst p (lent-refused n e) (a n (refused-range s n e .0) e)
+      go (Answer.Trigger t) e =
+          by (ltb (length fields) 11)
+          (λ x. let h : length fields < 11 = ltb-true _ _ x in subst p (lent-short t e h) (b t e h))
+          (λ x. let h : 11 ≤ length fields = ltb-false _ _ x in subst p (lent-put t e h refl) (c t e h))
+
+  pub read-untouched : Read-Untouched s fields
+  read-untouched =
+      each-way (λ o. ¬ (o .code ≡ 0) → o .out ≡ fields) (λ n l e _. refl) (λ t e h _. refl) (λ t e h z. absurd (z refl))
+
+  pub read-accepted : Read-Accepted s fields
+  read-accepted = (
+    each-way (λ o. o .code ≡ 0 → ((t : Trigger) × (readOf s ≡ Answer.Trigger t)) × (11 ≤ length fields))
+        (λ n l e z. absurd (omega arith))
+        (λ t e h z. absurd (omega arith))
+        (λ t e h z. ((t, e), h)),
+    λ w. ap (λ (o : Out). o .code) (sym (lent-put (w .0 .0) (w .0 .1) (w .1) refl)),
+  )
+
+  pub read-comes-back : Read-Comes-Back s fields
+  read-comes-back =
+      each-way (λ o. o .code ≡ 0 → readOf s ≡ Answer.Trigger (triggerBack (o .out)))
+      (λ n l e z. absurd (omega arith))
+      (λ t e h z. absurd (omega arith))
+      (λ t e h z. e ∙ ap Answer.Trigger (sym (numbers-back t (drop 11 fields))))
+
+pub by-its-numbers : (s id : List ℕ) (t : Trigger) → By-Its-Numbers s id t
+unfolding belongsOf
+by-its-numbers s id t = refl
