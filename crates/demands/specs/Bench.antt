@@ -1,11 +1,11 @@
 -- Document 02, request 1, of the functions that a host calls: "Offered to a fresh shelf in any order, the sections make a complete table
 -- whose joined bodies are the given body." The theorems are in proofs/Bench.
-use Prim.Native.Nat.{ℕ, zero, suc, _+_, _/_, _<_, _≤_}
+use Prim.Native.Nat.{ℕ, zero, suc, _+_, _<_, _≤_}
 use mathlib.Core.Path.{_≡_}
 use mathlib.Core.List.{List, [], _++_}
 use lib.ListN.{length, take, drop}
 use Rattle.base.specs.Octets.{Octets}
-use Rattle.answers.specs.Answers.{Out, out, sizeCode}
+use Rattle.answers.specs.Answers.{Out, sizeIn, filled}
 use Rattle.shelf.specs.declared.Key.{Key}
 use Rattle.writer.specs.Writer.{lastOf, written}
 use Rattle.writer.specs.declared.Label.{Label}
@@ -44,12 +44,11 @@ HandsOut =
     → k ≤ lastOf (length body)
     → (output : List ℕ)
     → length (written label body k) ≤ length output
-    → copyAfter h (keyOf label) k output
-    ≡ out (sizeCode (length (written label body k))) (written label body k ++ drop (length (written label body k)) output))
+    → copyAfter h (keyOf label) k output ≡ filled (written label body k) output)
 
 -- the body of a section that is handed out, past the header's eight bytes
 abbrev pub bodyOf : Out → List ℕ
-bodyOf copied = drop 8 (take (copied .code / 256) (copied .out))
+bodyOf copied = drop 8 (take (sizeIn (copied .code)) (copied .out))
 
 -- the bodies of sections 0 to n - 1, each handed out into an output of 1,024 bytes or more, joined
 abbrev pub bodiesAfter : History → Key → List ℕ → ℕ → List ℕ

@@ -17,19 +17,19 @@ use Prim.Native.Nat.{ℕ, _≤_}
 use mathlib.Core.Path.{_≡_}
 use mathlib.Core.Bool.{true}
 use mathlib.Core.Logic.{_↔_}
-use mathlib.Core.List.{List, _++_}
-use lib.ListN.{length, drop}
+use mathlib.Core.List.{List}
+use lib.ListN.{length}
 use Rattle.base.specs.Octets.{Octets}
 use Rattle.section.specs.Section.{sectionNumber}
-use Rattle.answers.specs.Answers.{out, sizeCode}
+use Rattle.answers.specs.Answers.{refusalIn, filled}
 use Rattle.shelf.specs.declared.Key.{Key}
 use Rattle.ask.specs.declared.Whole.{Whole}
-use Rattle.ask_host.specs.Lent.{wholeCode, copyLent}
 use Rattle.shelf_laws.specs.History.{Question, about, Each}
 use Rattle.shelf_laws.specs.Named.{keyIn}
 use Rattle.shelf_laws.specs.Log.{heldBy, since, lastSince}
 use Rattle.shelf_laws.specs.Reception.{SectionOf, OfferedIn, Undisturbed}
-use Rattle.lent_histories.specs.Numbers.{refusal}
+use Rattle.lent_histories.specs.Numbers.{wholeCode}
+use Rattle.lent_histories.specs.Calls.{copyLent}
 use Rattle.lent_histories.specs.History.{History, logAfter, linesAfter, replyAfter, wholeAfter, copyAfter, offerAfter, EachLine}
 
 -- the number that calls a table complete
@@ -38,7 +38,7 @@ complete = wholeCode Whole.Complete
 
 -- a table is held, which is to say that no question about it is answered 14, exactly when it began and was not released since
 abbrev pub HeldExactly : Type 0
-HeldExactly = (h : History) (q : Question) → ¬ (refusal (replyAfter h q .code) ≡ 14) ↔ (heldBy (about q) (logAfter h) ≡ true)
+HeldExactly = (h : History) (q : Question) → ¬ (refusalIn (replyAfter h q .code) ≡ 14) ↔ (heldBy (about q) (logAfter h) ≡ true)
 
 abbrev pub CompleteExactly : Type 0
 CompleteExactly =
@@ -52,20 +52,20 @@ MoreReception =
     → Each (Undisturbed key version last bytes) (logAfter first)
     → Each (Undisturbed key version last bytes) (logAfter second)
     → ((payload : List ℕ) → SectionOf key payload → OfferedIn (first .calls) payload → OfferedIn (second .calls) payload)
-    → ((n : ℕ) (output : List ℕ) → refusal (copyAfter first key n output .code) ≡ 0 → copyAfter second key n output ≡ copyAfter first key n output)
+    → ((n : ℕ) (output : List ℕ) → refusalIn (copyAfter first key n output .code) ≡ 0 → copyAfter second key n output ≡ copyAfter first key n output)
     × (wholeAfter first key ≡ complete → wholeAfter second key ≡ complete)
 
 -- beside it: no call of a history is answered 17 or 18
 abbrev pub Never17Nor18 : Type 0
-Never17Nor18 = (h : History) → EachLine (λ l. ¬ (refusal (l .answer .code) ≡ 17) × ¬ (refusal (l .answer .code) ≡ 18)) (linesAfter h)
+Never17Nor18 = (h : History) → EachLine (λ l. ¬ (refusalIn (l .answer .code) ≡ 17) × ¬ (refusalIn (l .answer .code) ≡ 18)) (linesAfter h)
 
 -- and a section that is accepted is handed out byte for byte by the next ask, with its size; output past it stays as it was
 abbrev pub HandedOut : Type 0
 HandedOut =
     (h : History) (payload : List ℕ)
     → Octets payload
-    → refusal (offerAfter h payload .code) ≡ 0
+    → refusalIn (offerAfter h payload .code) ≡ 0
     → (output : List ℕ)
     → length payload ≤ length output
     → copyLent (offerAfter h payload .words) (offerAfter h payload .store) (keyIn payload) (sectionNumber payload) output
-    ≡ out (sizeCode (length payload)) (payload ++ drop (length payload) output)
+    ≡ filled payload output

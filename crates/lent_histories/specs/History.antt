@@ -8,14 +8,11 @@ use Rattle.base.specs.Octets.{Octets}
 use Rattle.answers.specs.Answers.{Lent, Out, out}
 use Rattle.berth.specs.Berth.{storeSize}
 use Rattle.shelf.specs.declared.Key.{Key}
-use Rattle.shelf_words.specs.Words.{count, shelfAt}
-use Rattle.shelf_host.specs.Lent.{beginLent, releaseLent}
-use Rattle.offer_host.specs.Lent.{offerLent}
-use Rattle.ask_host.specs.Lent.{wholeLent, missingLent, copyLent}
-use Rattle.file_host.specs.Lent.{loadLent, saveLent}
+use Rattle.shelf.specs.Layout.{count, shelfAt}
 use Rattle.shelf_laws.specs.State.{State}
 use Rattle.shelf_laws.specs.History.{Question, Call, Entry, copy, whole, missing, save, offer, load, release, ask}
-use Rattle.lent_histories.specs.Numbers.{Line, line, told}
+use Rattle.lent_histories.specs.Numbers.{Line, line, logIn}
+use Rattle.lent_histories.specs.Calls.{beginLent, offerLent, loadLent, releaseLent, wholeLent, missingLent, copyLent, saveLent}
 
 -- what a host lends: the record's numbers and the store
 pub record Loan : Type 0 where
@@ -96,7 +93,7 @@ module _ (h : History) where
 
   -- the log that the numbers tell
   abbrev pub logAfter : List Entry
-  logAfter = told linesAfter
+  logAfter = logIn linesAfter
 
   -- what is answered to the next call, and what it leaves
   abbrev pub replyAfter : Question → Out
