@@ -1,9 +1,9 @@
 -- The round trips of a file, proved of the functions that a host calls.
 --   restores-always, saved-again
 use mathlib.Core.Path.{_≡_, refl, sym, ap, subst, _∙_}
-use mathlib.Core.Bool.{true, false}
+use mathlib.Core.Bool.{false}
 use mathlib.Core.List.{List}
-use Prim.Native.Nat.{ℕ, _<_, _≤_}
+use Prim.Native.Nat.{ℕ, _≤_}
 use native.Mathlib.Omega.{arith}
 use lib.ListN.{take}
 use Rattle.shelf.specs.declared.Key.{Key}
@@ -13,7 +13,7 @@ use Rattle.save.specs.Save.{Save}
 use Rattle.save.specs.declared.Saved.{Saved}
 use Rattle.answers.specs.Answers.{refusalIn, sizeIn}
 use Rattle.shelf_laws.specs.State.{loadOn, saveOut, afterLoad}
-use Rattle.shelf_laws.specs.History.{Question, about, reply, afterAll, save, load}
+use Rattle.shelf_laws.specs.History.{afterAll, save, load}
 use Rattle.shelf_laws.specs.Log.{heldBy}
 use Rattle.shelf_laws.proofs.Ranges.{SaveRange, range}
 use Rattle.shelf_laws.proofs.Histories.{holds-all}
@@ -23,7 +23,7 @@ use Rattle.file_round.proofs.Saved.{saved-bytes}
 use Rattle.file_round.proofs.Round as round
 use Rattle.lent_histories.specs.Numbers as Numbers
 use Rattle.lent_histories.specs.Numbers.{loadedCode, savedCode, replied}
-use Rattle.lent_histories.specs.History.{History, leftAfter, logAfter, saveAfter, loadAfter}
+use Rattle.lent_histories.specs.History.{History, logAfter, saveAfter, loadAfter}
 use Rattle.lent_histories.proofs.Back.{size-in, loaded-back}
 use Rattle.lent_histories.proofs.After.{reply-range, reply-after, next-answer, next-reply}
 use Rattle.demands.specs.Files.{fileIn, RestoresAlways, SavedAgain}

@@ -14,7 +14,7 @@ use Rattle.answers.specs.Answers.{refusalIn}
 use Rattle.shelf_laws.specs.State.{offerTo, wholeIn}
 use Rattle.shelf_laws.specs.Answers.{accepted}
 use Rattle.shelf_laws.specs.Named.{keyIn}
-use Rattle.shelf_laws.specs.History.{Question, Call, Entry, about, reply, replyNo, numberIn, afterAll, logOf, Each, copy, whole, offer}
+use Rattle.shelf_laws.specs.History.{Entry, about, reply, replyNo, numberIn, afterAll, logOf, Each, copy, whole, offer}
 use Rattle.shelf_laws.specs.Log.{heldBy, since, lastSince}
 use Rattle.shelf_laws.specs.Reception.{Undisturbed}
 use Rattle.shelf_laws.proofs.Held as held
@@ -26,7 +26,7 @@ use Rattle.shelf_laws.proofs.Never.{most-16}
 use Rattle.shelf_laws.proofs.Histories.{holds-all}
 use Rattle.lent_histories.specs.Numbers as Numbers
 use Rattle.lent_histories.specs.Numbers.{offeredCode, wholeCode, copyOut, answered, inNumbers}
-use Rattle.lent_histories.specs.History.{History, leftAfter, logAfter, linesAfter, wholeAfter, copyAfter, offerAfter, replyAfter, EachLine}
+use Rattle.lent_histories.specs.History.{History, logAfter, wholeAfter, EachLine}
 use Rattle.lent_histories.proofs.Back.{whole-back, entry-number}
 use Rattle.lent_histories.proofs.OneHistory.{one-history}
 use Rattle.lent_histories.proofs.After.{reply-range, reply-after, reply-refusal, next-answer, next-reply}

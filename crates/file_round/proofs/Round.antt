@@ -24,7 +24,7 @@ use Rattle.file.specs.Layout.{fileOf, chosen}
 use Rattle.save.specs.Save.{Save, refuse, unsaved, written, savedFile, saveOf}
 use Rattle.save.specs.declared.Saved.{Saved}
 use Rattle.shelf_laws.specs.State.{State, loadOn, saveOut, copyOut, wholeIn, missingIn}
-use Rattle.shelf_laws.specs.History.{Question, copied, wholly, lacking, saved, about, reply, Call, afterAll}
+use Rattle.shelf_laws.specs.History.{Question, copied, wholly, lacking, saved, about, reply, afterAll}
 use Rattle.shelf_laws.proofs.Places.{free-le}
 use Rattle.shelf_laws.proofs.Kept.{Good}
 use Rattle.shelf_laws.proofs.Histories.{holds-all}

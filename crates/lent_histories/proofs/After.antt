@@ -2,13 +2,11 @@
 --   reply-after, reply-refusal     to a question, and the low 8 bits of it
 --   next-answer, next-reply        to any call, and to a question after it
 use mathlib.Core.Path.{_≡_, ap, _∙_}
-use mathlib.Core.List.{List, [], _∷_}
-use Prim.Native.Nat.{ℕ}
-use Rattle.base.specs.Octets.{Octets}
-use Rattle.answers.specs.Answers.{Out, refusalIn}
+use mathlib.Core.List.{[], _∷_}
+use Rattle.answers.specs.Answers.{refusalIn}
 use Rattle.shelf_laws.specs.State.{State}
-use Rattle.shelf_laws.specs.History.{Question, Call, reply, replyNo, entry, step, afterAll, offer, load, release, ask}
-use Rattle.shelf_laws.proofs.Ranges.{ReplyRange, Range, range}
+use Rattle.shelf_laws.specs.History.{Question, Call, reply, replyNo, entry, step, afterAll, ask}
+use Rattle.shelf_laws.proofs.Ranges.{ReplyRange, range}
 use Rattle.shelf_laws.proofs.Histories.{holds-all}
 use Rattle.lent_histories.specs.Numbers.{replied, answered}
 use Rattle.lent_histories.specs.History.{stateOf, replyTo, answerTo, leftBy, OfBytes, History, leftAfter, replyAfter}

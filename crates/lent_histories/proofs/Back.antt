@@ -3,7 +3,7 @@
 --   entry-number, reply-number     the low 8 bits are the paper's number
 --   entry-back, log-back           a call's entry comes back out of its line, and a log out of its lines
 use mathlib.Core.Path.{_≡_, refl, ap, _∙_}
-use mathlib.Core.List.{List, [], _∷_, map}
+use mathlib.Core.List.{List, [], _∷_}
 use Prim.Native.Nat.{ℕ, _+_, _*_, _/_, _%_, _<_, _≤_}
 use native.Mathlib.Omega.{arith}
 use borrow.Author.Tests.{eq-eqb, ne-eqb}

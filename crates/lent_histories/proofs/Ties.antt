@@ -5,11 +5,8 @@
 use Prim.Native.Nat.{ℕ}
 use mathlib.Core.Path.{_≡_, refl, ap, _∙_}
 use mathlib.Core.List.{List, [], _∷_}
-use Rattle.base.specs.Octets.{Octets}
-use Rattle.shelf.specs.declared.Key.{Key}
 use Rattle.shelf.specs.Record.{Shelf}
 use Rattle.begin.proofs.Lent.{begin-done, begin-shelf}
-use Rattle.offer.specs.Offer.{offerOf}
 use Rattle.offer.proofs.Lent.{offer-said, offer-shelf, offer-store}
 use Rattle.release.proofs.Lent.{release-said, release-shelf, release-store}
 use Rattle.load.proofs.Lent.{load-said, load-shelf, load-store}

@@ -1,5 +1,4 @@
 -- The words of the law that ties the two kinds of histories.
-use Prim.Native.Nat.{ℕ}
 use mathlib.Core.Path.{_≡_}
 use Rattle.shelf_laws.specs.History.{afterAll, logOf}
 use Rattle.lent_histories.specs.Numbers.{inNumbers}

@@ -1,7 +1,7 @@
 -- From a fresh shelf with a store of 65,536 bytes, whatever they are, no call of any history is answered 17 or 18.
 use mathlib.Core.List.{List, [], _∷_}
 use mathlib.Core.Path.{_≡_}
-use Prim.Native.Nat.{ℕ, _≤_}
+use Prim.Native.Nat.{_≤_}
 use native.Mathlib.Omega.{arith}
 use Rattle.shelf.specs.Record.{fresh}
 use Rattle.offer.specs.Offer as Offer

@@ -6,7 +6,7 @@
 --   its-body       past its header it is its part of the body
 use mathlib.Core.Path.{_≡_, refl, sym, ap, _∙_}
 use mathlib.Core.List.{List}
-use Prim.Native.Nat.{ℕ, _+_, _≤_}
+use Prim.Native.Nat.{ℕ, _≤_}
 use native.Mathlib.Omega.{arith}
 use lib.ListN.{length, drop}
 use Rattle.section.specs.Section.{readOf, headerOf, version, sectionNumber, lastSectionNumber}
