@@ -14,13 +14,13 @@ use Rattle.offer.specs.Offer.{offerOf}
 use Rattle.offer.specs.Steps.{stepOf}
 
 -- what a call leaves: the answer, the numbers, the store
-pub record Lent : Type 0 where
+pub record Leaving : Type 0 where
   pub said : Offered
   pub words : List ℕ
   pub store : List ℕ
 
-abbrev pub lent : Offered → List ℕ → List ℕ → Lent
-lent said words store = record { said = said; words = words; store = store }
+abbrev pub leaving : Offered → List ℕ → List ℕ → Leaving
+leaving said words store = record { said = said; words = words; store = store }
 
 -- place p is taken by the table of a section, which alone is held
 abbrev pub begunIn : List ℕ → ℕ → Header → ℕ → List ℕ
@@ -34,9 +34,9 @@ wordsBy words size (Begins p h) = begunIn words p h size
 wordsBy words size (BeginsAgain p h) = begunIn words p h size
 wordsBy words size (Adds p h) = heldIn words p (h .number) size
 
-unfoldable pub offerLent : List ℕ → List ℕ → List ℕ → Lent
-offerLent words store payload =
-    lent
+unfoldable pub offerOn : List ℕ → List ℕ → List ℕ → Leaving
+offerOn words store payload =
+    leaving
     (offerOf (shelfAt words) store payload .said)
     (wordsBy words (length payload) (stepOf (shelfAt words) store payload))
     (offerOf (shelfAt words) store payload .store)

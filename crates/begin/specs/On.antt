@@ -12,17 +12,17 @@ use Rattle.shelf.specs.Writes.{freshWords}
 use Rattle.begin.specs.declared.Begun.{Begun}
 
 -- what a call leaves: the answer, the numbers, the store
-pub record Lent : Type 0 where
+pub record Leaving : Type 0 where
   pub said : Begun
   pub words : List ℕ
   pub store : List ℕ
 
-abbrev pub lent : Begun → List ℕ → List ℕ → Lent
-lent said words store = record { said = said; words = words; store = store }
+abbrev pub leaving : Begun → List ℕ → List ℕ → Leaving
+leaving said words store = record { said = said; words = words; store = store }
 
 abbrev pub unbegun : List ℕ → List ℕ → List Row
 unbegun words store = 17 if not (eqb (length store) storeSize) ∷ 18 if not (eqb (length words) count) ∷ []
 
-unfoldable pub beginLent : List ℕ → List ℕ → Lent
-beginLent words store =
-    first (λ n. lent (Begun.Refused n) words store) (unbegun words store) (lent Begun.Done freshWords (zeros storeSize))
+unfoldable pub beginOn : List ℕ → List ℕ → Leaving
+beginOn words store =
+    first (λ n. leaving (Begun.Refused n) words store) (unbegun words store) (leaving Begun.Done freshWords (zeros storeSize))

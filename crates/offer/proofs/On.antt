@@ -29,7 +29,7 @@ use Rattle.offer.specs.declared.Step.{Step}
 use Rattle.offer.specs.declared.Step.the-variants.{Refuse, Repeats, Begins, BeginsAgain, Adds}
 use Rattle.offer.specs.Offer.{offerOf}
 use Rattle.offer.specs.Steps.{stepOf, done}
-use Rattle.offer.specs.Lent.{Lent, lent, begunIn, wordsBy, offerLent}
+use Rattle.offer.specs.On.{Leaving, leaving, begunIn, wordsBy, offerOn}
 use Rattle.offer.proofs.Stands.{put-at, wiped-at}
 use Rattle.offer.proofs.Steps.{InRange, Fits, step-done, step-fits}
 
@@ -61,21 +61,21 @@ module _ (words store payload : List ℕ) where
   -- what was decided, done
   pub decided :
       {r : Step}
-      {x : Lent}
+      {x : Leaving}
       → stepOf shelf store payload ≡ r
-      → x ≡ lent (done shelf store payload r .said) (wordsBy words size r) (done shelf store payload r .store)
-      → x ≡ offerLent words store payload
-  unfolding offerLent
+      → x ≡ leaving (done shelf store payload r .said) (wordsBy words size r) (done shelf store payload r .store)
+      → x ≡ offerOn words store payload
+  unfolding offerOn
   decided e q =
       q
-      ∙ ap (λ s. lent (done shelf store payload s .said) (wordsBy words size s) (done shelf store payload s .store)) (sym e)
-      ∙ ap (λ a. lent (a .said) (wordsBy words size (stepOf shelf store payload)) (a .store)) (step-done shelf store payload)
+      ∙ ap (λ s. leaving (done shelf store payload s .said) (wordsBy words size s) (done shelf store payload s .store)) (sym e)
+      ∙ ap (λ a. leaving (a .said) (wordsBy words size (stepOf shelf store payload)) (a .store)) (step-done shelf store payload)
 
-  pub repeated : stepOf shelf store payload ≡ Repeats → lent Offered.Repeat words store ≡ offerLent words store payload
+  pub repeated : stepOf shelf store payload ≡ Repeats → leaving Offered.Repeat words store ≡ offerOn words store payload
   unfolding done wordsBy
   repeated e = decided e refl
 
-  pub refused : (n : ℕ) → stepOf shelf store payload ≡ Refuse n → lent (Offered.Refused n) words store ≡ offerLent words store payload
+  pub refused : (n : ℕ) → stepOf shelf store payload ≡ Refuse n → leaving (Offered.Refused n) words store ≡ offerOn words store payload
   unfolding done wordsBy
   refused n e = decided e refl
 
@@ -109,7 +109,7 @@ module _ (words store payload : List ℕ) where
         → n ≡ h .number
         → kept ≡ heldPut words p n size
         → left ≡ putIn store p n payload
-        → lent Offered.Added kept left ≡ offerLent words store payload
+        → leaving Offered.Added kept left ≡ offerOn words store payload
     unfolding done wordsBy
     added e m k s = let f = adds-fit e .0 in decided e (rw (held-left words m (fits f) f k, put-left store m (f .whole) f s))
 
@@ -141,7 +141,7 @@ module _ (words store payload : List ℕ) where
         → head ≡ headPut words p key (h .version) (h .last)
         → kept ≡ heldPut head p n size
         → left ≡ putIn store p n payload
-        → lent Offered.Began kept left ≡ offerLent words store payload
+        → leaving Offered.Began kept left ≡ offerOn words store payload
     unfolding done wordsBy
     began e m q d k s = let f = begins-fit e in decided e (rw (begun-left m q d f k, put-left store m (f .whole) f s))
 
@@ -157,7 +157,7 @@ module _ (words store payload : List ℕ) where
         → wiped ≡ wipedWhereIn (bit mask) store p
         → kept ≡ heldPut head p n size
         → left ≡ putIn wiped p n payload
-        → lent Offered.BeganAgain kept left ≡ offerLent words store payload
+        → leaving Offered.BeganAgain kept left ≡ offerOn words store payload
     unfolding done wordsBy
     began-again {mask = mask} {wiped = wiped} e m q d i v k s =
         let f = again-fit e .0 in
@@ -171,12 +171,12 @@ module _ (words store payload : List ℕ) where
         decided e (rw (begun-left m q d f k, put-left wiped m w f s, v'))
 
   -- an offer on lent numbers is the offer to the record that they are
-  pub offer-said : offerLent words store payload .said ≡ offerOf shelf store payload .said
-  unfolding offerLent
+  pub offer-said : offerOn words store payload .said ≡ offerOf shelf store payload .said
+  unfolding offerOn
   offer-said = refl
 
-  pub offer-store : offerLent words store payload .store ≡ offerOf shelf store payload .store
-  unfolding offerLent
+  pub offer-store : offerOn words store payload .store ≡ offerOf shelf store payload .store
+  unfolding offerOn
   offer-store = refl
 
   -- the table id of a header that was read from bytes is a byte
@@ -197,8 +197,8 @@ module _ (words store payload : List ℕ) where
         let f = g .0 in
         written.held-lent words (fits p h f) p (f .place) (h .number) (f .number) size (omega (arith, f .least)) (taken-of words p (fits p h f) (f .place) (g .1))
 
-    pub offer-shelf : shelfAt (offerLent words store payload .words) ≡ offerOf shelf store payload .shelf
-    unfolding offerLent
+    pub offer-shelf : shelfAt (offerOn words store payload .words) ≡ offerOf shelf store payload .shelf
+    unfolding offerOn
     offer-shelf =
         done-shelf (stepOf shelf store payload) (step-fits shelf store payload)
         ∙ ap (λ a. a .shelf) (step-done shelf store payload)

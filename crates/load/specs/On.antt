@@ -15,13 +15,13 @@ use Rattle.load.specs.declared.Loaded.{Loaded}
 use Rattle.load.specs.Load.{loadOf}
 
 -- what a call leaves: the answer, the numbers, the store
-pub record Lent : Type 0 where
+pub record Leaving : Type 0 where
   pub said : Loaded
   pub words : List ℕ
   pub store : List ℕ
 
-abbrev pub lent : Loaded → List ℕ → List ℕ → Lent
-lent said words store = record { said = said; words = words; store = store }
+abbrev pub leaving : Loaded → List ℕ → List ℕ → Leaving
+leaving said words store = record { said = said; words = words; store = store }
 
 -- of the first k sections of place p those that have a length are held
 unfoldable pub heldBelow : ℕ → List ℕ → ℕ → List ℕ → List ℕ
@@ -44,9 +44,9 @@ abbrev pub wordsBy : List ℕ → ℕ → List ℕ → Scan → Loaded → List 
 wordsBy words p lengths (Scan.Table h) said = tableBy words p lengths h said
 wordsBy words p lengths (Scan.Refused n) said = words
 
-unfoldable pub loadLent : List ℕ → List ℕ → List ℕ → Lent
-loadLent words store file =
-    lent
+unfoldable pub loadOn : List ℕ → List ℕ → List ℕ → Leaving
+loadOn words store file =
+    leaving
     (loadOf (shelfAt words) store file .said)
     (wordsBy words (freeOf (shelfAt words)) (scanOf file .lengths) (scanOf file .answer) (loadOf (shelfAt words) store file .said))
     (loadOf (shelfAt words) store file .store)

@@ -9,22 +9,22 @@ use Rattle.release.specs.declared.Released.{Released}
 use Rattle.release.specs.Release.{releaseOf}
 
 -- what a call leaves: the answer, the numbers, the store
-pub record Lent : Type 0 where
+pub record Leaving : Type 0 where
   pub said : Released
   pub words : List ℕ
   pub store : List ℕ
 
-abbrev pub lent : Released → List ℕ → List ℕ → Lent
-lent said words store = record { said = said; words = words; store = store }
+abbrev pub leaving : Released → List ℕ → List ℕ → Leaving
+leaving said words store = record { said = said; words = words; store = store }
 
 -- the numbers after a release of place p
 abbrev pub wordsBy : List ℕ → ℕ → Released → List ℕ
 wordsBy words p Released.Done = freedIn words p
 wordsBy words p (Released.Refused n) = words
 
-unfoldable pub releaseLent : List ℕ → List ℕ → Key → Lent
-releaseLent words store key =
-    lent
+unfoldable pub releaseOn : List ℕ → List ℕ → Key → Leaving
+releaseOn words store key =
+    leaving
     (releaseOf (shelfAt words) store key .said)
     (wordsBy words (placeOf (shelfAt words) key) (releaseOf (shelfAt words) store key .said))
     (releaseOf (shelfAt words) store key .store)

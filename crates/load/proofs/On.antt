@@ -35,7 +35,7 @@ use Rattle.file.specs.declared.Scanned.{Scanned}
 use Rattle.file.proofs.Held.{Lies, held}
 use Rattle.load.specs.declared.Loaded.{Loaded}
 use Rattle.load.specs.Load.{After, loadedPlace, no, tableOf, answered, loadOf}
-use Rattle.load.specs.Lent.{heldBelow, loadedIn, tableBy, wordsBy, loadLent}
+use Rattle.load.specs.On.{heldBelow, loadedIn, tableBy, wordsBy, loadOn}
 use Rattle.load.proofs.Holding.{below-length}
 
 -- the first k of sixteen lengths
@@ -193,8 +193,8 @@ module _ (file : List ℕ) (o : Octets file) where
     answer-shelf u (Scan.Table h) e = table-shelf u h (narrow h e)
     answer-shelf u (Scan.Refused n) e = refl
 
-    pub load-shelf : shelfAt (loadLent words store file .words) ≡ loadOf shelf store file .shelf
-    unfolding loadLent loadOf
+    pub load-shelf : shelfAt (loadOn words store file .words) ≡ loadOf shelf store file .shelf
+    unfolding loadOn loadOf
     load-shelf =
         by (not (eqb (length store) storeSize))
         (λ a. rw (a, kept (scanOf file .answer) 17))
@@ -204,10 +204,10 @@ module _ (file : List ℕ) (o : Octets file) where
         (λ b. rw (a, b) (answer-shelf b (scanOf file .answer) refl)))
 
 module _ (words store file : List ℕ) where
-  pub load-said : loadLent words store file .said ≡ loadOf (shelfAt words) store file .said
-  unfolding loadLent
+  pub load-said : loadOn words store file .said ≡ loadOf (shelfAt words) store file .said
+  unfolding loadOn
   load-said = refl
 
-  pub load-store : loadLent words store file .store ≡ loadOf (shelfAt words) store file .store
-  unfolding loadLent
+  pub load-store : loadOn words store file .store ≡ loadOf (shelfAt words) store file .store
+  unfolding loadOn
   load-store = refl

@@ -14,35 +14,35 @@ use Rattle.shelf.specs.Layout.{count, shelfAt}
 use Rattle.shelf.specs.Writes.{freshWords, freshPut}
 use Rattle.shelf.proofs.Lent.{fresh-put, fresh-lent}
 use Rattle.begin.specs.declared.Begun.{Begun}
-use Rattle.begin.specs.Lent.{Lent, lent, beginLent}
+use Rattle.begin.specs.On.{Leaving, leaving, beginOn}
 
 module _ (words store : List ℕ) where
-  pub begin-17 : (length store ≡ storeSize → ⊥) → lent (Begun.Refused 17) words store ≡ beginLent words store
-  unfolding beginLent
+  pub begin-17 : (length store ≡ storeSize → ⊥) → leaving (Begun.Refused 17) words store ≡ beginOn words store
+  unfolding beginOn
   begin-17 d = rw (ne-eqb (length store) storeSize d)
 
   module _ (w : length store ≡ storeSize) where
-    pub begin-18 : (length words ≡ count → ⊥) → lent (Begun.Refused 18) words store ≡ beginLent words store
-    unfolding beginLent
+    pub begin-18 : (length words ≡ count → ⊥) → leaving (Begun.Refused 18) words store ≡ beginOn words store
+    unfolding beginOn
     begin-18 d = rw (eq-eqb (length store) storeSize w, ne-eqb (length words) count d)
 
     module _ (n : length words ≡ count) where
-      pub begin-done : beginLent words store ≡ lent Begun.Done freshWords (zeros storeSize)
-      unfolding beginLent
+      pub begin-done : beginOn words store ≡ leaving Begun.Done freshWords (zeros storeSize)
+      unfolding beginOn
       begin-done = rw (eq-eqb (length store) storeSize w, eq-eqb (length words) count n)
 
-      pub begun : {left kept : List ℕ} → left ≡ zeros storeSize → kept ≡ freshPut words → lent Begun.Done kept left ≡ beginLent words store
+      pub begun : {left kept : List ℕ} → left ≡ zeros storeSize → kept ≡ freshPut words → leaving Begun.Done kept left ≡ beginOn words store
       begun l k = rw (l, k, fresh-put words n) (sym begin-done)
 
-      pub begin-shelf : shelfAt (beginLent words store .words) ≡ fresh
+      pub begin-shelf : shelfAt (beginOn words store .words) ≡ fresh
       begin-shelf = ap (λ a. shelfAt (a .words)) begin-done ∙ fresh-lent
 
   pub begin-unique :
       (x y : Begun)
       (held kept left stored : List ℕ)
-      → lent x held left ≡ beginLent words store
-      → lent y kept stored ≡ beginLent words store
+      → leaving x held left ≡ beginOn words store
+      → leaving y kept stored ≡ beginOn words store
       → (x ≡ y) × (held ≡ kept) × (left ≡ stored)
   begin-unique x y held kept left stored p q =
-      let e : lent x held left ≡ lent y kept stored = p ∙ sym q in
+      let e : leaving x held left ≡ leaving y kept stored = p ∙ sym q in
       (ap (λ z. z .said) e, ap (λ z. z .words) e, ap (λ z. z .store) e)

@@ -22,15 +22,15 @@ use Rattle.ask.proofs.Held.{held}
 use Rattle.ask.proofs.Alike.{by-holding}
 use Rattle.release.specs.declared.Released.{Released}
 use Rattle.release.specs.Release.{After, releaseOf}
-use Rattle.release.specs.Lent.{Lent, lent, wordsBy, releaseLent}
+use Rattle.release.specs.On.{Leaving, leaving, wordsBy, releaseOn}
 use Rattle.release.proofs.Steps.{refuse, done, release-refused, release-done}
 
 module _ (words store : List ℕ) (key : Key) where
-  abbrev by-answer : After → Lent
-  by-answer a = lent (a .said) (wordsBy words (placeOf (shelfAt words) key) (a .said)) (a .store)
+  abbrev by-answer : After → Leaving
+  by-answer a = leaving (a .said) (wordsBy words (placeOf (shelfAt words) key) (a .said)) (a .store)
 
-  pub lent-refused : (n : ℕ) → holdingOf (shelfAt words) (length store) key ≡ Holding.Refused n → lent (Released.Refused n) words store ≡ releaseLent words store key
-  unfolding releaseLent
+  pub lent-refused : (n : ℕ) → holdingOf (shelfAt words) (length store) key ≡ Holding.Refused n → leaving (Released.Refused n) words store ≡ releaseOn words store key
+  unfolding releaseOn
   lent-refused n e = ap by-answer (sym (release-refused (shelfAt words) store key n e))
 
   module _ (p : ℕ) (e : holdingOf (shelfAt words) (length store) key ≡ Holding.In p) where
@@ -38,26 +38,26 @@ module _ (words store : List ℕ) (key : Key) where
         {left kept : List ℕ}
         → left ≡ wipedWhereIn (λ _. true) store p
         → kept ≡ freedPut words p
-        → lent Released.Done kept left ≡ releaseLent words store key
-    unfolding releaseLent
+        → leaving Released.Done kept left ≡ releaseOn words store key
+    unfolding releaseOn
     lent-done w k =
         let h = held (shelfAt words) (length store) key p e in
         let a = w ∙ sym (wiped-where (λ _. true) store p (is-place (length store) p (h .whole) (h .place))) in
         let b = k ∙ freed-put words (spoiled-count words (h .sound)) p (h .place) in
         rw (a, b)
-        (ap (λ q. lent Released.Done (freedIn words q) (wipedWhere (λ _. true) sections store p)) (sym (h .at))
+        (ap (λ q. leaving Released.Done (freedIn words q) (wipedWhere (λ _. true) sections store p)) (sym (h .at))
         ∙ ap by-answer (sym (release-done (shelfAt words) store key p e)))
 
-  pub release-said : releaseLent words store key .said ≡ releaseOf (shelfAt words) store key .said
-  unfolding releaseLent
+  pub release-said : releaseOn words store key .said ≡ releaseOf (shelfAt words) store key .said
+  unfolding releaseOn
   release-said = refl
 
-  pub release-store : releaseLent words store key .store ≡ releaseOf (shelfAt words) store key .store
-  unfolding releaseLent
+  pub release-store : releaseOn words store key .store ≡ releaseOf (shelfAt words) store key .store
+  unfolding releaseOn
   release-store = refl
 
-  pub release-shelf : shelfAt (releaseLent words store key .words) ≡ releaseOf (shelfAt words) store key .shelf
-  unfolding releaseLent
+  pub release-shelf : shelfAt (releaseOn words store key .words) ≡ releaseOf (shelfAt words) store key .shelf
+  unfolding releaseOn
   release-shelf =
       by-holding (holdingOf (shelfAt words) (length store) key)
       (λ p e.
@@ -68,9 +68,9 @@ module _ (words store : List ℕ) (key : Key) where
   pub release-unique :
       (x y : Released)
       (held kept left stored : List ℕ)
-      → lent x held left ≡ releaseLent words store key
-      → lent y kept stored ≡ releaseLent words store key
+      → leaving x held left ≡ releaseOn words store key
+      → leaving y kept stored ≡ releaseOn words store key
       → (x ≡ y) × (held ≡ kept) × (left ≡ stored)
   release-unique x y held kept left stored p q =
-      let e : lent x held left ≡ lent y kept stored = p ∙ sym q in
+      let e : leaving x held left ≡ leaving y kept stored = p ∙ sym q in
       (ap (λ z. z .said) e, ap (λ z. z .words) e, ap (λ z. z .store) e)
