@@ -1,1 +1,3 @@
-pub mod Demands
+pub mod Shelf
+pub mod Files
+pub mod Bench

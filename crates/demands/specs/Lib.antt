@@ -1,0 +1,3 @@
+pub mod Shelf
+pub mod Files
+pub mod Bench

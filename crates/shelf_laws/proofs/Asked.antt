@@ -3,27 +3,38 @@
 --   kept-16, kept-15   one that is not held is refused 16, one for which the output is too small 15
 --   kept-whole       the table is called complete when every number from 0 to its last is held, and else incomplete
 --   unheld-copied, unheld-whole      of a table that is not held nothing is answered but 14
+--   refused-14, unheld-reply         so of every question
+--   held-answer                      what a question about a held table is answered
 use mathlib.Core.Path.{_≡_, ap, _∙_}
 use mathlib.Core.Bool.{true, false, not}
 use mathlib.Core.List.{List, _++_}
 use Prim.Native.Nat.{ℕ, _+_, _<_, _≤_}
 use native.Mathlib.Omega.{arith}
-use lib.Dec.{eqb}
+use lib.Dec.{eqb, ltb}
 use lib.ListN.{length, drop, List·getD-eq-default}
-use borrow.Author.Tests.{eq-eqb, ne-eqb, le-ltb, lt-ltb}
+use borrow.Author.Tests.{eq-eqb, ne-eqb, le-ltb, lt-ltb, ltb-true, ltb-false}
 use Rattle.base.specs.Choice.{if_then_else_, _if_}
 use Rattle.base.specs.Below.{every}
-use Rattle.berth.specs.Berth.{sections, places, storeSize}
-use Rattle.shelf.specs.Record.{placeAt, holds, placeOf}
+use Rattle.base.proofs.Cases.{by}
+use Rattle.base.proofs.Tables.{among}
+use Rattle.berth.specs.Berth.{sections, places, storeSize, berthSize}
+use Rattle.shelf.specs.Record.{placeAt, lengthAt, holds, placeOf}
 use Rattle.shelf.specs.declared.Key.{Key}
 use Rattle.shelf.proofs.Words.{sound-place}
-use Rattle.ask.specs.Ask.{complete, copy, copyOf, wholeOf}
+use Rattle.ask.specs.Ask.{complete, lowestMissing, copy, wholeNo, asked, uncopied, copyFrom, copyOf, wholeOf, missingOf}
 use Rattle.ask.specs.declared.Copied.{Copied}
 use Rattle.ask.specs.declared.Whole.{Whole}
+use Rattle.ask.specs.declared.Missing.{Missing}
+use Rattle.ask.proofs.ExactlyWhen.{whole-none}
+use Rattle.file.specs.Layout.{largestFile}
+use Rattle.save.specs.Save.{save, savedFile, saveOf}
+use Rattle.save.specs.declared.Saved.{Saved}
+use Rattle.save.proofs.ExactlyWhen.{saved-largest}
 use Rattle.shelf_laws.specs.State.{State, copyOut, wholeIn}
+use Rattle.shelf_laws.specs.History.{Question, Reply, copied, wholly, lacking, saved, about, reply}
 use Rattle.shelf_laws.proofs.Truth.{every-same}
 use Rattle.shelf_laws.proofs.Kept.{Good, Table, Kept, kept-key}
-use Rattle.shelf_laws.proofs.Places.{is-taken}
+use Rattle.shelf_laws.proofs.Places.{is-taken, held-at}
 
 module _ (s : State) (g : Good s) (key : Key) where
   module _ {p : ℕ} {t : Table} (k : Kept s key p t) where
@@ -85,3 +96,78 @@ module _ (s : State) (g : Good s) (key : Key) where
     pub unheld-whole : wholeIn s key ≡ Whole.Refused 14
     unfolding wholeOf
     unheld-whole = rw (eq-eqb (length s.store) storeSize (g .lent), g .unspoiled, e)
+
+-- what is so of every answer to a question about a held table
+abbrev pub Answers : (Reply → Type 0) → Question → Type 0
+Answers P (Question.copy key n out) =
+    P (copied (copy (Copied.Refused 16) out))
+    × P (copied (copy (Copied.Refused 15) out))
+    × ((n : ℕ) → n < 65536 → (bytes : List ℕ) → P (copied (copy (Copied.Bytes n) bytes)))
+Answers P (Question.whole key) = P (wholly Whole.Complete) × P (wholly Whole.Incomplete)
+Answers P (Question.missing key) = P (lacking Missing.Nothing) × ((n : ℕ) → P (lacking (Missing.Number n)))
+Answers P (Question.save key out) =
+    P (saved (save (Saved.Refused 15) out)) × ((n : ℕ) → n < 65536 → (bytes : List ℕ) → P (saved (save (Saved.Bytes n) bytes)))
+
+-- the refusal of a question by 14
+abbrev pub refused-14 : Question → Reply
+refused-14 (Question.copy key n out) = copied (copy (Copied.Refused 14) out)
+refused-14 (Question.whole key) = wholly (Whole.Refused 14)
+refused-14 (Question.missing key) = lacking (Missing.Refused 14)
+refused-14 (Question.save key out) = saved (save (Saved.Refused 14) out)
+
+module _ (s : State) (g : Good s) where
+  pub unheld-reply : (q : Question) → placeOf s.shelf (about q) ≡ places → reply s q ≡ refused-14 q
+  unfolding copyOf wholeOf missingOf saveOf
+  unheld-reply (Question.copy key n out) e = rw (eq-eqb (length s.store) storeSize (g .lent), g .unspoiled, e)
+  unheld-reply (Question.whole key) e = rw (eq-eqb (length s.store) storeSize (g .lent), g .unspoiled, e)
+  unheld-reply (Question.missing key) e = rw (eq-eqb (length s.store) storeSize (g .lent), g .unspoiled, e)
+  unheld-reply (Question.save key out) e = rw (eq-eqb (length s.store) storeSize (g .lent), g .unspoiled, e)
+
+  module _ (key : Key) (i : placeOf s.shelf key < places) where
+    taken : eqb (placeOf s.shelf key) places ≡ false
+    taken = ne-eqb (placeOf s.shelf key) places (λ e. omega arith)
+
+    -- a held length, and a file, is below 65,536
+    pub length-most : (n : ℕ) → lengthAt (asked s.shelf s.store key) n < 65536
+    length-most n =
+        by (ltb n sections)
+        (λ t.
+        let sound = sound-place s.shelf (g .unspoiled) (placeOf s.shelf key) i (is-taken (asked s.shelf s.store key) key (held-at s.shelf key i)) in
+        let m : lengthAt (asked s.shelf s.store key) n ≤ berthSize = sound .most n (ltb-true _ _ t) in
+        omega arith)
+        (λ f.
+        let e : length (asked s.shelf s.store key .lengths) ≡ 16 = g .formed .sixteen (placeOf s.shelf key) i in
+        let h : 16 ≤ n = ltb-false _ _ f in
+        let z : lengthAt (asked s.shelf s.store key) n ≡ 0 = List·getD-eq-default (asked s.shelf s.store key .lengths) 0 (omega arith) in
+        omega arith)
+
+    whole-0 : wholeNo (wholeIn s key) ≡ 0
+    unfolding wholeOf
+    whole-0 =
+        rw (eq-eqb (length s.store) storeSize (g .lent), g .unspoiled, taken)
+        (by (complete (asked s.shelf s.store key)) (λ b. rw b) (λ b. rw b))
+
+    pub file-most : length (savedFile s.shelf s.store key) < 65536
+    file-most =
+        let m : length (savedFile s.shelf s.store key) ≤ largestFile = saved-largest s.shelf s.store key (whole-none s.shelf s.store key .0 whole-0) in
+        omega arith
+
+  -- a question about a held table is answered, or refused 16 or 15
+  pub held-answer : (P : Reply → Type 0) (q : Question) → placeOf s.shelf (about q) < places → Answers P q → P (reply s q)
+  unfolding copyOf wholeOf missingOf saveOf
+  held-answer P (Question.copy key n out) i a =
+      rw (eq-eqb (length s.store) storeSize (g .lent), g .unspoiled, taken key i)
+      (among (λ m. copy (Copied.Refused m) out) (λ c. P (copied c))
+      (uncopied (asked s.shelf s.store key) n out) (copyFrom (asked s.shelf s.store key) s.store (placeOf s.shelf key) n out)
+      (a .0, (a .1, tt)) (a .2 (lengthAt (asked s.shelf s.store key) n) (length-most key i n) _))
+  held-answer P (Question.whole key) i a =
+      rw (eq-eqb (length s.store) storeSize (g .lent), g .unspoiled, taken key i)
+      (by (complete (asked s.shelf s.store key)) (λ b. rw b (a .0)) (λ b. rw b (a .1)))
+  held-answer P (Question.missing key) i a =
+      rw (eq-eqb (length s.store) storeSize (g .lent), g .unspoiled, taken key i)
+      (by (complete (asked s.shelf s.store key)) (λ b. rw b (a .0)) (λ b. rw b (a .1 (lowestMissing (asked s.shelf s.store key)))))
+  held-answer P (Question.save key out) i a =
+      rw (eq-eqb (length s.store) storeSize (g .lent), g .unspoiled, taken key i)
+      (by (ltb (length out) (length (savedFile s.shelf s.store key)))
+      (λ b. rw b (a .0))
+      (λ b. rw b (a .1 (length (savedFile s.shelf s.store key)) (file-most key i) _)))

@@ -17,6 +17,7 @@ use Rattle.ask.specs.declared.Copied.{Copied}
 use Rattle.shelf_laws.specs.State.{State, Formed, offerTo, afterOffer, copyOut}
 use Rattle.shelf_laws.specs.Named.{keyIn}
 use Rattle.shelf_laws.specs.Answers.{begins, joins, accepted}
+use Rattle.shelf_laws.specs.Laws.{HandedOut}
 use Rattle.shelf_laws.proofs.Offering.{Heard, number-16}
 use Rattle.shelf_laws.proofs.Kept.{Good, kept-itself}
 use Rattle.shelf_laws.proofs.Offered.{offer-good, offer-begins, offer-joins, joins-held, accepted-heard}
@@ -46,8 +47,8 @@ module _ (s : State) (formed : Formed s.shelf) (payload : List ℕ) (yes : accep
   abbrev next : State
   next = afterOffer (offerTo s payload)
 
-  pub handed-out : copyOut next (keyIn payload) (sectionNumber payload) out ≡ copy (Copied.Bytes (length payload)) (payload ++ drop (length payload) out)
-  handed-out =
+  given-back : copyOut next (keyIn payload) (sectionNumber payload) out ≡ copy (Copied.Bytes (length payload)) (payload ++ drop (length payload) out)
+  given-back =
       by (begins (offerTo s payload .said))
       (λ b. kept-copied next (offer-good s payload good) (keyIn payload) (offer-begins s payload good b) (sectionNumber payload) number itself out room)
       (λ b.
@@ -56,3 +57,6 @@ module _ (s : State) (formed : Formed s.shelf) (payload : List ℕ) (yes : accep
       rw itself at
       (kept-copied next (offer-good s payload good) (keyIn payload) (offer-joins s payload good (placeOf s.shelf (keyIn payload)) k j)
       (sectionNumber payload) number (rw itself) out (rw itself room)))
+
+pub handed-out : HandedOut
+handed-out = given-back

@@ -1,4 +1,4 @@
--- Over any history the shelf stays good, and of every held table it keeps what the log says.
+-- Over any history the shelf stays good, holds just the tables that the log says, and of each keeps what the log says.
 --   Holds          what is so after a history
 --   step-holds     one call keeps it so
 --   fresh-holds    it is so of a fresh shelf, with any store of its size
@@ -8,8 +8,9 @@ use mathlib.Core.Bool.{Bool, true, false, _&&_}
 use mathlib.Core.List.{List, [], _∷_}
 use Prim.Native.Nat.{ℕ, _<_}
 use native.Mathlib.Omega.{arith}
-use lib.Dec.{eqb}
+use lib.Dec.{eqb, ltb}
 use lib.ListN.{length, getD-replicate}
+use borrow.Author.Tests.{lt-ltb}
 use Rattle.base.specs.Bytes.{zeros}
 use Rattle.base.specs.Below.{some}
 use Rattle.base.proofs.Cases.{by, unlike, and-left, and-right}
@@ -24,7 +25,7 @@ use Rattle.shelf_laws.specs.File.{carries}
 use Rattle.shelf_laws.specs.Named.{keyIn}
 use Rattle.shelf_laws.specs.Answers.{begins, joins, accepted, isDone, frees}
 use Rattle.shelf_laws.specs.History.{Call, Entry, entry, step, after, logged, start, afterAll, logOf}
-use Rattle.shelf_laws.specs.Log.{loads, beginning, accepting, since, lastSince, bytesSince}
+use Rattle.shelf_laws.specs.Log.{loads, beginning, accepting, releasing, heldBy, since, lastSince, bytesSince}
 use Rattle.shelf_laws.proofs.Truth.{or-none}
 use Rattle.shelf_laws.proofs.Places.{same-key, key-itself, has-not, not-held}
 use Rattle.shelf_laws.proofs.Kept.{Good, Table, Kept, kept-as, Alike, alike-kept}
@@ -37,33 +38,41 @@ use Rattle.shelf_laws.proofs.HandedOut.{joins-else}
 abbrev pub loggedTable : Key → List Entry → ℕ → Table
 loggedTable key log v = record { version = v; last = lastSince key log; has = since key log; bytes = bytesSince key log }
 
--- where the table is held, that is kept of it
-abbrev pub AsLogged : State → List Entry → Key → Type 0
-AsLogged s log key =
-    placeOf s.shelf key < places
-    → Kept s key (placeOf s.shelf key) (loggedTable key log (placeAt s.shelf (placeOf s.shelf key) .version))
+-- the table is held exactly when the log says so, and then that is kept of it
+pub record AsLogged (s : State) (log : List Entry) (key : Key) : Type 0 where
+  pub held : heldBy key log ≡ ltb (placeOf s.shelf key) places
+  pub kept : placeOf s.shelf key < places
+      → Kept s key (placeOf s.shelf key) (loggedTable key log (placeAt s.shelf (placeOf s.shelf key) .version))
 
 pub record Holds (s : State) (log : List Entry) : Type 0 where
   pub good : Good s
-  pub kept : (key : Key) → AsLogged s log key
+  pub table : (key : Key) → AsLogged s log key
 
--- an entry that neither begins the table nor accepts a section of it, and a shelf that leaves it alone
+-- an entry that neither begins the table, nor releases it, nor accepts a section of it, and a shelf that leaves it alone
 unmoved : (s : State) (log : List Entry) → Holds s log → (t : State) (e : Entry) (key : Key) → Alike s t key
-    → ((n : ℕ) → accepting key n e ≡ false) → beginning key e ≡ false → AsLogged t (e ∷ log) key
-unmoved s log h t e key a no-section no-beginning i =
-    let j : placeOf s.shelf key < places = rw (a .place) at i in
-    kept-as t (alike-kept s t key a (h .good) (h .kept key j))
-    (sym (a .place))
-    (ap (λ x. x .version) (sym (a .table j)) ∙ ap (λ p. placeAt t.shelf p .version) (sym (a .place)))
-    (rw no-beginning)
-    (λ n. rw (no-section n, no-beginning))
-    (λ n _. rw (no-section n))
+    → ((n : ℕ) → accepting key n e ≡ false) → beginning key e ≡ false → releasing key e ≡ false → AsLogged t (e ∷ log) key
+unmoved s log h t e key a no-section no-beginning no-release =
+    record {
+      held = rw (no-beginning, no-release, a .place) (h .table key .held);
+      kept = λ i.
+          let j : placeOf s.shelf key < places = rw (a .place) at i in
+          kept-as t (alike-kept s t key a (h .good) (h .table key .kept j))
+          (sym (a .place))
+          (ap (λ x. x .version) (sym (a .table j)) ∙ ap (λ p. placeAt t.shelf p .version) (sym (a .place)))
+          (rw no-beginning)
+          (λ n. rw (no-section n, no-beginning))
+          (λ n _. rw (no-section n));
+    }
 
--- what is kept at some place with some version
-settled : (t : State) (log : List Entry) (key : Key) {p : ℕ} {u : Table} → Kept t key p u → u.last ≡ lastSince key log → ((n : ℕ) → u.has n ≡ since key log n)
-    → ((n : ℕ) → u.has n ≡ true → u.bytes n ≡ bytesSince key log n) → AsLogged t log key
-settled t log key k l h b _ =
-    kept-as t k (sym (k .place)) (sym (k .version) ∙ ap (λ p. placeAt t.shelf p .version) (sym (k .place))) l h b
+-- a table that the log holds, kept at some place with some version
+settled : (t : State) (log : List Entry) (key : Key) {p : ℕ} {u : Table} → Kept t key p u → heldBy key log ≡ true → u.last ≡ lastSince key log
+    → ((n : ℕ) → u.has n ≡ since key log n) → ((n : ℕ) → u.has n ≡ true → u.bytes n ≡ bytesSince key log n) → AsLogged t log key
+settled t log key k y l h b =
+    record {
+      held = y ∙ sym (lt-ltb (placeOf t.shelf key) places (rw (k .place) (k .taken)));
+      kept = λ _.
+          kept-as t k (sym (k .place)) (sym (k .version) ∙ ap (λ p. placeAt t.shelf p .version) (sym (k .place))) l h b;
+    }
 
 not-accepting : (k a b : Bool) → (k && a) ≡ false → (k && (a && b)) ≡ false
 not-accepting true true b e = absurd (unlike e)
@@ -91,11 +100,13 @@ module _ (s : State) (log : List Entry) (h : Holds s log) where
         by (begins (offerTo s payload .said))
         (λ b.
         settled (step s offering) (entry s offering ∷ log) (keyIn payload) (offer-begins s payload (h .good) b)
-        (rw (itself, b)) (λ n. rw (itself, a, b) (or-none (eqb n (sectionNumber payload)))) (λ n y. rw (itself, a, y)))
+        (rw (itself, b)) (rw (itself, b)) (λ n. rw (itself, a, b) (or-none (eqb n (sectionNumber payload)))) (λ n y. rw (itself, a, y)))
         (λ b.
         let j : joins (offerTo s payload .said) ≡ true = joins-else (offerTo s payload .said) a b in
+        let was : placeOf s.shelf (keyIn payload) < places = joins-held s payload (h .good) j in
         settled (step s offering) (entry s offering ∷ log) (keyIn payload)
-        (offer-joins s payload (h .good) (placeOf s.shelf (keyIn payload)) (h .kept (keyIn payload) (joins-held s payload (h .good) j)) j)
+        (offer-joins s payload (h .good) (placeOf s.shelf (keyIn payload)) (h .table (keyIn payload) .kept was) j)
+        (rw (itself, b) (h .table (keyIn payload) .held ∙ lt-ltb (placeOf s.shelf (keyIn payload)) places was))
         (rw (itself, b)) (λ n. rw (itself, a, b)) (λ n _. rw (itself, a)))
 
     offered-kept : (key : Key) → AsLogged (step s offering) (entry s offering ∷ log) key
@@ -108,7 +119,7 @@ module _ (s : State) (log : List Entry) (h : Holds s log) where
         (λ f.
         unmoved s log h (step s offering) (entry s offering) key (offer-apart s payload (h .good) key f)
         (λ n. not-accepting (sameKey (keyIn payload) key) (accepted said) (eqb n (sectionNumber payload)) f)
-        (not-beginning said (sameKey (keyIn payload) key) f))
+        (not-beginning said (sameKey (keyIn payload) key) f) refl)
 
   module _ (file : List ℕ) where
     abbrev loading : Call
@@ -122,31 +133,31 @@ module _ (s : State) (log : List Entry) (h : Holds s log) where
         let mine = and-left (loads key file) done t in
         let loaded = and-right (loads key file) done t in
         settled (step s loading) (entry s loading ∷ log) key (load-begins s file (h .good) key t)
-        (rw (mine, loaded)) (λ n. rw (mine, loaded) (or-none (carries file n))) (λ n y. rw (mine, loaded, y)))
+        (rw (mine, loaded)) (rw (mine, loaded)) (λ n. rw (mine, loaded) (or-none (carries file n))) (λ n y. rw (mine, loaded, y)))
         (λ f.
         unmoved s log h (step s loading) (entry s loading) key (load-apart s file (h .good) key f)
-        (λ n. not-accepting (loads key file) done (carries file n) f) f)
+        (λ n. not-accepting (loads key file) done (carries file n) f) f refl)
 
   module _ (gone : Key) where
-    abbrev releasing : Call
-    releasing = Call.release gone
+    abbrev freeing : Call
+    freeing = Call.release gone
 
-    released-kept : (key : Key) → AsLogged (step s releasing) (entry s releasing ∷ log) key
+    released-kept : (key : Key) → AsLogged (step s freeing) (entry s freeing ∷ log) key
     released-kept key =
         let freed = frees (releaseFrom s gone .said) in
         by (sameKey gone key && frees (releaseFrom s gone .said))
-        (λ t i.
+        (λ t.
         let z : gone ≡ key = same-key gone key (and-left (sameKey gone key) freed t) in
         let e : placeOf (releaseFrom s gone .shelf) key ≡ places =
         ap (placeOf (releaseFrom s gone .shelf)) (sym z) ∙ release-done s gone (h .good) (and-right (sameKey gone key) freed t) in
-        absurd (omega arith))
-        (λ f. unmoved s log h (step s releasing) (entry s releasing) key (release-apart s gone (h .good) key f) (λ n. refl) refl)
+        record { held = rw (t, e); kept = λ i. absurd (omega arith) })
+        (λ f. unmoved s log h (step s freeing) (entry s freeing) key (release-apart s gone (h .good) key f) (λ n. refl) refl f)
 
   pub step-holds : (c : Call) → Holds (step s c) (entry s c ∷ log)
-  step-holds (Call.offer payload) = record { good = offer-good s payload (h .good); kept = offered-kept payload }
-  step-holds (Call.load file) = record { good = load-good s file (h .good); kept = loaded-kept file }
-  step-holds (Call.release gone) = record { good = release-good s gone (h .good); kept = released-kept gone }
-  step-holds (Call.ask question) = record { good = h .good; kept = h .kept }
+  step-holds (Call.offer payload) = record { good = offer-good s payload (h .good); table = offered-kept payload }
+  step-holds (Call.load file) = record { good = load-good s file (h .good); table = loaded-kept file }
+  step-holds (Call.release gone) = record { good = release-good s gone (h .good); table = released-kept gone }
+  step-holds (Call.ask question) = record { good = h .good; table = λ key. record { held = h .table key .held; kept = h .table key .kept } }
 
 pub holds-from : (s : State) (log : List Entry) → Holds s log → (cs : List Call) → Holds (after s cs) (logged s log cs)
 holds-from s log h [] = h
@@ -174,7 +185,12 @@ module _ (store : List ℕ) (lent : length store ≡ storeSize) where
       }
 
   pub fresh-holds : Holds begun []
-  fresh-holds = record { good = fresh-good; kept = λ key i. let e : placeOf fresh key ≡ places = fresh-unheld key in absurd (omega arith) }
+  fresh-holds =
+      record {
+        good = fresh-good;
+        table = λ key.
+            let e : placeOf fresh key ≡ places = fresh-unheld key in record { held = rw e; kept = λ i. absurd (omega arith) };
+      }
 
 pub start-holds : Holds start []
 start-holds = fresh-holds (zeros storeSize) (zeros-length storeSize)

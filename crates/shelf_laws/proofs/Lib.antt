@@ -12,6 +12,8 @@ pub mod HandedOut
 pub mod Loaded
 pub mod Faults
 pub mod Histories
+pub mod Held
+pub mod Ranges
 pub mod Never
 pub mod Complete
 pub mod Reception

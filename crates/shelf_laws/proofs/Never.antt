@@ -1,131 +1,78 @@
 -- From a fresh shelf with a store of 65,536 bytes, whatever they are, no call of any history is answered 17 or 18.
-use mathlib.Core.Path.{_≡_, sym, _∙_}
 use mathlib.Core.List.{List, [], _∷_}
-use Prim.Native.Nat.{ℕ, _≤_}
+use mathlib.Core.Path.{_≡_}
+use Prim.Native.Nat.{_≤_}
 use native.Mathlib.Omega.{arith}
-use lib.Dec.{eqb, ltb}
-use lib.ListN.{length}
-use borrow.Author.Tests.{eq-eqb}
-use Rattle.base.proofs.Cases.{by, unlike}
-use Rattle.base.proofs.Tables.{among}
-use Rattle.section.proofs.ExactlyWhen.{refused-range}
-use Rattle.berth.specs.Berth.{places, storeSize}
-use Rattle.shelf.specs.Record.{fresh, placeOf}
-use Rattle.shelf.specs.declared.Key.{Key}
+use Rattle.shelf.specs.Record.{fresh}
 use Rattle.offer.specs.Offer as Offer
+use Rattle.offer.specs.declared.Offered.{Offered}
 use Rattle.release.specs.Release as Release
-use Rattle.ask.specs.Ask.{complete, copy, copiedNo, wholeNo, missingNo, asked, uncopied, copyFrom, copyOf, wholeOf, missingOf}
+use Rattle.release.specs.declared.Released.{Released}
+use Rattle.ask.specs.Ask.{copiedNo, wholeNo, missingNo}
 use Rattle.ask.specs.declared.Copied.{Copied}
-use Rattle.file.specs.declared.Scan.{Scan}
+use Rattle.ask.specs.declared.Whole.{Whole}
+use Rattle.ask.specs.declared.Missing.{Missing}
 use Rattle.load.specs.Load as Load
+use Rattle.load.specs.declared.Loaded.{Loaded}
 use Rattle.save.specs.Save as Save
-use Rattle.shelf_laws.specs.State.{State, copyOut, wholeIn, missingIn, saveOut}
-use Rattle.shelf_laws.specs.History.{Question, Call, Entry, reply, replyNo, entry, step, logged, numberIn, Each}
-use Rattle.shelf_laws.proofs.Kept.{Good}
-use Rattle.shelf_laws.proofs.Offering as Offering
-use Rattle.shelf_laws.proofs.Released as Releasing
-use Rattle.shelf_laws.proofs.Loaded as Loading
-use Rattle.shelf_laws.proofs.Faults.{scan-range}
-use Rattle.shelf_laws.proofs.Histories.{Holds, step-holds, fresh-holds}
+use Rattle.save.specs.declared.Saved.{Saved}
+use Rattle.shelf_laws.specs.History.{Reply, copied, wholly, lacking, saved, replyNo, Entry, offered, loaded, released, asked, logged, numberIn, Each}
+use Rattle.shelf_laws.specs.Laws.{Never17Nor18}
+use Rattle.shelf_laws.proofs.Ranges.{OfferRange, LoadRange, ReleaseRange, CopyRange, WholeRange, MissingRange, SaveRange, ReplyRange, Range, ranges-from}
+use Rattle.shelf_laws.proofs.Histories.{fresh-holds}
 
-abbrev pub Neither : ℕ → Type 0
-Neither n = (n ≡ 17 → ⊥) × (n ≡ 18 → ⊥)
+offer-16 : (a : Offered) → OfferRange a → Offer.numberOf a ≤ 16
+offer-16 Offered.Began r = omega arith
+offer-16 Offered.BeganAgain r = omega arith
+offer-16 Offered.Added r = omega arith
+offer-16 Offered.Repeat r = omega arith
+offer-16 (Offered.Refused n) r = r .1
 
-few : (n : ℕ) → n ≤ 16 → Neither n
-few n h = (λ e. omega arith, λ e. omega arith)
+load-16 : (a : Loaded) → LoadRange a → Load.numberOf a ≤ 16
+load-16 Loaded.Done r = omega arith
+load-16 (Loaded.Refused n) r = r .1
 
-module _ (s : State) (g : Good s) where
-  offer-refusal : (payload : List ℕ) {n : ℕ} → Offering.Refusal s payload n → Neither n
-  offer-refusal payload (Offering.Refusal.17-store l) = absurd (l (g .lent))
-  offer-refusal payload (Offering.Refusal.18-spoiled _ e) = absurd (unlike (sym e ∙ g .unspoiled))
-  offer-refusal payload (Offering.Refusal.unsound n _ _ e) = let b : n ≤ 8 = refused-range payload n e .1 in few n (omega arith)
-  offer-refusal payload (Offering.Refusal.9-full _ _ _) = few 9 (omega arith)
-  offer-refusal payload (Offering.Refusal.10-last _ _ _ _) = few 10 (omega arith)
-  offer-refusal payload (Offering.Refusal.10-differs _ _ _ _ _ _) = few 10 (omega arith)
+release-16 : (a : Released) → ReleaseRange a → Release.numberOf a ≤ 16
+release-16 Released.Done r = omega arith
+release-16 (Released.Refused n) r = r .1
 
-  offered : (payload : List ℕ) {r : Offer.After} → Offering.Goes s payload r → Neither (Offer.numberOf (r .said))
-  offered payload (Offering.Goes.refuses n y) = offer-refusal payload y
-  offered payload (Offering.Goes.began _ _ _) = few 0 (omega arith)
-  offered payload (Offering.Goes.beganAgain _ _ _) = few 0 (omega arith)
-  offered payload (Offering.Goes.added _ _ _ _ _) = few 0 (omega arith)
-  offered payload (Offering.Goes.repeats _ _ _ _ _ _) = few 0 (omega arith)
+copy-16 : (a : Copied) → CopyRange a → copiedNo a ≤ 16
+copy-16 (Copied.Bytes n) r = omega arith
+copy-16 (Copied.Refused n) r = r .1
 
-  load-refusal : (file : List ℕ) {scan : Scan} {n : ℕ} → Loading.Refusal s file scan n → Neither n
-  load-refusal file (Loading.Refusal.17-store _ l) = absurd (l (g .lent))
-  load-refusal file (Loading.Refusal.18-spoiled _ e) = absurd (unlike (sym e ∙ g .unspoiled))
-  load-refusal file (Loading.Refusal.faulty n e) = let b : n ≤ 12 = scan-range file n e in few n (omega arith)
-  load-refusal file (Loading.Refusal.13-held _ _) = few 13 (omega arith)
-  load-refusal file (Loading.Refusal.9-full _ _) = few 9 (omega arith)
+whole-16 : (a : Whole) → WholeRange a → wholeNo a ≤ 16
+whole-16 Whole.Complete r = omega arith
+whole-16 Whole.Incomplete r = omega arith
+whole-16 (Whole.Refused n) r = r .1
 
-  loaded : (file : List ℕ) {scan : Scan} {r : Load.After} → Loading.Goes s file scan r → Neither (Load.numberOf (r .said))
-  loaded file (Loading.Goes.refuses _ _ y) = load-refusal file y
-  loaded file (Loading.Goes.done _ _ _ _ _ _) = few 0 (omega arith)
+missing-16 : (a : Missing) → MissingRange a → missingNo a ≤ 16
+missing-16 Missing.Nothing r = omega arith
+missing-16 (Missing.Number n) r = omega arith
+missing-16 (Missing.Refused n) r = r .1
 
-  release-refusal : (key : Key) {n : ℕ} → Releasing.Refusal s key n → Neither n
-  release-refusal key (Releasing.Refusal.17-store l) = absurd (l (g .lent))
-  release-refusal key (Releasing.Refusal.18-spoiled e) = absurd (unlike (sym e ∙ g .unspoiled))
-  release-refusal key (Releasing.Refusal.14-unheld _) = few 14 (omega arith)
+save-16 : (a : Saved) → SaveRange a → Save.numberOf a ≤ 16
+save-16 (Saved.Bytes n) r = omega arith
+save-16 (Saved.Refused n) r = r .1
 
-  released : (key : Key) {r : Release.After} → Releasing.Goes s key r → Neither (Release.numberOf (r .said))
-  released key (Releasing.Goes.refuses _ y) = release-refusal key y
-  released key (Releasing.Goes.done _ _ _) = few 0 (omega arith)
+reply-16 : (a : Reply) → ReplyRange a → replyNo a ≤ 16
+reply-16 (copied c) r = copy-16 (c .said) r
+reply-16 (wholly said) r = whole-16 said r
+reply-16 (lacking said) r = missing-16 said r
+reply-16 (saved c) r = save-16 (c .said) r
 
-  copied : (key : Key) (n : ℕ) (out : List ℕ) → Neither (copiedNo (copyOut s key n out .said))
-  unfolding copyOf
-  copied key n out =
-      rw (eq-eqb (length s.store) storeSize (g .lent), g .unspoiled)
-      (by (eqb (placeOf s.shelf key) places)
-      (λ a. rw a (few 14 (omega arith)))
-      (λ a.
-      rw a
-      (among (λ m. copy (Copied.Refused m) out) (λ c. Neither (copiedNo (c .said)))
-      (uncopied (asked s.shelf s.store key) n out) (copyFrom (asked s.shelf s.store key) s.store (placeOf s.shelf key) n out)
-      (few 16 (omega arith), (few 15 (omega arith), tt)) (few 0 (omega arith)))))
+pub most-16 : (e : Entry) → Range e → numberIn e ≤ 16
+most-16 (offered payload said) r = offer-16 said r
+most-16 (loaded file said) r = load-16 said r
+most-16 (released key said) r = release-16 said r
+most-16 (asked question said) r = reply-16 said r
 
-  wholly : (key : Key) → Neither (wholeNo (wholeIn s key))
-  unfolding wholeOf
-  wholly key =
-      rw (eq-eqb (length s.store) storeSize (g .lent), g .unspoiled)
-      (by (eqb (placeOf s.shelf key) places)
-      (λ a. rw a (few 14 (omega arith)))
-      (λ a. by (complete (asked s.shelf s.store key)) (λ b. rw (a, b) (few 0 (omega arith))) (λ b. rw (a, b) (few 0 (omega arith)))))
+neither : (log : List Entry) → Each Range log → Each (λ e. (numberIn e ≡ 17 → ⊥) × (numberIn e ≡ 18 → ⊥)) log
+neither [] r = tt
+neither (e ∷ log) r =
+    let b : numberIn e ≤ 16 = most-16 e (r .0) in
+    ((λ z. omega arith, λ z. omega arith), neither log (r .1))
 
-  lacking : (key : Key) → Neither (missingNo (missingIn s key))
-  unfolding missingOf
-  lacking key =
-      rw (eq-eqb (length s.store) storeSize (g .lent), g .unspoiled)
-      (by (eqb (placeOf s.shelf key) places)
-      (λ a. rw a (few 14 (omega arith)))
-      (λ a. by (complete (asked s.shelf s.store key)) (λ b. rw (a, b) (few 0 (omega arith))) (λ b. rw (a, b) (few 0 (omega arith)))))
-
-  saved : (key : Key) (out : List ℕ) → Neither (Save.numberOf (saveOut s key out .said))
-  unfolding Save.saveOf
-  saved key out =
-      rw (eq-eqb (length s.store) storeSize (g .lent), g .unspoiled)
-      (by (eqb (placeOf s.shelf key) places)
-      (λ a. rw a (few 14 (omega arith)))
-      (λ a.
-      by (ltb (length out) (length (Save.savedFile s.shelf s.store key)))
-      (λ b. rw (a, b) (few 15 (omega arith)))
-      (λ b. rw (a, b) (few 0 (omega arith)))))
-
-  replied : (q : Question) → Neither (replyNo (reply s q))
-  replied (Question.copy key n out) = copied key n out
-  replied (Question.whole key) = wholly key
-  replied (Question.missing key) = lacking key
-  replied (Question.save key out) = saved key out
-
-  neither : (c : Call) → Neither (numberIn (entry s c))
-  neither (Call.offer payload) = offered payload (Offering.goes s payload)
-  neither (Call.load file) = loaded file (Loading.goes s file)
-  neither (Call.release key) = released key (Releasing.goes s key)
-  neither (Call.ask question) = replied question
-
-never-from : (s : State) (log : List Entry) → Holds s log → Each (λ e. Neither (numberIn e)) log → (cs : List Call)
-    → Each (λ e. Neither (numberIn e)) (logged s log cs)
-never-from s log h n [] = n
-never-from s log h n (c ∷ cs) = never-from (step s c) (entry s c ∷ log) (step-holds s log h c) (neither s (h .good) c, n) cs
-
-pub never-17-18 : (store : List ℕ) → length store ≡ storeSize → (cs : List Call)
-    → Each (λ e. (numberIn e ≡ 17 → ⊥) × (numberIn e ≡ 18 → ⊥)) (logged (record { shelf = fresh; store = store }) [] cs)
-never-17-18 store lent cs = never-from (record { shelf = fresh; store = store }) [] (fresh-holds store lent) tt cs
+pub never-17-18 : Never17Nor18
+never-17-18 store lent h =
+    neither (logged (record { shelf = fresh; store = store }) [] h)
+    (ranges-from (record { shelf = fresh; store = store }) [] (fresh-holds store lent) tt h)

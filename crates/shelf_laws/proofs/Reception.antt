@@ -4,8 +4,8 @@
 --   fed-step         one call that leaves the table undisturbed keeps it so
 --   fed-all          it is so after every history that leaves the table undisturbed
 --   offered-heard    a section that is offered in a history is heard in its log
---   hands-out-too    what the first history hands out the second hands out, with the same bytes
---   completes-too    and it calls the table complete if the first does
+--   more-reception   what the first history hands out the second hands out, with the same bytes, and it calls the table complete
+--                    if the first does
 use mathlib.Core.Path.{_≡_, refl, sym, ap, subst, _∙_}
 use mathlib.Core.Bool.{Bool, true, false, _&&_, _||_}
 use mathlib.Core.Logic.{_⊎_, ⊎-elim, inl, inr}
@@ -39,6 +39,7 @@ use Rattle.shelf_laws.specs.Answers.{begins, joins, accepted, isDone, fr
 use Rattle.shelf_laws.specs.History.{Call, Entry, offered, loaded, released, asked, entry, step, after, logged, start, afterAll, logOf, copyAfter, wholeAfter, Each}
 use Rattle.shelf_laws.specs.Log.{loads}
 use Rattle.shelf_laws.specs.Reception.{SectionOf, OfferedIn, Fits, Undisturbed}
+use Rattle.shelf_laws.specs.Laws.{MoreReception}
 use Rattle.shelf_laws.proofs.Truth.{or-none, or-true, and-true, and-false}
 use Rattle.shelf_laws.proofs.Places.{same-key, key-itself}
 use Rattle.shelf_laws.proofs.Offering.{Refusal, Goes, goes, number-16}
@@ -289,7 +290,7 @@ module _ (key : Key) (v l : ℕ) (f : ℕ → List ℕ) (h k : List Call)
   good : (h : List Call) → Good (afterAll h)
   good h = holds-all h .good
 
-  pub hands-out-too : (n : ℕ) (out : List ℕ) → copiedNo (copyAfter h key n out .said) ≡ 0 → copyAfter k key n out ≡ copyAfter h key n out
+  hands-out-too : (n : ℕ) (out : List ℕ) → copiedNo (copyAfter h key n out .said) ≡ 0 → copyAfter k key n out ≡ copyAfter h key n out
   hands-out-too n out e = go (fed-all key v l f h first)
     where
       refused : {m : ℕ} → copyAfter h key n out ≡ copy (Copied.Refused m) out → (m ≡ 0 → ⊥) → copyAfter k key n out ≡ copyAfter h key n out
@@ -312,7 +313,7 @@ module _ (key : Key) (v l : ℕ) (f : ℕ → List ℕ) (h k : List Call)
           (λ a.
           refused (kept-16 (afterAll h) (good h) key kept n (above-16 (afterAll h) (good h) key p n (kept .taken) (ltb-false _ _ a)) out) (λ z. omega arith))
 
-  pub completes-too : wholeAfter h key ≡ Whole.Complete → wholeAfter k key ≡ Whole.Complete
+  completes-too : wholeAfter h key ≡ Whole.Complete → wholeAfter k key ≡ Whole.Complete
   completes-too e = go (fed-all key v l f h first)
     where
       go : Fed key v l f (afterAll h) (logOf h) → wholeAfter k key ≡ Whole.Complete
@@ -324,3 +325,6 @@ module _ (key : Key) (v l : ℕ) (f : ℕ → List ℕ) (h k : List Call)
           let each : (n : ℕ) → n < l + 1 → heard key (logOf h) n ≡ true = λ n i. every-each (heard key (logOf h)) (l + 1) n i all in
           kept-whole (afterAll k) (good k) key (holds-too 0 (each 0 (omega arith)) .1)
           ∙ rw (every-all (heard key (logOf k)) (l + 1) (λ n i. hears-too n (each n i)))
+
+pub more-reception : MoreReception
+more-reception key v l f h k first second offers = (hands-out-too key v l f h k first second offers, completes-too key v l f h k first second offers)

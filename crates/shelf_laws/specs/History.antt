@@ -24,6 +24,13 @@ pub data Question : Type 0 where
   missing : Key → Question
   save : Key → List ℕ → Question
 
+-- the key of the table that is asked for
+abbrev pub about : Question → Key
+about (copy key n out) = key
+about (whole key) = key
+about (missing key) = key
+about (save key out) = key
+
 pub data Call : Type 0 where
   offer : List ℕ → Call
   load : List ℕ → Call
@@ -83,6 +90,9 @@ abbrev pub logOf : List Call → List Entry
 logOf h = logged start [] h
 
 -- what is answered after a history
+abbrev pub replyAfter : List Call → Question → Reply
+replyAfter h = reply (afterAll h)
+
 abbrev pub copyAfter : List Call → Key → ℕ → List ℕ → Ask.Copy
 copyAfter h = copyOut (afterAll h)
 

@@ -5,3 +5,4 @@ pub mod Answers
 pub mod History
 pub mod Log
 pub mod Reception
+pub mod Laws

@@ -12,7 +12,7 @@ use Rattle.file.specs.Scan.{scanOf}
 use Rattle.file.specs.declared.Scan.{Scan}
 use Rattle.shelf_laws.specs.File.{carries, sectionIn}
 use Rattle.shelf_laws.specs.Named.{keyIn}
-use Rattle.shelf_laws.specs.Answers.{begins, accepted, isDone}
+use Rattle.shelf_laws.specs.Answers.{begins, accepted, isDone, frees}
 use Rattle.shelf_laws.specs.History.{Entry, offered, loaded, released, asked}
 
 -- the table of a scan: whether it has that key, its version, its last number
@@ -59,6 +59,18 @@ module _ (key : Key) where
   accepting n (loaded file said) = loads key file && (isDone said && carries file n)
   accepting n (released k said) = false
   accepting n (asked question said) = false
+
+  -- the entry releases the table
+  abbrev pub releasing : Entry → Bool
+  releasing (offered payload said) = false
+  releasing (loaded file said) = false
+  releasing (released k said) = sameKey k key && frees said
+  releasing (asked question said) = false
+
+  -- the table began, and was not released since
+  abbrev pub heldBy : List Entry → Bool
+  heldBy [] = false
+  heldBy (e ∷ log) = beginning e || (if releasing e then false else heldBy log)
 
   -- section n was accepted or loaded since the table last began
   abbrev pub since : List Entry → ℕ → Bool

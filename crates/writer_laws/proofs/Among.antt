@@ -2,14 +2,12 @@
 --   mem-front, mem-last      in the front of two lists, and at the end of one
 --   mem-append               in one of two
 --   mem-chosen               among the numbers that are picked
-use mathlib.Core.Path.{_≡_, refl, sym, ap, _∙_}
+use mathlib.Core.Path.{_≡_, refl}
 use mathlib.Core.Bool.{Bool, true, false}
 use mathlib.Core.Logic.{_⊎_, ⊎-elim, inl, inr}
 use mathlib.Core.List.{List, [], _∷_, _++_, List·Memᴰ, List·Memᴰ·not-nil, List·Memᴰ·cases-cons}
-use Prim.Native.Nat.{ℕ, zero, suc, _+_, _<_}
-use native.Mathlib.Omega.{arith}
+use Prim.Native.Nat.{ℕ, zero, suc, _+_}
 use Rattle.base.specs.Choice.{if_then_else_}
-use Rattle.base.proofs.Cases.{by}
 use Rattle.file.specs.Layout.{chosen}
 
 module _ {x : List ℕ} where

@@ -10,9 +10,9 @@ use mathlib.Core.Path.{_≡_, refl, sym, ap, subst, _∙_}
 use mathlib.Core.Bool.{true}
 use mathlib.Core.List.{List, [], _∷_, _++_, List·Memᴰ, List·Memᴰ·not-nil, List·Memᴰ·cases-cons}
 use mathlib.Core.Logic.{⊎-elim}
-use Prim.Native.Nat.{ℕ, zero, suc, _+_, _<_, _≤_}
+use Prim.Native.Nat.{ℕ, zero, suc, _+_, _≤_}
 use native.Mathlib.Omega.{arith}
-use lib.ListN.{length, take, drop}
+use lib.ListN.{length, drop}
 use lib.Seq.{take-append-seam}
 use Rattle.base.proofs.Below.{every-all}
 use Rattle.base.proofs.Cases.{unlike}
@@ -31,6 +31,7 @@ use Rattle.writer.specs.declared.Label.{Label}
 use Rattle.writer.proofs.Laws.{last-le}
 use Rattle.writer.proofs.Fewest.{firstBodies, bodies-join}
 use Rattle.writer_laws.specs.Offers.{keyOf, offersOf, AnyOrder, bodyOf, bodiesAfter}
+use Rattle.writer_laws.specs.Laws.{CompleteTable, HandsOut, BodiesBack}
 use Rattle.writer_laws.proofs.Sections.{is-section, its-number, its-size, its-body}
 use Rattle.writer_laws.proofs.Undisturbed.{undisturbed}
 
@@ -103,13 +104,14 @@ module _ (label : Label) (body : List ℕ) (five : label .version ≤ 31) (fits 
     each-offered : (k : ℕ) → k ≤ last → OfferedIn h (written label body k)
     each-offered k i = offered-in ks k (order .each k i)
 
-    pub complete-table : wholeAfter h key ≡ Whole.Complete
-    complete-table = complete-among h calm each-offered
+pub complete-table : CompleteTable
+complete-table label body five fits ks order =
+    complete-among label body five fits (offersOf label body ks) (calm label body five fits ks order) (each-offered label body five fits ks order)
 
-    pub hands-out : (k : ℕ) → k ≤ last → (out : List ℕ) → length (written label body k) ≤ length out →
-        copyAfter h key k out
-        ≡ copy (Copied.Bytes (length (written label body k))) (written label body k ++ drop (length (written label body k)) out)
-    hands-out = handed-among h calm each-offered
+pub hands-out : HandsOut
+hands-out label body five fits ks order =
+    handed-among label body five fits (offersOf label body ks) (calm label body five fits ks order) (each-offered label body five fits ks order)
 
-    pub bodies-back : (out : List ℕ) → 1024 ≤ length out → bodiesAfter h key out (last + 1) ≡ body
-    bodies-back = joined-among h calm each-offered
+pub bodies-back : BodiesBack
+bodies-back label body five fits ks order =
+    joined-among label body five fits (offersOf label body ks) (calm label body five fits ks order) (each-offered label body five fits ks order)

@@ -1,6 +1,5 @@
 -- The terms can be met: the numbers from the last down to 0 are an order, and so is one with a repeat.
 --   falling, again
-use mathlib.Core.Path.{_≡_, refl}
 use mathlib.Core.Logic.{⊎-elim}
 use mathlib.Core.List.{List, [], _∷_, List·Memᴰ, List·Memᴰ·not-nil, List·Memᴰ·cases-cons}
 use Prim.Native.Nat.{ℕ, zero, suc, _≤_, _<_}

@@ -6,14 +6,14 @@
 --   its-body       past its header it is its part of the body
 use mathlib.Core.Path.{_≡_, refl, sym, ap, _∙_}
 use mathlib.Core.List.{List}
-use Prim.Native.Nat.{ℕ, _+_, _≤_}
+use Prim.Native.Nat.{ℕ, _≤_}
 use native.Mathlib.Omega.{arith}
 use lib.ListN.{length, drop}
 use Rattle.section.specs.Section.{readOf, headerOf, version, sectionNumber, lastSectionNumber}
 use Rattle.section.specs.declared.Header.{Header}
 use Rattle.section.specs.declared.Reading.the-variants.{Sound}
 use Rattle.section.proofs.Laws.{sound-facts}
-use Rattle.offer.specs.Offer as Offer
+use Rattle.shelf.specs.Record as Record
 use Rattle.shelf_laws.specs.Reception.{SectionOf}
 use Rattle.writer.specs.Writer.{full, most, lastOf, bodyAt, sectionOf, written}
 use Rattle.writer.specs.declared.Label.{Label}
@@ -32,7 +32,7 @@ module _ (label : Label) (body : List ℕ) (five : label .version ≤ 31) (fits 
   its-header = sym (sound-facts (written label body k) header reads .header)
 
   pub is-section : SectionOf (keyOf label) (written label body k)
-  is-section = record { sound = reads ∙ ap Sound (sym its-header); its-key = ap Offer.keyOf its-header }
+  is-section = record { sound = reads ∙ ap Sound (sym its-header); its-key = ap Record.keyOf its-header }
 
   pub its-number : sectionNumber (written label body k) ≡ k
   its-number = ap (λ (h : Header). h .number) its-header

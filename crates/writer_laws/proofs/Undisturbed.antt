@@ -6,7 +6,6 @@ use mathlib.Core.List.{List, [], _∷_, List·Memᴰ}
 use Prim.Native.Nat.{ℕ, _<_, _≤_}
 use native.Mathlib.Omega.{arith}
 use lib.ListN.{length}
-use lib.Dec.{eqb}
 use borrow.Author.Tests.{eq-eqb}
 use Rattle.base.specs.Below.{lowest}
 use Rattle.base.proofs.Cases.{unlike}
@@ -17,13 +16,13 @@ use Rattle.shelf.specs.Record.{fresh, placeOf, freeOf}
 use Rattle.shelf.specs.declared.Key.{Key}
 use Rattle.offer.specs.Offer as Offer
 use Rattle.offer.specs.declared.Offered.{Offered}
-use Rattle.shelf_laws.specs.State.{State, offerTo}
+use Rattle.shelf_laws.specs.State.{State}
 use Rattle.shelf_laws.specs.Named.{keyIn}
 use Rattle.shelf_laws.specs.History.{Call, Entry, entry, step, logged, start, logOf, Each}
-use Rattle.shelf_laws.specs.Reception.{SectionOf, Fits, Undisturbed}
+use Rattle.shelf_laws.specs.Reception.{Undisturbed}
 use Rattle.shelf_laws.proofs.Offering.{Refusal, Goes, goes}
 use Rattle.shelf_laws.proofs.Histories.{Holds, step-holds, start-holds, fresh-unheld}
-use Rattle.shelf_laws.proofs.Reception.{isSection, section-is, heard, Fed, fed-step}
+use Rattle.shelf_laws.proofs.Reception.{section-is, heard, Fed, fed-step}
 use Rattle.writer.specs.Writer.{most, lastOf, written}
 use Rattle.writer.specs.declared.Label.{Label}
 use Rattle.writer_laws.specs.Offers.{keyOf, offersOf}

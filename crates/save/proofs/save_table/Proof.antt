@@ -27,7 +27,7 @@ lengths-of-requires : tie.Need-lengths-of-requires
 lengths-of-requires c κs = search needs
 
 save-place-requires : tie.Need-save-place-requires
-save-place-requires c κs = 
+save-place-requires c κs =
     let a = c .before .before .before .before .before .before .before .before .before .args in
     let e = told (c .before .before .before .before .before .held-in .ensures) (c .before .before .before .holding2 .given .1) in
     let r = held-stands _ (now (a .store)) (a .key) _ e in
@@ -40,7 +40,7 @@ same-length : tie.Need-same-length
 same-length c = search needs
 
 returns-2 : tie.Need-returns-2
-returns-2 c = 
+returns-2 c =
     let e = told (c .before .before .before .before .before .before .before .before .held-in .ensures) (c .before .before .before .before .before .before .holding2 .given .1) in
     save-by _ _ _ _ _ e (lengths-read _ _ _ _ e (c .before .before .before .before .lengths-of .ensures)) (c .before .before .save-place .ensures)
 

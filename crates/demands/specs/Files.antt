@@ -1,0 +1,47 @@
+-- Document 01, "The shelf file", of the functions that a host calls: what was saved restores the table, and saving what was loaded
+-- gives the same bytes. The theorems are in proofs/Files.
+use Prim.Native.Nat.{ℕ, _≤_}
+use mathlib.Core.Path.{_≡_}
+use mathlib.Core.Bool.{false}
+use mathlib.Core.List.{List}
+use lib.ListN.{length, take}
+use Rattle.base.specs.Octets.{Octets}
+use Rattle.section.specs.declared.Header.{Header}
+use Rattle.answers.specs.Answers.{Out, refusalIn, sizeIn, filled}
+use Rattle.shelf.specs.declared.Key.{Key}
+use Rattle.shelf.specs.Record.{keyOf}
+use Rattle.file.specs.Scan.{scanOf}
+use Rattle.file.specs.declared.Scan.{Scan}
+use Rattle.shelf_laws.specs.History.{Question, about}
+use Rattle.shelf_laws.specs.Log.{heldBy}
+use Rattle.lent_histories.specs.Calls.{saveLent}
+use Rattle.lent_histories.specs.History.{History, loan, replyTo, logAfter, replyAfter, saveAfter, loadAfter}
+
+-- the file that a save left at the front of its output
+abbrev pub fileIn : Out → List ℕ
+fileIn saved = take (sizeIn (saved .code)) (saved .out)
+
+-- A table is saved after one history, and the file, of bytes as every file is that a host can lend, is loaded after another history that
+-- does not hold that table: it is loaded, unless the shelf is full, and then every question about the table is answered as before.
+abbrev pub RestoresAlways : Type 0
+RestoresAlways =
+    (first second : History) (key : Key) (output : List ℕ)
+    → refusalIn (saveAfter first key output .code) ≡ 0
+    → Octets (fileIn (saveAfter first key output))
+    → heldBy key (logAfter second) ≡ false
+    → ¬ (loadAfter second (fileIn (saveAfter first key output)) .code ≡ 9)
+    → (loadAfter second (fileIn (saveAfter first key output)) .code ≡ 0)
+    × ((q : Question) → about q ≡ key → replyTo (loan (loadAfter second (fileIn (saveAfter first key output)))) q ≡ replyAfter first q)
+
+-- a file that is loaded, and whose table is then saved with room for it, is written byte for byte
+abbrev pub SavedAgain : Type 0
+SavedAgain =
+    (h : History) (file : List ℕ)
+    → Octets file
+    → (header : Header)
+    → scanOf file .answer ≡ Scan.Table header
+    → loadAfter h file .code ≡ 0
+    → (output : List ℕ)
+    → length file ≤ length output
+    → saveLent (loadAfter h file .words) (loadAfter h file .store) (keyOf header) output
+    ≡ filled file output

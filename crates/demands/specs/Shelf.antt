@@ -1,0 +1,71 @@
+-- The buyer's third condition, of the functions that a host calls; the theorems are in proofs/Shelf.
+--
+-- "On a shelf begun fresh and handed back as left, a held table is called complete exactly when every section from 0 to its last
+-- was accepted or loaded since it last began, by a hearing while unheld, change of version or load."
+--   HeldExactly, CompleteExactly
+--
+-- "More reception takes nothing away: take two such histories where one table's sound sections share one version, one last number
+-- and the same bytes per section number, none met a full shelf, and the table was neither released nor loaded. If the second
+-- offers every such section the first does, in any order, it hands out each section the first does, with the same bytes, and
+-- calls the table complete if the first does."
+--   MoreReception
+--
+-- A `History` is any list of calls, refused ones too, after a beginning on whatever was lent, each call lent what the last one left
+-- (lent_histories, specs/History). `logAfter` is the log that its numbers tell; `heldBy`, `since` and `lastSince` (shelf_laws,
+-- specs/Log) read that log alone, and never the record. `Undisturbed` and `SectionOf` are in shelf_laws, specs/Reception.
+use Prim.Native.Nat.{ℕ, _≤_}
+use mathlib.Core.Path.{_≡_}
+use mathlib.Core.Bool.{true}
+use mathlib.Core.Logic.{_↔_}
+use mathlib.Core.List.{List}
+use lib.ListN.{length}
+use Rattle.base.specs.Octets.{Octets}
+use Rattle.section.specs.Section.{sectionNumber}
+use Rattle.answers.specs.Answers.{refusalIn, filled}
+use Rattle.shelf.specs.declared.Key.{Key}
+use Rattle.ask.specs.declared.Whole.{Whole}
+use Rattle.shelf_laws.specs.History.{Question, about, Each}
+use Rattle.shelf_laws.specs.Named.{keyIn}
+use Rattle.shelf_laws.specs.Log.{heldBy, since, lastSince}
+use Rattle.shelf_laws.specs.Reception.{SectionOf, OfferedIn, Undisturbed}
+use Rattle.lent_histories.specs.Numbers.{wholeCode}
+use Rattle.lent_histories.specs.Calls.{copyLent}
+use Rattle.lent_histories.specs.History.{History, logAfter, linesAfter, replyAfter, wholeAfter, copyAfter, offerAfter, EachLine}
+
+-- the number that calls a table complete
+abbrev pub complete : ℕ
+complete = wholeCode Whole.Complete
+
+-- a table is held, which is to say that no question about it is answered 14, exactly when it began and was not released since
+abbrev pub HeldExactly : Type 0
+HeldExactly = (h : History) (q : Question) → ¬ (refusalIn (replyAfter h q .code) ≡ 14) ↔ (heldBy (about q) (logAfter h) ≡ true)
+
+abbrev pub CompleteExactly : Type 0
+CompleteExactly =
+    (h : History) (key : Key)
+    → heldBy key (logAfter h) ≡ true
+    → (wholeAfter h key ≡ complete) ↔ ((n : ℕ) → n ≤ lastSince key (logAfter h) → since key (logAfter h) n ≡ true)
+
+abbrev pub MoreReception : Type 0
+MoreReception =
+    (key : Key) (version last : ℕ) (bytes : ℕ → List ℕ) (first second : History)
+    → Each (Undisturbed key version last bytes) (logAfter first)
+    → Each (Undisturbed key version last bytes) (logAfter second)
+    → ((payload : List ℕ) → SectionOf key payload → OfferedIn (first .calls) payload → OfferedIn (second .calls) payload)
+    → ((n : ℕ) (output : List ℕ) → refusalIn (copyAfter first key n output .code) ≡ 0 → copyAfter second key n output ≡ copyAfter first key n output)
+    × (wholeAfter first key ≡ complete → wholeAfter second key ≡ complete)
+
+-- beside it: no call of a history is answered 17 or 18
+abbrev pub Never17Nor18 : Type 0
+Never17Nor18 = (h : History) → EachLine (λ l. ¬ (refusalIn (l .answer .code) ≡ 17) × ¬ (refusalIn (l .answer .code) ≡ 18)) (linesAfter h)
+
+-- and a section that is accepted is handed out byte for byte by the next ask, with its size; output past it stays as it was
+abbrev pub HandedOut : Type 0
+HandedOut =
+    (h : History) (payload : List ℕ)
+    → Octets payload
+    → refusalIn (offerAfter h payload .code) ≡ 0
+    → (output : List ℕ)
+    → length payload ≤ length output
+    → copyLent (offerAfter h payload .words) (offerAfter h payload .store) (keyIn payload) (sectionNumber payload) output
+    ≡ filled payload output

@@ -1,0 +1,4 @@
+pub mod Ties
+pub mod Back
+pub mod OneHistory
+pub mod After
