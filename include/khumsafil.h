@@ -63,7 +63,7 @@ extern "C" {
 #define KHUMSAFIL_REFUSED_OUTPUT_TOO_SMALL 15            /* output too small */
 #define KHUMSAFIL_REFUSED_SECTION_NOT_HELD 16            /* section not held */
 #define KHUMSAFIL_REFUSED_STORE_SIZE 17                  /* store not 65,536 bytes */
-#define KHUMSAFIL_REFUSED_SHELF_SPOILED 18               /* shelf record spoiled, or not 76 numbers */
+#define KHUMSAFIL_REFUSED_SHELF_SPOILED 18               /* shelf record spoiled, or not 84 numbers */
 #define KHUMSAFIL_REFUSED_DESCRIPTOR_RUNS_PAST 19        /* descriptor runs past the loop, or the place asked is beyond its end */
 #define KHUMSAFIL_REFUSED_TRIGGER_CUT_OFF 20             /* trigger ends inside a field */
 #define KHUMSAFIL_REFUSED_TRIGGER_OTHER_EVENT 21         /* event type not 0 */
@@ -120,19 +120,20 @@ uint64_t khumsafil_section_read(const uint8_t *payload, size_t payload_length);
  * A shelf is a record of this many numbers and a store of this many bytes, both lent. Another size of the store is
  * refused by 17, and then another number of numbers by 18.
  *
- * Place p of four has the numbers from 19p on:
+ * Of place p of four, and section n of sixteen:
  *
- *   19p       from bit 0 the table id, from bit 8 the version
- *   19p + 1   the table id extension
- *   19p + 2   from bit 0 the last number; the place is taken where any bit from 8 up is set
- *   19p + 3   and the fifteen after it: the length of each section, 0 where it is not held
+ *   16p + n   the length of the section, where it is held
+ *   64 + 4p   256 and the table id where the place is taken; any number below 256 or above 511 where it is free
+ *   65 + 4p   the table id extension
+ *   66 + 4p   the version
+ *   67 + 4p   the last number
+ *   80 + p    bit n is 1 where the section is held
  *
- * Section n of place p stands in the store from byte 1024 (16p + n) on. The numbers of a place that is not taken are
- * disregarded. So every value of the numbers is some record; a spoiled one is refused by 18. After a call that wrote the
- * numbers, those bits from 8 up are 1 for each place that is taken. Promises over a history presume that the host lends
- * numbers and store back as they were left.
+ * Section n of place p stands in the store from byte 1024 (16p + n) on. The numbers of a place that is free, and the
+ * length of a section that is not held, are disregarded. So every value of the numbers is some record; a spoiled one is
+ * refused by 18. Promises over a history presume that the host lends numbers and store back as they were left.
  */
-#define KHUMSAFIL_SHELF_RECORD 76
+#define KHUMSAFIL_SHELF_RECORD 84
 #define KHUMSAFIL_STORE 65536
 
 /* The most bytes of a section, and of a file. */

@@ -18,6 +18,9 @@ pub const BIT_40: u64 = 1099511627776;
 
 pub const BIT_48: u64 = 281474976710656;
 
+// What a call answers that was done and has nothing else to tell.
+pub const DONE: u8 = 0;
+
 // A number of refusal in an answer of 16 bits.
 pub fn wide(n: u8) -> u16
     ensures { λ r. ⌜ r ≡ n ⌝ }

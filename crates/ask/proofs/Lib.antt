@@ -1,6 +1,7 @@
 pub mod Gaps
 pub mod Held
-pub mod Lent
+pub mod Numbers
 pub mod ExactlyWhen
 pub mod Alike
 pub mod Unique
+pub mod Told

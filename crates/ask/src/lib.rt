@@ -11,6 +11,8 @@ ghost use Rattle.base.specs.Bits.{bit};
 ghost use Rattle.berth.specs.Berth.{sections};
 ghost use Rattle.shelf.specs.Layout.{shelfAt};
 ghost use Rattle.ask.specs.Ask.{holdingOf, copy, copyOf, wholeOf, missingOf};
+ghost use Rattle.answers.specs.Answers.{out as outOf};
+ghost use Rattle.ask.specs.Answer.{wholeLent, missingLent, copyLent};
 
 // The place of the table that is asked for.
 pub enum Holding {
@@ -38,8 +40,6 @@ pub enum Missing {
     Nothing,
     Refused(u8),
 }
-
-pub const OUTPUT_TOO_SMALL: u8 = 15;
 
 pub const SECTION_NOT_HELD: u8 = 16;
 
@@ -95,7 +95,7 @@ pub fn copy_section(words: &[u16], store: &[u8], key: Key, n: u8, out: &mut [u8]
                 return Copied::Refused(SECTION_NOT_HELD);
             }
             if out.len() < count {
-                return Copied::Refused(OUTPUT_TOO_SMALL);
+                return Copied::Refused(answers::OUTPUT_TOO_SMALL);
             }
             berth::copy_out(store, p, n as usize, count, out);
             Copied::Bytes(count)
@@ -137,5 +137,51 @@ pub fn lowest_missing(words: &[u16], store: &[u8], key: Key) -> Missing
                 Missing::Nothing
             }
         }
+    }
+}
+
+// The answers as numbers: the case from bit 8 up, a missing number from bit 16 up.
+const COMPLETE: u16 = 256;
+
+const INCOMPLETE: u16 = 512;
+
+const NOTHING: u32 = 256;
+
+const NUMBER: u32 = 512;
+
+const BIT_16: u32 = 65536;
+
+// Whether a table is complete, in a number whose low 8 bits are the refusal.
+pub fn complete_code(words: &[u16], store: &[u8], key: Key) -> u16
+    ensures { λ r. ⌜ r ≡ wholeLent (now (words .entry)) (now (store .entry)) key ⌝ }
+{
+    let answer = complete(words, store, key);
+    match answer {
+        Whole::Refused(n) => answers::wide(n),
+        Whole::Complete => COMPLETE,
+        Whole::Incomplete => INCOMPLETE,
+    }
+}
+
+// The lowest missing number of a table, in a number whose low 8 bits are the refusal.
+pub fn missing_code(words: &[u16], store: &[u8], key: Key) -> u32
+    ensures { λ r. ⌜ r ≡ missingLent (now (words .entry)) (now (store .entry)) key ⌝ }
+{
+    let answer = lowest_missing(words, store, key);
+    match answer {
+        Missing::Refused(n) => answers::wider(n),
+        Missing::Nothing => NOTHING,
+        Missing::Number(n) => NUMBER + BIT_16 * answers::wider(n),
+    }
+}
+
+// Copies a section out, and answers its size from bit 8 up.
+pub fn copy_code(words: &[u16], store: &[u8], key: Key, n: u8, out: &mut [u8]) -> u32
+    ensures { λ r. ⌜ outOf r (now (out .exit)) ≡ copyLent (now (words .entry)) (now (store .entry)) key n (now (out .entry)) ⌝ }
+{
+    let answer = copy_section(words, store, key, n, out);
+    match answer {
+        Copied::Refused(no) => answers::wider(no),
+        Copied::Bytes(size) => answers::size_code(size),
     }
 }

@@ -1,3 +1,4 @@
 pub mod Laws
 pub mod Promises
-pub mod Lent
+pub mod On
+pub mod Told

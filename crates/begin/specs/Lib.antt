@@ -1,2 +1,3 @@
 pub mod Begin
-pub mod Lent
+pub mod On
+pub mod Answer

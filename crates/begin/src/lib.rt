@@ -5,7 +5,9 @@ ghost use mathlib.Core.Path.{_≡_};
 ghost use lib.ListN.{length};
 ghost use Rattle.base.specs.Bytes.{zeros};
 ghost use Rattle.berth.specs.Berth.{storeSize};
-ghost use Rattle.begin.specs.Lent.{lent, beginLent};
+ghost use Rattle.begin.specs.On.{leaving, beginOn};
+ghost use Rattle.answers.specs.Answers.{lent};
+ghost use Rattle.begin.specs.Answer.{beginLent};
 
 pub enum Begun {
     Done,
@@ -26,7 +28,7 @@ fn wipe_store(store: &mut [u8])
 
 // A fresh record in the numbers, and the store is all zeros. Where one of the two has another size, both stay as they were.
 pub fn begin_shelf(words: &mut [u16], store: &mut [u8]) -> Begun
-    ensures { λ r. ⌜ lent r (now (words .exit)) (now (store .exit)) ≡ beginLent (now (words .entry)) (now (store .entry)) ⌝ }
+    ensures { λ r. ⌜ leaving r (now (words .exit)) (now (store .exit)) ≡ beginOn (now (words .entry)) (now (store .entry)) ⌝ }
 {
     if store.len() != STORE {
         return Begun::Refused(shelf::STORE_SIZE);
@@ -37,4 +39,15 @@ pub fn begin_shelf(words: &mut [u16], store: &mut [u8]) -> Begun
     wipe_store(store);
     shelf::put_fresh(words);
     Begun::Done
+}
+
+// Begins a shelf, and answers in a number: 0, or the refusal.
+pub fn begin_code(words: &mut [u16], store: &mut [u8]) -> u8
+    ensures { λ r. ⌜ lent r (now (words .exit)) (now (store .exit)) ≡ beginLent (now (words .entry)) (now (store .entry)) ⌝ }
+{
+    let answer = begin_shelf(words, store);
+    match answer {
+        Begun::Done => answers::DONE,
+        Begun::Refused(n) => n,
+    }
 }

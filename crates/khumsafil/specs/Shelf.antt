@@ -2,5 +2,5 @@
 use Prim.Native.Nat.{ℕ}
 use Rattle.shelf.specs.declared.Key.{Key}
 
-abbrev pub keyOf : ℕ → ℕ → Key
-keyOf table extension = record { table = table; extension = extension }
+abbrev pub givenKey : ℕ → ℕ → Key
+givenKey table extension = record { table = table; extension = extension }

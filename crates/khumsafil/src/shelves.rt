@@ -1,11 +1,13 @@
-// The shelf and its files. The record is 76 numbers that the host lends.
+// The shelf and its files. The record is 84 numbers that the host lends.
 ghost use mathlib.Core.Path.{_≡_};
 ghost use Rattle.answers.specs.Answers.{lent, out as outOf};
-ghost use Rattle.shelf_host.specs.Lent.{beginLent, releaseLent};
-ghost use Rattle.offer_host.specs.Lent.{offerLent};
-ghost use Rattle.ask_host.specs.Lent.{wholeLent, missingLent, copyLent};
-ghost use Rattle.file_host.specs.Lent.{loadLent, saveLent};
-ghost use Rattle.khumsafil.specs.Shelf.{keyOf};
+ghost use Rattle.begin.specs.Answer.{beginLent};
+ghost use Rattle.offer.specs.Answer.{offerLent};
+ghost use Rattle.ask.specs.Answer.{wholeLent, missingLent, copyLent};
+ghost use Rattle.release.specs.Answer.{releaseLent};
+ghost use Rattle.save.specs.Answer.{saveLent};
+ghost use Rattle.load.specs.Answer.{loadLent};
+ghost use Rattle.khumsafil.specs.Shelf.{givenKey};
 use shelf::Key;
 
 // Begins a fresh shelf: four free places and a zeroed store.
@@ -13,7 +15,7 @@ use shelf::Key;
 pub extern "C" fn khumsafil_shelf_begin(words: &mut [u16], store: &mut [u8]) -> u8
     ensures { λ r. ⌜ lent r (now (words .exit)) (now (store .exit)) ≡ beginLent (now (words .entry)) (now (store .entry)) ⌝ }
 {
-    shelf_host::begin_lent(words, store)
+    begin::begin_code(words, store)
 }
 
 // Offers a payload.
@@ -21,7 +23,7 @@ pub extern "C" fn khumsafil_shelf_begin(words: &mut [u16], store: &mut [u8]) -> 
 pub extern "C" fn khumsafil_shelf_offer(words: &mut [u16], store: &mut [u8], payload: &[u8]) -> u16
     ensures { λ r. ⌜ lent r (now (words .exit)) (now (store .exit)) ≡ offerLent (now (words .entry)) (now (store .entry)) (now (payload .entry)) ⌝ }
 {
-    offer_host::offer_lent(words, store, payload)
+    offer::offer_code(words, store, payload)
 }
 
 // Whether a table is complete.
@@ -32,9 +34,9 @@ pub extern "C" fn khumsafil_shelf_complete(
     table: u8,
     extension: u16,
 ) -> u16
-    ensures { λ r. ⌜ r ≡ wholeLent (now (words .entry)) (now (store .entry)) (keyOf table extension) ⌝ }
+    ensures { λ r. ⌜ r ≡ wholeLent (now (words .entry)) (now (store .entry)) (givenKey table extension) ⌝ }
 {
-    ask_host::whole_lent(words, store, Key { table, extension })
+    ask::complete_code(words, store, Key { table, extension })
 }
 
 // The lowest missing number of a table.
@@ -45,9 +47,9 @@ pub extern "C" fn khumsafil_shelf_lowest_missing(
     table: u8,
     extension: u16,
 ) -> u32
-    ensures { λ r. ⌜ r ≡ missingLent (now (words .entry)) (now (store .entry)) (keyOf table extension) ⌝ }
+    ensures { λ r. ⌜ r ≡ missingLent (now (words .entry)) (now (store .entry)) (givenKey table extension) ⌝ }
 {
-    ask_host::missing_lent(words, store, Key { table, extension })
+    ask::missing_code(words, store, Key { table, extension })
 }
 
 // Copies a section out.
@@ -60,9 +62,9 @@ pub extern "C" fn khumsafil_shelf_copy_section(
     number: u8,
     out: &mut [u8],
 ) -> u32
-    ensures { λ r. ⌜ outOf r (now (out .exit)) ≡ copyLent (now (words .entry)) (now (store .entry)) (keyOf table extension) number (now (out .entry)) ⌝ }
+    ensures { λ r. ⌜ outOf r (now (out .exit)) ≡ copyLent (now (words .entry)) (now (store .entry)) (givenKey table extension) number (now (out .entry)) ⌝ }
 {
-    ask_host::copy_lent(words, store, Key { table, extension }, number, out)
+    ask::copy_code(words, store, Key { table, extension }, number, out)
 }
 
 // Releases a table.
@@ -73,9 +75,9 @@ pub extern "C" fn khumsafil_shelf_release(
     table: u8,
     extension: u16,
 ) -> u8
-    ensures { λ r. ⌜ lent r (now (words .exit)) (now (store .exit)) ≡ releaseLent (now (words .entry)) (now (store .entry)) (keyOf table extension) ⌝ }
+    ensures { λ r. ⌜ lent r (now (words .exit)) (now (store .exit)) ≡ releaseLent (now (words .entry)) (now (store .entry)) (givenKey table extension) ⌝ }
 {
-    shelf_host::release_lent(words, store, Key { table, extension })
+    release::release_code(words, store, Key { table, extension })
 }
 
 // Saves a table as a file.
@@ -87,9 +89,9 @@ pub extern "C" fn khumsafil_shelf_save(
     extension: u16,
     out: &mut [u8],
 ) -> u32
-    ensures { λ r. ⌜ outOf r (now (out .exit)) ≡ saveLent (now (words .entry)) (now (store .entry)) (keyOf table extension) (now (out .entry)) ⌝ }
+    ensures { λ r. ⌜ outOf r (now (out .exit)) ≡ saveLent (now (words .entry)) (now (store .entry)) (givenKey table extension) (now (out .entry)) ⌝ }
 {
-    file_host::save_lent(words, store, Key { table, extension }, out)
+    save::save_code(words, store, Key { table, extension }, out)
 }
 
 // Loads a file.
@@ -97,5 +99,5 @@ pub extern "C" fn khumsafil_shelf_save(
 pub extern "C" fn khumsafil_shelf_load(words: &mut [u16], store: &mut [u8], file: &[u8]) -> u8
     ensures { λ r. ⌜ lent r (now (words .exit)) (now (store .exit)) ≡ loadLent (now (words .entry)) (now (store .entry)) (now (file .entry)) ⌝ }
 {
-    file_host::load_lent(words, store, file)
+    load::load_code(words, store, file)
 }

@@ -28,10 +28,10 @@ use Rattle.file.specs.declared.Scanned.{Scanned}
 use Rattle.file.specs.Layout.{sameTable}
 use Rattle.file.proofs.Found.{sound-number}
 use Rattle.file.proofs.Held.{Lies, held}
-use Rattle.load.specs.Steps.{Within, tableLent}
+use Rattle.load.specs.Steps.{Within, tableOn}
 use Rattle.load.specs.Load.{storedBelow, tableOf, answered, loadOf}
 use Rattle.load.specs.declared.Loaded.{Loaded}
-use Rattle.load.specs.Lent.{Lent, lent, heldBelow, wordsBy, loadLent}
+use Rattle.load.specs.On.{Leaving, leaving, heldBelow, wordsBy, loadOn}
 
 -- two sections of one table have one last number
 one-last : (a b : Header) → sameTable a b ≡ true → a .last ≡ b .last
@@ -63,16 +63,16 @@ module _ (words store file : List ℕ) where
     place-is : at ≡ placeOf (shelfAt words) (keyOf h)
     place-is = a ∙ ap (placeAmong words) k ∙ among-place words (keyOf h) n ∙ ap (λ s. placeOf s (keyOf h)) (sym (at-count words n))
 
-    pub table-13 : (at ≡ places → ⊥) → lent (Loaded.Refused 13) words store ≡ tableLent words store file scanned h
-    unfolding tableOf tableLent
+    pub table-13 : (at ≡ places → ⊥) → leaving (Loaded.Refused 13) words store ≡ tableOn words store file scanned h
+    unfolding tableOf tableOn
     table-13 d = rw (← place-is, ne-eqb at places d)
 
     module _ (u : at ≡ places) (p : ℕ) (f : p ≡ freeAmong words) where
       free-is : p ≡ freeOf (shelfAt words)
       free-is = f ∙ among-free words n ∙ ap freeOf (sym (at-count words n))
 
-      pub table-9 : p ≡ places → lent (Loaded.Refused 9) words store ≡ tableLent words store file scanned h
-      unfolding tableOf tableLent
+      pub table-9 : p ≡ places → leaving (Loaded.Refused 9) words store ≡ tableOn words store file scanned h
+      unfolding tableOf tableOn
       table-9 d = rw (← place-is, eq-eqb at places u, ← free-is, eq-eqb p places d)
 
       pub table-done :
@@ -82,24 +82,24 @@ module _ (words store file : List ℕ) where
           → left ≡ storedBelow sections file (scanned .starts) (scanned .lengths) store p
           → head ≡ headPut words p key (h .version) (h .last)
           → kept ≡ heldBelow sections head p (scanned .lengths)
-          → lent Loaded.Done kept left ≡ tableLent words store file scanned h
-      unfolding tableOf tableLent
+          → leaving Loaded.Done kept left ≡ tableOn words store file scanned h
+      unfolding tableOf tableOn
       table-done d l q e g =
           let e' = e ∙ ap (λ x. headPut words p x (h .version) (h .last)) k ∙ head-put words n p l (keyOf h) (h .version) (h .last) in
           rw (q, g, e') (rw (← place-is, eq-eqb at places u, ← free-is, ne-eqb p places d))
 
-  pub load-17 : (length store ≡ storeSize → ⊥) → lent (Loaded.Refused 17) words store ≡ loadLent words store file
-  unfolding loadOf loadLent
-  load-17 d = rw (ne-eqb (length store) storeSize d) (ap (λ w. lent (Loaded.Refused 17) w store) (sym (kept (scanOf file .answer))))
+  pub load-17 : (length store ≡ storeSize → ⊥) → leaving (Loaded.Refused 17) words store ≡ loadOn words store file
+  unfolding loadOf loadOn
+  load-17 d = rw (ne-eqb (length store) storeSize d) (ap (λ w. leaving (Loaded.Refused 17) w store) (sym (kept (scanOf file .answer))))
     where
       kept : (s : Scan) → wordsBy words (freeOf (shelfAt words)) (scanOf file .lengths) s (Loaded.Refused 17) ≡ words
       kept (Scan.Table h) = refl
       kept (Scan.Refused n) = refl
 
   module _ (w : length store ≡ storeSize) where
-    pub load-18 : spoiledOf (shelfAt words) ≡ true → lent (Loaded.Refused 18) words store ≡ loadLent words store file
-    unfolding loadOf loadLent
-    load-18 s = rw (eq-eqb (length store) storeSize w, s) (ap (λ w. lent (Loaded.Refused 18) w store) (sym (kept (scanOf file .answer))))
+    pub load-18 : spoiledOf (shelfAt words) ≡ true → leaving (Loaded.Refused 18) words store ≡ loadOn words store file
+    unfolding loadOf loadOn
+    load-18 s = rw (eq-eqb (length store) storeSize w, s) (ap (λ w. leaving (Loaded.Refused 18) w store) (sym (kept (scanOf file .answer))))
       where
         kept : (s : Scan) → wordsBy words (freeOf (shelfAt words)) (scanOf file .lengths) s (Loaded.Refused 18) ≡ words
         kept (Scan.Table h) = refl
@@ -111,12 +111,12 @@ module _ (words store file : List ℕ) where
       read = rw (eq-eqb (length store) storeSize w, s)
 
       module _ (scanned : Scanned) (e : scanned ≡ scanOf file) where
-        pub load-fault : (n : ℕ) → scanned .answer ≡ Scan.Refused n → lent (Loaded.Refused n) words store ≡ loadLent words store file
-        unfolding loadLent
+        pub load-fault : (n : ℕ) → scanned .answer ≡ Scan.Refused n → leaving (Loaded.Refused n) words store ≡ loadOn words store file
+        unfolding loadOn
         load-fault n a = let b : scanOf file .answer ≡ Scan.Refused n = rw e at a in rw (read, b)
 
-        pub load-table : {r : Lent} (h : Header) → r ≡ tableLent words store file scanned h → scanned .answer ≡ Scan.Table h → r ≡ loadLent words store file
-        unfolding loadLent tableLent
+        pub load-table : {r : Leaving} (h : Header) → r ≡ tableOn words store file scanned h → scanned .answer ≡ Scan.Table h → r ≡ loadOn words store file
+        unfolding loadOn tableOn
         load-table h q a =
             let b : scanOf file .answer ≡ Scan.Table h = rw e at a in
-            q ∙ ap (λ s. tableLent words store file s h) e ∙ rw (read, b)
+            q ∙ ap (λ s. tableOn words store file s h) e ∙ rw (read, b)

@@ -12,7 +12,7 @@ use Rattle.base.proofs.Cases.{by}
 use Rattle.shelf.specs.Writes.{heldIn, heldPut}
 use Rattle.shelf.proofs.Writes.{held-length}
 use Rattle.shelf.proofs.Lent.{held-put}
-use Rattle.load.specs.Lent.{heldBelow}
+use Rattle.load.specs.On.{heldBelow}
 
 module _ (old : List ℕ) (p : ℕ) (lengths : List ℕ) where
   pub below-length : (k : ℕ) → length (heldBelow k old p lengths) ≡ length old

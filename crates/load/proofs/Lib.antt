@@ -1,8 +1,9 @@
 pub mod Laws
 pub mod Answers
 pub mod Holding
-pub mod Lent
+pub mod On
 pub mod Faults
 pub mod ExactlyWhen
 pub mod Unique
 pub mod Alike
+pub mod Told

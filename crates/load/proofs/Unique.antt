@@ -3,15 +3,15 @@ use mathlib.Core.Path.{_≡_, sym, ap, _∙_}
 use mathlib.Core.List.{List}
 use Prim.Native.Nat.{ℕ}
 use Rattle.load.specs.declared.Loaded.{Loaded}
-use Rattle.load.specs.Lent.{Lent, lent, loadLent}
+use Rattle.load.specs.On.{Leaving, leaving, loadOn}
 
 pub load-file-unique :
     (words store file : List ℕ)
     (x y : Loaded)
     (held kept left stored : List ℕ)
-    → lent x held left ≡ loadLent words store file
-    → lent y kept stored ≡ loadLent words store file
+    → leaving x held left ≡ loadOn words store file
+    → leaving y kept stored ≡ loadOn words store file
     → (x ≡ y) × (held ≡ kept) × (left ≡ stored)
 load-file-unique words store file x y held kept left stored p q =
-    let e : lent x held left ≡ lent y kept stored = p ∙ sym q in
+    let e : leaving x held left ≡ leaving y kept stored = p ∙ sym q in
     (ap (λ z. z .said) e, ap (λ z. z .words) e, ap (λ z. z .store) e)

@@ -1,3 +1,4 @@
 pub mod Load
 pub mod Steps
-pub mod Lent
+pub mod On
+pub mod Answer

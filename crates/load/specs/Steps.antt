@@ -15,7 +15,7 @@ use Rattle.shelf.specs.Record.{freeOf}
 use Rattle.shelf.specs.Layout.{shelfAt}
 use Rattle.file.specs.declared.Scanned.{Scanned}
 use Rattle.load.specs.Load.{tableOf}
-use Rattle.load.specs.Lent.{Lent, lent, loadedIn, tableBy}
+use Rattle.load.specs.On.{Leaving, leaving, loadedIn, tableBy}
 
 -- each section that was found lies in the file, fits a berth, and has no number above the last, which is below 16
 unfoldable pub Within : List ℕ → List ℕ → List ℕ → ℕ → Type 0
@@ -42,9 +42,9 @@ unfoldable pub eachStored : List ℕ → ℕ → List ℕ → List ℕ → List 
 eachStored store p file starts lengths count = if ltb sections count then store else placedBelow count store p file starts lengths
 
 -- the table of a file, loaded on lent numbers
-unfoldable pub tableLent : List ℕ → List ℕ → List ℕ → Scanned → Header → Lent
-tableLent words store file scanned h =
-    lent
+unfoldable pub tableOn : List ℕ → List ℕ → List ℕ → Scanned → Header → Leaving
+tableOn words store file scanned h =
+    leaving
     (tableOf (shelfAt words) store file scanned h .said)
     (tableBy words (freeOf (shelfAt words)) (scanned .lengths) h (tableOf (shelfAt words) store file scanned h .said))
     (tableOf (shelfAt words) store file scanned h .store)

@@ -10,8 +10,10 @@ ghost use Prim.Native.Nat.{_<_};
 ghost use lib.ListN.{length};
 ghost use Rattle.berth.specs.Berth.{places, sections, storeSize};
 ghost use Rattle.shelf.specs.Layout.{count};
-ghost use Rattle.load.specs.Steps.{Within, liesIn, eachStored, tableLent};
-ghost use Rattle.load.specs.Lent.{lent, heldBelow, loadLent};
+ghost use Rattle.load.specs.Steps.{Within, liesIn, eachStored, tableOn};
+ghost use Rattle.load.specs.On.{leaving, heldBelow, loadOn};
+ghost use Rattle.answers.specs.Answers.{lent};
+ghost use Rattle.load.specs.Answer.{loadLent};
 
 // The answer to loading a file.
 pub enum Loaded {
@@ -92,8 +94,8 @@ fn load_table(
 ) -> Loaded
     requires { ⌜ (length (now words) ≡ count) × (length (now store) ≡ storeSize) ⌝ }
     requires { ⌜ Within (now file) (scanned .starts) (scanned .lengths) (header .last) ⌝ }
-    ensures { λ r. ⌜ lent r (now (words .exit)) (now (store .exit))
-        ≡ tableLent (now (words .entry)) (now (store .entry)) (now (file .entry)) scanned header ⌝ }
+    ensures { λ r. ⌜ leaving r (now (words .exit)) (now (store .exit))
+        ≡ tableOn (now (words .entry)) (now (store .entry)) (now (file .entry)) scanned header ⌝ }
 {
     let key = shelf::key_of(header);
     if shelf::place_of(words, key) != PLACES {
@@ -115,7 +117,7 @@ fn load_table(
 // Loads a file's table into the lowest free place: each of its sections stands in its berth with zeros after it, and no other
 // berth changes. A refused call changes nothing.
 pub fn load_file(words: &mut [u16], store: &mut [u8], file: &[u8]) -> Loaded
-    ensures { λ r. ⌜ lent r (now (words .exit)) (now (store .exit)) ≡ loadLent (now (words .entry)) (now (store .entry)) (now (file .entry)) ⌝ }
+    ensures { λ r. ⌜ leaving r (now (words .exit)) (now (store .exit)) ≡ loadOn (now (words .entry)) (now (store .entry)) (now (file .entry)) ⌝ }
 {
     if store.len() != STORE {
         return Loaded::Refused(shelf::STORE_SIZE);
@@ -129,5 +131,16 @@ pub fn load_file(words: &mut [u16], store: &mut [u8], file: &[u8]) -> Loaded
     match answer {
         Scan::Refused(n) => Loaded::Refused(n),
         Scan::Table(header) => load_table(words, store, file, scanned, header),
+    }
+}
+
+// Loads a file, and answers in a number: 0, or the refusal.
+pub fn load_code(words: &mut [u16], store: &mut [u8], file: &[u8]) -> u8
+    ensures { λ r. ⌜ lent r (now (words .exit)) (now (store .exit)) ≡ loadLent (now (words .entry)) (now (store .entry)) (now (file .entry)) ⌝ }
+{
+    let answer = load_file(words, store, file);
+    match answer {
+        Loaded::Done => answers::DONE,
+        Loaded::Refused(n) => n,
     }
 }

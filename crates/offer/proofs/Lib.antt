@@ -2,5 +2,6 @@ pub mod Stands
 pub mod Steps
 pub mod ExactlyWhen
 pub mod Equal
-pub mod Lent
+pub mod On
 pub mod Unique
+pub mod Told

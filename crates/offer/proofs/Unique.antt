@@ -3,15 +3,15 @@ use mathlib.Core.Path.{_≡_, sym, ap, _∙_}
 use mathlib.Core.List.{List}
 use Prim.Native.Nat.{ℕ}
 use Rattle.offer.specs.declared.Offered.{Offered}
-use Rattle.offer.specs.Lent.{Lent, lent, offerLent}
+use Rattle.offer.specs.On.{Leaving, leaving, offerOn}
 
 pub unique :
     (words store payload : List ℕ)
     (x y : Offered)
     (held kept left stored : List ℕ)
-    → lent x held left ≡ offerLent words store payload
-    → lent y kept stored ≡ offerLent words store payload
+    → leaving x held left ≡ offerOn words store payload
+    → leaving y kept stored ≡ offerOn words store payload
     → (x ≡ y) × (held ≡ kept) × (left ≡ stored)
 unique words store payload x y held kept left stored p q =
-    let e : lent x held left ≡ lent y kept stored = p ∙ sym q in
+    let e : leaving x held left ≡ leaving y kept stored = p ∙ sym q in
     (ap (λ z. z .said) e, ap (λ z. z .words) e, ap (λ z. z .store) e)

@@ -1,3 +1,4 @@
 pub mod Offer
 pub mod Steps
-pub mod Lent
+pub mod On
+pub mod Answer

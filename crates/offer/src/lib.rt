@@ -11,7 +11,9 @@ ghost use Rattle.shelf.specs.Record.{placeAt, spoiledOf};
 ghost use Rattle.shelf.specs.Layout.{count, takenIn, shelfIn, shelfAt};
 ghost use Rattle.shelf.specs.Writes.{heldPut};
 ghost use Rattle.offer.specs.Steps.{heldStep, soundStep, stepOf};
-ghost use Rattle.offer.specs.Lent.{lent, offerLent};
+ghost use Rattle.offer.specs.On.{leaving, offerOn};
+ghost use Rattle.answers.specs.Answers.{lent};
+ghost use Rattle.offer.specs.Answer.{offerLent};
 
 pub enum Offered {
     // The key was not held: the section begins the table.
@@ -129,7 +131,7 @@ fn add(words: &mut [u16], store: &mut [u8], payload: &[u8], p: usize, n: usize)
 // Offers a payload to the record that the numbers are. A refused call and a repeat leave numbers and store as they were; the
 // refusals are 17, 18, then 1 to 10.
 pub fn offer(words: &mut [u16], store: &mut [u8], payload: &[u8]) -> Offered
-    ensures { λ r. ⌜ lent r (now (words .exit)) (now (store .exit)) ≡ offerLent (now (words .entry)) (now (store .entry)) (now (payload .entry)) ⌝ }
+    ensures { λ r. ⌜ leaving r (now (words .exit)) (now (store .exit)) ≡ offerOn (now (words .entry)) (now (store .entry)) (now (payload .entry)) ⌝ }
 {
     let step = step_of(words, store, payload);
     match step {
@@ -150,5 +152,28 @@ pub fn offer(words: &mut [u16], store: &mut [u8], payload: &[u8]) -> Offered
             add(words, store, payload, p, wide8(header.number));
             Offered::BeganAgain
         }
+    }
+}
+
+// The answers as numbers: the case from bit 8 up.
+const BEGAN: u16 = 256;
+
+const BEGAN_AGAIN: u16 = 512;
+
+const ADDED: u16 = 768;
+
+const REPEAT: u16 = 1024;
+
+// Offers a payload, and answers in a number whose low 8 bits are the refusal.
+pub fn offer_code(words: &mut [u16], store: &mut [u8], payload: &[u8]) -> u16
+    ensures { λ r. ⌜ lent r (now (words .exit)) (now (store .exit)) ≡ offerLent (now (words .entry)) (now (store .entry)) (now (payload .entry)) ⌝ }
+{
+    let answer = offer(words, store, payload);
+    match answer {
+        Offered::Repeat => REPEAT,
+        Offered::Added => ADDED,
+        Offered::Began => BEGAN,
+        Offered::BeganAgain => BEGAN_AGAIN,
+        Offered::Refused(n) => answers::wide(n),
     }
 }

@@ -1,3 +1,4 @@
 pub mod Steps
 pub mod Laws
-pub mod Lent
+pub mod On
+pub mod Told

@@ -1,2 +1,3 @@
 pub mod Release
-pub mod Lent
+pub mod On
+pub mod Answer

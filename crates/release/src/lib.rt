@@ -2,7 +2,9 @@
 use ask::Holding;
 use shelf::Key;
 ghost use mathlib.Core.Path.{_≡_};
-ghost use Rattle.release.specs.Lent.{lent, releaseLent};
+ghost use Rattle.release.specs.On.{leaving, releaseOn};
+ghost use Rattle.answers.specs.Answers.{lent};
+ghost use Rattle.release.specs.Answer.{releaseLent};
 
 pub enum Released {
     Done,
@@ -11,7 +13,7 @@ pub enum Released {
 
 // Frees the place of the table with that key and zeroes all its berths.
 pub fn release_table(words: &mut [u16], store: &mut [u8], key: Key) -> Released
-    ensures { λ r. ⌜ lent r (now (words .exit)) (now (store .exit)) ≡ releaseLent (now (words .entry)) (now (store .entry)) key ⌝ }
+    ensures { λ r. ⌜ leaving r (now (words .exit)) (now (store .exit)) ≡ releaseOn (now (words .entry)) (now (store .entry)) key ⌝ }
 {
     let holding = ask::held_in(words, store.len(), key);
     match holding {
@@ -21,5 +23,16 @@ pub fn release_table(words: &mut [u16], store: &mut [u8], key: Key) -> Released
             shelf::put_free(words, p);
             Released::Done
         }
+    }
+}
+
+// Releases a table, and answers in a number: 0, or the refusal.
+pub fn release_code(words: &mut [u16], store: &mut [u8], key: Key) -> u8
+    ensures { λ r. ⌜ lent r (now (words .exit)) (now (store .exit)) ≡ releaseLent (now (words .entry)) (now (store .entry)) key ⌝ }
+{
+    let answer = release_table(words, store, key);
+    match answer {
+        Released::Done => answers::DONE,
+        Released::Refused(n) => n,
     }
 }

@@ -5,3 +5,4 @@ pub mod Saving
 pub mod ExactlyWhen
 pub mod Unique
 pub mod Alike
+pub mod Told

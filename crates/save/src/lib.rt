@@ -12,6 +12,8 @@ ghost use Rattle.number.specs.Number.{spelt};
 ghost use Rattle.file.specs.Layout.{listed};
 ghost use Rattle.save.specs.Sizes.{heldOf, sizeOf, countOf, sizeBelow, countBelow, Berthed};
 ghost use Rattle.save.specs.Save.{heldBelow, placeSaved, save, saveOf};
+ghost use Rattle.answers.specs.Answers.{out as outOf};
+ghost use Rattle.save.specs.Answer.{saveLent};
 
 // The answer to saving a table.
 pub enum Saved {
@@ -144,7 +146,7 @@ fn save_place(store: &[u8], p: usize, lengths: [u16; 16], out: &mut [u8]) -> Sav
     let count = sizes.count;
     let size = FRONT + sizes.bytes;
     if out.len() < size {
-        return Saved::Refused(ask::OUTPUT_TOO_SMALL);
+        return Saved::Refused(answers::OUTPUT_TOO_SMALL);
     }
     let counted = write_at(file::FORM, out, 0);
     let from = write_at(count, out, counted);
@@ -160,5 +162,16 @@ pub fn save_table(words: &[u16], store: &[u8], key: Key, out: &mut [u8]) -> Save
     match holding {
         Holding::Refused(no) => Saved::Refused(no),
         Holding::In(p) => save_place(store, p, shelf::lengths_of(words, p), out),
+    }
+}
+
+// Saves a table, and answers the file's size from bit 8 up.
+pub fn save_code(words: &[u16], store: &[u8], key: Key, out: &mut [u8]) -> u32
+    ensures { λ r. ⌜ outOf r (now (out .exit)) ≡ saveLent (now (words .entry)) (now (store .entry)) key (now (out .entry)) ⌝ }
+{
+    let answer = save_table(words, store, key, out);
+    match answer {
+        Saved::Refused(n) => answers::wider(n),
+        Saved::Bytes(size) => answers::size_code(size),
     }
 }

@@ -43,7 +43,7 @@ refusals! {
     OUTPUT_TOO_SMALL = 15: "output too small";
     SECTION_NOT_HELD = 16: "section not held";
     STORE_SIZE = 17: "store not 65,536 bytes";
-    SHELF_SPOILED = 18: "shelf record spoiled, or not 76 numbers";
+    SHELF_SPOILED = 18: "shelf record spoiled, or not 84 numbers";
     DESCRIPTOR_RUNS_PAST = 19: "descriptor runs past the loop, or the place asked is beyond its end";
     TRIGGER_CUT_OFF = 20: "trigger ends inside a field";
     TRIGGER_OTHER_EVENT = 21: "event type not 0";

@@ -22,7 +22,7 @@
 use crate::{boundary, Refusal};
 
 /// How many numbers a record is.
-pub const RECORD: usize = 76;
+pub const RECORD: usize = 84;
 
 /// How many bytes a store is.
 pub const STORE: usize = 65_536;

@@ -6,20 +6,41 @@ use crate::sections::{self, Fields};
 use khumsafil::shelf::{Key, RECORD};
 use opinion::shelf::{Place, Record, PLACES, SECTIONS};
 
-/// The numbers of a place.
-pub const OF_PLACE: usize = 19;
+/// Where the heads begin, of four numbers each, and where the masks do. Before them are the lengths, sixteen for each place.
+const HEADS: usize = 64;
+const MASKS: usize = 80;
 
-/// The record that numbers are.
+/// Where the head of a place begins, and its lengths.
+fn head(p: usize) -> usize {
+    HEADS + 4 * p
+}
+
+fn lengths(p: usize) -> usize {
+    SECTIONS * p
+}
+
+fn taken(numbers: &[u16; RECORD], p: usize) -> bool {
+    numbers[head(p)] >> 8 == 1
+}
+
+/// A number of 16 bits as one of 8, which cannot show more than 255.
+fn capped(n: u16) -> u8 {
+    u8::try_from(n).unwrap_or(255)
+}
+
+/// The record that numbers are. A held length of 0 is shown as 1, since 0 shows that a section is not held; both are spoiled.
 pub fn decode(numbers: &[u16; RECORD]) -> Record {
     let place = |p: usize| {
-        let of = &numbers[OF_PLACE * p..OF_PLACE * (p + 1)];
+        let of = &numbers[head(p)..head(p) + 4];
+        let held = |n: usize| numbers[MASKS + p] >> n & 1 == 1;
+        let length = |n: usize| if held(n) { numbers[lengths(p) + n].max(1) } else { 0 };
         Place {
-            taken: of[2] >> 8 != 0,
+            taken: taken(numbers, p),
             table_id: of[0] as u8,
             extension: of[1],
-            version: (of[0] >> 8) as u8,
-            last: of[2] as u8,
-            lengths: std::array::from_fn(|n| of[3 + n]),
+            version: capped(of[2]),
+            last: capped(of[3]),
+            lengths: std::array::from_fn(length),
         }
     };
     Record {
@@ -232,56 +253,53 @@ pub const NAMED: std::ops::Range<usize> = 3..10;
 /// Spoils a record in a way. Of what the way needs, a taken place is put there first if there is none.
 pub fn spoil(random: &mut Random, way: &str, record: &[u16; RECORD]) -> [u16; RECORD] {
     let mut numbers = *record;
-    let taken = |numbers: &[u16; RECORD], p: usize| numbers[OF_PLACE * p + 2] >> 8 != 0;
     if !(0..PLACES).any(|p| taken(&numbers, p)) {
-        let at = OF_PLACE * random.below(PLACES);
-        numbers[at..at + OF_PLACE].fill(0);
-        numbers[at + 2] = 0x0100;
-        numbers[at + 3] = 8;
+        let p = random.below(PLACES);
+        numbers[head(p)..head(p) + 4].copy_from_slice(&[0x0100, 0, 0, 0]);
+        numbers[MASKS + p] = 1;
+        numbers[lengths(p)] = 8;
     }
     let places: Vec<_> = (0..PLACES).filter(|p| taken(&numbers, *p)).collect();
     let free: Vec<_> = (0..PLACES).filter(|p| !taken(&numbers, *p)).collect();
-    let at = OF_PLACE * random.pick(&places);
-    let last = usize::from(numbers[at + 2] as u8);
-    let number = random.below(last + 1);
+    let p = random.pick(&places);
+    let number = random.below(usize::from(numbers[head(p) + 3]).min(15) + 1);
+    let mut hold = |numbers: &mut [u16; RECORD], length: u16| {
+        numbers[lengths(p) + number] = length;
+        numbers[MASKS + p] |= 1 << number;
+    };
     match way {
         "another mark of taken" => {
-            numbers[at + 2] = numbers[at + 2] & 0xFF | random.pick(&[1, 2, 128, 255]) << 8;
+            numbers[head(p)] = numbers[head(p)] & 0xFF | random.pick(&[0, 2, 128, 255]) << 8;
         }
         "a free place filled" => {
             if !free.is_empty() {
-                let at = OF_PLACE * random.pick(&free);
-                for number in &mut numbers[at..at + OF_PLACE] {
-                    *number = random.word() as u16;
+                let p = random.pick(&free);
+                for at in [head(p)..head(p) + 4, MASKS + p..MASKS + p + 1, lengths(p)..lengths(p + 1)] {
+                    numbers[at].iter_mut().for_each(|n| *n = random.word() as u16);
                 }
-                numbers[at + 2] &= 0xFF;
+                if taken(&numbers, p) {
+                    numbers[head(p)] &= 0xFF;
+                }
             }
         }
-        "a length changed" => {
-            numbers[at + 3 + number] = random.pick(&[8, 9, 20, 1_023, 1_024]);
-        }
-        "a version above 31" => {
-            numbers[at] = numbers[at] & 0xFF | random.pick(&[32, 33, 64, 255]) << 8;
-        }
-        "a last above 15" => {
-            numbers[at + 2] = numbers[at + 2] & 0xFF00 | random.pick(&[16, 17, 128, 255]);
-        }
+        "a length changed" => hold(&mut numbers, random.pick(&[8, 9, 20, 1_023, 1_024])),
+        "a version above 31" => numbers[head(p) + 2] = random.pick(&[32, 33, 64, 255, 256, 287, 65_535]),
+        "a last above 15" => numbers[head(p) + 3] = random.pick(&[16, 17, 128, 255, 256, 271, 65_535]),
         "held above the last" => {
             let last = random.below(15);
-            numbers[at + 2] = numbers[at + 2] & 0xFF00 | last as u16;
-            numbers[at + 3 + last + 1 + random.below(15 - last)] = 8;
+            numbers[head(p) + 3] = last as u16;
+            numbers[MASKS + p] |= 1 << (last + 1 + random.below(15 - last));
         }
-        "a length under 8" => numbers[at + 3 + number] = random.pick(&[1, 2, 7]),
-        "a length over 1,024" => {
-            numbers[at + 3 + number] = random.pick(&[1_025, 1_026, 32_768, 65_535]);
-        }
-        "nothing held" => numbers[at + 3..at + OF_PLACE].fill(0),
+        "a length under 8" => hold(&mut numbers, random.pick(&[0, 1, 2, 7])),
+        "a length over 1,024" => hold(&mut numbers, random.pick(&[1_025, 1_026, 32_768, 65_535])),
+        "nothing held" => numbers[MASKS + p] = 0,
         "two of one key" => {
-            let other = OF_PLACE * (at / OF_PLACE + 1 + random.below(PLACES - 1)) % RECORD;
-            let one: Vec<_> = numbers[at..at + OF_PLACE].to_vec();
-            numbers[other..other + OF_PLACE].copy_from_slice(&one);
+            let other = (p + 1 + random.below(PLACES - 1)) % PLACES;
+            numbers.copy_within(lengths(p)..lengths(p + 1), lengths(other));
+            numbers.copy_within(head(p)..head(p) + 4, head(other));
+            numbers[MASKS + other] = numbers[MASKS + p];
             // The version is no part of the key.
-            numbers[other] = numbers[other] & 0xFF | random.pick(&[0, 31]) << 8;
+            numbers[head(other) + 2] = random.pick(&[0, 31]);
         }
         _ => numbers.iter_mut().for_each(|n| *n = random.word() as u16),
     }

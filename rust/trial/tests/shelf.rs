@@ -147,7 +147,7 @@ fn each() -> Vec<Call> {
     ]
 }
 
-/// Another number of numbers than 76 is no record: 18, where the store's size does not give 17.
+/// Another number of numbers than 84 is no record: 18, where the store's size does not give 17.
 #[test]
 fn another_number_of_numbers() {
     let mut both = Both::new();

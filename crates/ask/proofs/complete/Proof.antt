@@ -3,7 +3,7 @@ use mathlib.Core.Path.{_≡_, sym, ap, _∙_}
 use Rattle.base.proofs.Tests.{told}
 use native.Mathlib.Omega.{arith}
 use Rattle.ask.proofs.Held.{whole-refused, whole-lacks, whole-complete}
-use Rattle.ask.proofs.Lent.{last-read, last-low, gap-read}
+use Rattle.ask.proofs.Numbers.{last-read, last-low, gap-read}
 use borrow.Author.Needs.{needs}
 use Rattle.ask.proofs.complete.Statement.{statement}
 use Rattle.ask.proofs.complete.Tie as tie

@@ -2,7 +2,7 @@
 use mathlib.Core.Path.{_≡_, sym, ap, _∙_}
 use Rattle.base.proofs.Tests.{told}
 use Rattle.ask.proofs.Held.{copy-refused, copy-16, copy-15, copy-done}
-use Rattle.ask.proofs.Lent.{length-read, length-past}
+use Rattle.ask.proofs.Numbers.{length-read, length-past}
 use Rattle.ask.specs.Ask.{copy}
 use borrow.Author.Needs.{needs}
 use Rattle.ask.proofs.copy_section.Statement.{statement}

@@ -9,7 +9,7 @@ use Rattle.base.specs.Below.{lowest}
 use Rattle.base.specs.Bits.{bit}
 use Rattle.base.proofs.Below.{lowest-none, lowest-more, lowest-found}
 use Rattle.shelf.proofs.Find.{lowest-at}
-use Rattle.ask.proofs.Lent.{odd, zero-one}
+use Rattle.ask.proofs.Numbers.{odd, zero-one}
 use Rattle.ask.proofs.first_gap.Statement.{statement}
 use Rattle.ask.proofs.first_gap.Tie as tie
 use Rattle.ask.proofs.first_gap.Reads as reads

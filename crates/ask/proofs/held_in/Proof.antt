@@ -2,7 +2,7 @@
 use mathlib.Core.Path.{_≡_, sym, ap, _∙_}
 use Rattle.base.proofs.Tests.{told}
 use Rattle.ask.proofs.Held.{in-17, in-18, in-14, in-place}
-use Rattle.ask.proofs.Lent.{place-read}
+use Rattle.ask.proofs.Numbers.{place-read}
 use borrow.Author.Needs.{needs}
 use Rattle.ask.proofs.held_in.Statement.{statement}
 use Rattle.ask.proofs.held_in.Tie as tie

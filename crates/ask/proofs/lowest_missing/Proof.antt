@@ -3,7 +3,7 @@ use mathlib.Core.Path.{_≡_, sym, ap, _∙_}
 use Rattle.base.proofs.Tests.{told}
 use native.Mathlib.Omega.{arith}
 use Rattle.ask.proofs.Held.{missing-refused, missing-lowest, missing-nothing}
-use Rattle.ask.proofs.Lent.{last-read, last-low, gap-read}
+use Rattle.ask.proofs.Numbers.{last-read, last-low, gap-read}
 use borrow.Author.Needs.{needs}
 use Rattle.ask.proofs.lowest_missing.Statement.{statement}
 use Rattle.ask.proofs.lowest_missing.Tie as tie

@@ -1,5 +1,5 @@
 -- `begin::begin_shelf` meets its promise.
-use Rattle.begin.proofs.Lent.{begin-17, begin-18, begun}
+use Rattle.begin.proofs.On.{begin-17, begin-18, begun}
 use borrow.Author.Needs.{needs}
 use Rattle.begin.proofs.begin_shelf.Statement.{statement}
 use Rattle.begin.proofs.begin_shelf.Tie as tie

@@ -5,7 +5,7 @@ use mathlib.Core.Path.{_≡_, refl, ap, _∙_}
 use mathlib.Core.Logic.{⊎-elim}
 use Prim.Native.Nat.{_≤_, _-_}
 use lib.ListN.{length}
-use Rattle.load.specs.Lent.{heldBelow}
+use Rattle.load.specs.On.{heldBelow}
 use Rattle.load.proofs.Holding.{held-none, held-one, held-skipped, held-end}
 use Rattle.load.proofs.hold_each.Statement.{statement}
 use Rattle.load.proofs.hold_each.Tie as tie

@@ -1,7 +1,7 @@
 -- `offer::offer` meets its promise: what each step writes is what the definition says of it, and the step says that it may be written.
 use denote.Ref.{now}
 use Rattle.base.proofs.Tests.{told}
-use Rattle.offer.proofs.Lent.{repeated, refused, begins-fit, again-fit, adds-fit, began, began-again, added}
+use Rattle.offer.proofs.On.{repeated, refused, begins-fit, again-fit, adds-fit, began, began-again, added}
 use borrow.Author.Needs.{needs}
 use Rattle.offer.proofs.offer.Statement.{statement}
 use Rattle.offer.proofs.offer.Tie as tie

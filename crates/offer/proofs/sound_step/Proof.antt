@@ -4,7 +4,7 @@ use denote.Ref.{now}
 use lib.ListN.{length}
 use Rattle.shelf.specs.Record.{spoiledOf}
 use Rattle.shelf.proofs.Numbers.{spoiled-count, at-count}
-use Rattle.offer.proofs.Lent.{placed, place-found, free-found}
+use Rattle.offer.proofs.On.{placed, place-found, free-found}
 use Rattle.offer.proofs.Steps.{sound-held, sound-begins, sound-full}
 use borrow.Author.Needs.{needs}
 use Rattle.offer.proofs.sound_step.Statement.{statement}

@@ -1,6 +1,6 @@
 -- `release::release_table` meets its promise.
 use Rattle.base.proofs.Tests.{told}
-use Rattle.release.proofs.Lent.{lent-refused, lent-done}
+use Rattle.release.proofs.On.{lent-refused, lent-done}
 use borrow.Author.Needs.{needs}
 use Rattle.release.proofs.release_table.Statement.{statement}
 use Rattle.release.proofs.release_table.Tie as tie

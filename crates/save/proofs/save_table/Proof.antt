@@ -2,7 +2,7 @@
 use Rattle.base.proofs.Tests.{told}
 use mathlib.Core.Path.{sym, subst}
 use denote.Ref.{now}
-use Rattle.ask.proofs.Lent.{lengths-read}
+use Rattle.ask.proofs.Numbers.{lengths-read}
 use Rattle.save.specs.Sizes.{Berthed}
 use Rattle.save.proofs.Saving.{held-stands, save-refused, save-by}
 use borrow.Author.Needs.{needs}

@@ -127,7 +127,7 @@ pub fn shelf(bytes: &[u8]) {
                     both.numbers[at] = match how & 3 {
                         0 => feed.half(),
                         1 => both.numbers[at] ^ 1 << (feed.byte() % 16),
-                        2 => both.numbers[(at + 19) % RECORD],
+                        2 => both.numbers[(at + 4) % RECORD],
                         _ => u16::from(feed.byte()),
                     };
                     both.record = decode(&both.numbers);
