@@ -20,8 +20,8 @@ use Rattle.writer.specs.declared.Label.{Label}
 use Rattle.writer.proofs.Laws.{last-le}
 use Rattle.writer_laws.specs.Offers as layer
 use Rattle.writer_laws.proofs.AnyOrder as order
-use Rattle.lent_histories.specs.Numbers as Numbers
-use Rattle.lent_histories.specs.Numbers.{copiedCode}
+use Rattle.ask.specs.Answer as ask-answer
+use Rattle.ask.specs.Answer.{copiedCode}
 use Rattle.lent_histories.specs.History.{OfBytes, History, copyAfter}
 use Rattle.lent_histories.proofs.Back.{size-in}
 use Rattle.lent_histories.proofs.After.{reply-range, reply-after}
@@ -73,7 +73,7 @@ can-be-offered label body five fits ks any b l sizes = (
 )
 
 -- a body that is handed out, in numbers
-body-same : (c : Copy) → CopyRange (c .said) → bodyOf (Numbers.copyOut c) ≡ layer.bodyOf c
+body-same : (c : Copy) → CopyRange (c .said) → bodyOf (ask-answer.copyOut c) ≡ layer.bodyOf c
 body-same c r = go (c .said) r
   where
     go : (a : Copied) → CopyRange a → drop 8 (take (sizeIn (copiedCode a)) (c .out)) ≡ layer.bodyIn a (c .out)
@@ -91,7 +91,7 @@ complete-table label body five fits ks any h e =
 pub hands-out : HandsOut
 hands-out label body five fits ks any h e k known output room =
     reply-after h (copy (layer.keyOf label) k output)
-    ∙ ap Numbers.copyOut
+    ∙ ap ask-answer.copyOut
     (ap (λ cs. copyOut (afterAll cs) (layer.keyOf label) k output) e ∙ order.hands-out label body five fits ks any k known output room)
 
 bodies-same : (h : History) (key : Key) (output : List ℕ) (n : ℕ) → bodiesAfter h key output n ≡ layer.bodiesAfter (h .calls) key output n

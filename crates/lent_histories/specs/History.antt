@@ -9,10 +9,15 @@ use Rattle.answers.specs.Answers.{Lent, Out, out}
 use Rattle.berth.specs.Berth.{storeSize}
 use Rattle.shelf.specs.declared.Key.{Key}
 use Rattle.shelf.specs.Layout.{count, shelfAt}
+use Rattle.begin.specs.Answer.{beginLent}
+use Rattle.offer.specs.Answer.{offerLent}
+use Rattle.release.specs.Answer.{releaseLent}
+use Rattle.ask.specs.Answer.{wholeLent, missingLent, copyLent}
+use Rattle.load.specs.Answer.{loadLent}
+use Rattle.save.specs.Answer.{saveLent}
 use Rattle.shelf_laws.specs.State.{State}
 use Rattle.shelf_laws.specs.History.{Question, Call, Entry, copy, whole, missing, save, offer, load, release, ask}
 use Rattle.lent_histories.specs.Numbers.{Line, line, logIn}
-use Rattle.lent_histories.specs.Calls.{beginLent, offerLent, loadLent, releaseLent, wholeLent, missingLent, copyLent, saveLent}
 
 -- what a host lends: the record's numbers and the store
 pub record Loan : Type 0 where
