@@ -108,7 +108,8 @@ pub fn version_of(words: &[u16], p: usize) -> u16
     if PLACES <= p {
         return 0;
     }
-    words[HEADS + 2 + HEAD * p]
+    let version = words[HEADS + 2 + HEAD * p];
+    version
 }
 
 // Its last number.
@@ -121,7 +122,8 @@ pub fn last_of(words: &[u16], p: usize) -> u16
     if PLACES <= p {
         return 0;
     }
-    words[HEADS + 3 + HEAD * p]
+    let last = words[HEADS + 3 + HEAD * p];
+    last
 }
 
 // Which of its sections are held: bit n is 1 for section n.
@@ -134,7 +136,8 @@ pub fn mask_of(words: &[u16], p: usize) -> u16
     if PLACES <= p {
         return 0;
     }
-    words[MASKS + p]
+    let mask = words[MASKS + p];
+    mask
 }
 
 fn held_length(mask: u16, n: usize, size: u16) -> u16

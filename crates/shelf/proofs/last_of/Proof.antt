@@ -15,20 +15,20 @@ returns-2 : tie.Need-returns-2
 unfolding lastAmong
 returns-2 c = search (tests, needs)
 
-add-result : tie.Need-add-result
-add-result c = search needs
+add-last : tie.Need-add-last
+add-last c = search needs
 
-mul-result : tie.Need-mul-result
-mul-result c = search needs
+mul-last : tie.Need-mul-last
+mul-last c = search needs
 
-add-result-2 : tie.Need-add-result-2
-add-result-2 c = search needs
+add-last-2 : tie.Need-add-last-2
+add-last-2 c = search needs
 
-mul-result-2 : tie.Need-mul-result-2
-mul-result-2 c = search needs
+mul-last-2 : tie.Need-mul-last-2
+mul-last-2 c = search needs
 
-shared-slice-read-result : tie.Need-shared-slice-read-result
-shared-slice-read-result c = search needs
+shared-slice-read-last : tie.Need-shared-slice-read-last
+shared-slice-read-last c = search needs
 
 returns-3 : tie.Need-returns-3
 unfolding lastAmong
@@ -40,9 +40,9 @@ last-of-spec =
     (tie.spec
     returns
     returns-2
-    add-result
-    mul-result
-    add-result-2
-    mul-result-2
-    shared-slice-read-result
+    add-last
+    mul-last
+    add-last-2
+    mul-last-2
+    shared-slice-read-last
     returns-3)

@@ -15,14 +15,14 @@ returns-2 : tie.Need-returns-2
 unfolding maskAmong
 returns-2 c = search (tests, needs)
 
-add-result : tie.Need-add-result
-add-result c = search needs
+add-mask : tie.Need-add-mask
+add-mask c = search needs
 
-mul-result : tie.Need-mul-result
-mul-result c = search needs
+mul-mask : tie.Need-mul-mask
+mul-mask c = search needs
 
-shared-slice-read-result : tie.Need-shared-slice-read-result
-shared-slice-read-result c = search needs
+shared-slice-read-mask : tie.Need-shared-slice-read-mask
+shared-slice-read-mask c = search needs
 
 returns-3 : tie.Need-returns-3
 unfolding maskAmong
@@ -30,4 +30,4 @@ returns-3 c = search (tests, needs)
 
 pub mask-of-spec : {M : Type 1} → statement M
 mask-of-spec =
-    tie.close (tie.spec returns returns-2 add-result mul-result shared-slice-read-result returns-3)
+    tie.close (tie.spec returns returns-2 add-mask mul-mask shared-slice-read-mask returns-3)

@@ -15,20 +15,20 @@ returns-2 : tie.Need-returns-2
 unfolding versionAmong
 returns-2 c = search (tests, needs)
 
-add-result : tie.Need-add-result
-add-result c = search needs
+add-version : tie.Need-add-version
+add-version c = search needs
 
-mul-result : tie.Need-mul-result
-mul-result c = search needs
+mul-version : tie.Need-mul-version
+mul-version c = search needs
 
-add-result-2 : tie.Need-add-result-2
-add-result-2 c = search needs
+add-version-2 : tie.Need-add-version-2
+add-version-2 c = search needs
 
-mul-result-2 : tie.Need-mul-result-2
-mul-result-2 c = search needs
+mul-version-2 : tie.Need-mul-version-2
+mul-version-2 c = search needs
 
-shared-slice-read-result : tie.Need-shared-slice-read-result
-shared-slice-read-result c = search needs
+shared-slice-read-version : tie.Need-shared-slice-read-version
+shared-slice-read-version c = search needs
 
 returns-3 : tie.Need-returns-3
 unfolding versionAmong
@@ -40,9 +40,9 @@ version-of-spec =
     (tie.spec
     returns
     returns-2
-    add-result
-    mul-result
-    add-result-2
-    mul-result-2
-    shared-slice-read-result
+    add-version
+    mul-version
+    add-version-2
+    mul-version-2
+    shared-slice-read-version
     returns-3)
