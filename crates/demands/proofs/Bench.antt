@@ -13,7 +13,8 @@ use Rattle.ask.specs.Ask.{Copy}
 use Rattle.ask.specs.declared.Copied.{Copied}
 use Rattle.answers.specs.Answers.{sizeIn}
 use Rattle.shelf_laws.specs.State.{copyOut, wholeIn}
-use Rattle.shelf_laws.specs.History.{copy, afterAll}
+use Rattle.shelf_laws.specs.History.{OfBytes, copy, afterAll}
+use Rattle.shelf_laws.proofs.Octets.{octets-cons}
 use Rattle.shelf_laws.proofs.Ranges.{CopyRange}
 use Rattle.writer.specs.Writer.{most, lastOf, bodyAt, sectionOf, written}
 use Rattle.writer.specs.declared.Label.{Label}
@@ -22,15 +23,11 @@ use Rattle.writer_laws.specs.Offers as layer
 use Rattle.writer_laws.proofs.AnyOrder as order
 use Rattle.ask.specs.Answer as ask-answer
 use Rattle.ask.specs.Answer.{copiedCode}
-use Rattle.lent_histories.specs.History.{OfBytes, History, copyAfter}
+use Rattle.lent_histories.specs.History.{History, copyAfter}
 use Rattle.lent_histories.proofs.Back.{size-in}
 use Rattle.lent_histories.proofs.After.{reply-range, reply-after}
 use Rattle.demands.specs.Bench.{InBytes, CanBeOffered, CompleteTable, HandsOut, bodyOf, bodiesAfter, BodiesBack}
 use Rattle.demands.proofs.Shelf.{by-complete}
-
-octets-cons : (x : ℕ) (s : List ℕ) → x < 256 → Octets s → Octets (x ∷ s)
-octets-cons x s h o zero = h
-octets-cons x s h o (suc k) = o k
 
 -- a header's eight bytes, then others
 octets-eight : (a b c d e f g h : ℕ) (s : List ℕ) → a < 256 → b < 256 → c < 256 → d < 256 → e < 256 → f < 256 → g < 256 → h < 256 → Octets s

@@ -11,6 +11,7 @@ use Rattle.shelf.specs.Record.{keyOf}
 use Rattle.load.specs.declared.Loaded.{Loaded}
 use Rattle.save.specs.Save.{Save}
 use Rattle.save.specs.declared.Saved.{Saved}
+use Rattle.base.specs.Octets.{Octets}
 use Rattle.answers.specs.Answers.{refusalIn, sizeIn}
 use Rattle.shelf_laws.specs.State.{loadOn, saveOut, afterLoad}
 use Rattle.shelf_laws.specs.History.{afterAll, save, load}
@@ -20,6 +21,8 @@ use Rattle.shelf_laws.proofs.Histories.{holds-all}
 use Rattle.shelf_laws.proofs.Loaded.{load-good}
 use Rattle.file_round.specs.Round.{Restores}
 use Rattle.file_round.proofs.Saved.{saved-bytes}
+use Rattle.shelf_laws.proofs.Octets.{octets-after}
+use Rattle.file_round.proofs.Octets.{octets-saved}
 use Rattle.file_round.proofs.Round as round
 use Rattle.save.specs.Answer as save-answer
 use Rattle.save.specs.Answer.{savedCode}
@@ -77,12 +80,15 @@ module _ (first second : History) (key : Key) (output : List ℕ) (e : refusalIn
       (λ q. not-full (load-code second file ∙ ap loadedCode (ap (λ f. loadOn (afterAll (second .calls)) f .said) (sym same-file) ∙ q))))
 
 pub restores-always : RestoresAlways
-restores-always first second key output e octets unheld not-full =
+restores-always first second key output e unheld not-full =
     let file = fileIn (saveAfter first key output) in
     let s = afterAll (first .calls) in
     let t = afterAll (second .calls) in
     let back = restored first second key output e unheld not-full in
-    let was = saved-bytes s key (holds-all (first .calls) .good) output (wrote first second key output e .size) (wrote first second key output e .said) in (
+    let was = saved-bytes s key (holds-all (first .calls) .good) output (wrote first second key output e .size) (wrote first second key output e .said) in
+    let octets =
+    subst Octets (sym (was .file) ∙ same-file first second key output e)
+    (octets-saved s (holds-all (first .calls) .good) (octets-after (first .calls) (first .bytes)) key (was .held)) in (
       load-code second file ∙ ap loadedCode (back .0),
       λ q mine.
           next-reply second (load file) (octets, tt) q

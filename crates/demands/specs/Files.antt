@@ -21,13 +21,12 @@ use Rattle.lent_histories.specs.History.{History, loan, replyTo, logAfter, repl
 abbrev pub fileIn : Out → List ℕ
 fileIn saved = take (sizeIn (saved .code)) (saved .out)
 
--- A table is saved after one history, and the file, of bytes as every file is that a host can lend, is loaded after another history that
--- does not hold that table: it is loaded, unless the shelf is full, and then every question about the table is answered as before.
+-- A table is saved after one history, and the file is loaded after another that does not hold that table: it is loaded, unless the
+-- shelf is full, and then every question about the table is answered as before.
 abbrev pub RestoresAlways : Type 0
 RestoresAlways =
     (first second : History) (key : Key) (output : List ℕ)
     → refusalIn (saveAfter first key output .code) ≡ 0
-    → Octets (fileIn (saveAfter first key output))
     → heldBy key (logAfter second) ≡ false
     → ¬ (loadAfter second (fileIn (saveAfter first key output)) .code ≡ 9)
     → (loadAfter second (fileIn (saveAfter first key output)) .code ≡ 0)

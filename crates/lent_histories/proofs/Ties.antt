@@ -17,9 +17,9 @@ use Rattle.save.specs.Answer.{saveLent}
 use Rattle.load.specs.Answer.{loadedCode, loadLent}
 use Rattle.load.proofs.On.{load-said, load-shelf, load-store}
 use Rattle.shelf_laws.specs.State.{State}
-use Rattle.shelf_laws.specs.History.{Question, Call, entry, step, start}
+use Rattle.shelf_laws.specs.History.{OfBytes, Question, Call, entry, step, start}
 use Rattle.lent_histories.specs.Numbers.{answered}
-use Rattle.lent_histories.specs.History.{Loan, Sized, stateOf, answerTo, leftBy, begun, OfBytes}
+use Rattle.lent_histories.specs.History.{Loan, Sized, stateOf, answerTo, leftBy, begun}
 use Rattle.answers.specs.Answers.{out}
 
 state-is : (a b : Shelf) (x y : List ℕ) → a ≡ b → x ≡ y → _≡_ {A = State} (record { shelf = a; store = x }) (record { shelf = b; store = y })
