@@ -3,3 +3,4 @@ pub mod Steps
 pub mod Berths
 pub mod Unique
 pub mod Copying
+pub mod Pieces

@@ -26,7 +26,7 @@ use Rattle.base.specs.Below.{every}
 use Rattle.base.proofs.Cases.{by, and-left, and-right}
 use Rattle.base.proofs.Below.{every-next}
 
-xor-none : (x y : ℕ) → bitXor x y ≡ 0 → x ≡ y
+pub xor-none : (x y : ℕ) → bitXor x y ≡ 0 → x ≡ y
 xor-none x y e = omega (arith, xor-add-and x y, and-le-l x y, and-le-r x y, e)
 
 or-none : (d x : ℕ) → bitOr d x ≡ 0 → (d ≡ 0) × (x ≡ 0)

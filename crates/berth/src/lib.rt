@@ -1,12 +1,14 @@
 // The berths of the store that the host lends (document 01, "The shelf"): section s of the table in place p begins at
 // 1,024 × (16p + s), and the rest of its berth is zeros. A call that names no berth of a whole store changes nothing.
 ghost use mathlib.Core.Path.{_≡_};
-ghost use mathlib.Core.Bool.{true};
+ghost use mathlib.Core.Bool.{true, _&&_};
+ghost use lib.Dec.{eqb};
 ghost use Prim.Native.Nat.{_+_, _<_, _≤_};
 ghost use mathlib.Core.List.{_++_};
 ghost use lib.ListN.{length, drop};
 ghost use Rattle.base.specs.Bits.{bit};
-ghost use Rattle.base.specs.Bytes.{same, zeros};
+ghost use Rattle.base.specs.Below.{every};
+ghost use Rattle.base.specs.Bytes.{byte, same, zeros};
 ghost use Rattle.berth.specs.Berth.{berthSize, places, sections, storeSize, beginsAt, laid, padded, wipedWhere, standing};
 ghost use Rattle.berth.specs.Calls.{isPlace, isBerth, putIn, wipedIn, wipedWhereIn, standsIn, copiedIn};
 
@@ -52,7 +54,7 @@ fn copy(section: &[u8], to: &mut [u8])
 
 // Whether two runs of bytes are the same throughout. It reads all of them: without a way out at each byte the compiler
 // compares many at a time.
-fn equal(a: &[u8], b: &[u8]) -> bool
+fn each_equal(a: &[u8], b: &[u8]) -> bool
     ensures { λ r. ⌜ r ≡ same (now (a .entry)) (now (b .entry)) ⌝ }
 {
     if a.len() != b.len() {
@@ -65,6 +67,52 @@ fn equal(a: &[u8], b: &[u8]) -> bool
         i += 1;
     }
     difference == 0
+}
+
+// The bytes of a piece that is compared at once.
+const PIECE: usize = 64;
+
+fn most(a: u8, b: u8) -> u8
+    ensures { λ r. ⌜ eqb r 0 ≡ (eqb a 0 && eqb b 0) ⌝ }
+{
+    if a < b { b } else { a }
+}
+
+// The greatest difference of the 64 bytes from a place on, which the compiler finds in a few wide steps.
+fn difference_from(a: &[u8], b: &[u8], from: usize) -> u8
+    requires { ⌜ (from + 64 ≤ length (now a)) × (from + 64 ≤ length (now b)) ⌝ }
+    ensures { λ r. ⌜ eqb r 0 ≡ every 64 (λ k. eqb (byte (now (a .entry)) (from + k)) (byte (now (b .entry)) (from + k))) ⌝ }
+{
+    let mut difference = 0u8;
+    let mut i: usize = 0;
+    while i < PIECE {
+        difference = most(difference, a[from + i] ^ b[from + i]);
+        i += 1;
+    }
+    difference
+}
+
+// Whether two runs of bytes are the same throughout. From 64 to 128 bytes are two pieces of 64, which may overlap.
+fn equal(a: &[u8], b: &[u8]) -> bool
+    ensures { λ r. ⌜ r ≡ same (now (a .entry)) (now (b .entry)) ⌝ }
+{
+    if a.len() != b.len() {
+        return false;
+    }
+    let size = a.len();
+    if size < PIECE {
+        return each_equal(a, b);
+    }
+    if 2 * PIECE < size {
+        return each_equal(a, b);
+    }
+    if difference_from(a, b, size - PIECE) != 0 {
+        return false;
+    }
+    if size == PIECE {
+        return true;
+    }
+    difference_from(a, b, 0) == 0
 }
 
 // Zeroes size bytes from a place on.

@@ -3,10 +3,11 @@
 --   free-place, high-version, high-last, none-held, of-lengths   a place
 --   free-first, keys-alike   a pair
 --   all-four      the record
+--   all-asked, all-in      all of the numbers, as a part of themselves
 use mathlib.Core.Path.{_≡_, refl, sym, ap, _∙_}
 use mathlib.Core.Bool.{Bool, true, false, not, _&&_, _||_}
 use mathlib.Core.List.{List}
-use Prim.Native.Nat.{ℕ, _+_, _*_, _/_, _%_, _^_, _<_, _≤_}
+use Prim.Native.Nat.{ℕ, _+_, _-_, _*_, _/_, _%_, _^_, _<_, _≤_}
 use native.Mathlib.Nat.{zero-div}
 use native.Mathlib.Omega.{arith}
 use lib.Dec.{eqb, ltb}
@@ -14,12 +15,14 @@ use lib.ListN.{length, getD}
 use borrow.Author.Tests.{eq-eqb, ne-eqb, eqb-true, eqb-false, lt-ltb, le-ltb}
 use Rattle.base.specs.Below.{some}
 use Rattle.base.proofs.Below.{some-all, some-which, some-found}
+use Rattle.base.specs.Bytes.{part}
+use Rattle.base.proofs.Bytes.{part-whole}
 use Rattle.base.proofs.Cases.{by}
 use Rattle.shelf.specs.Record.{lengthAt, holds, wrongAt, alike, spoiledPlace, spoiledOf, placeAt}
 use Rattle.base.specs.Bits.{bit}
-use Rattle.shelf.specs.Layout.{capped, tableIn, takenIn, placeIn, shelfIn, lengthAmong, lastAmong, versionAmong}
+use Rattle.shelf.specs.Layout.{capped, tableIn, takenIn, placeIn, shelfIn, shelfAt, lengthAmong, lastAmong, versionAmong}
 use Rattle.base.proofs.Bits.{one-set}
-use Rattle.shelf.proofs.Numbers.{length-in, held-at, capped-above, capped-below, among-length, among-last, among-version, place-at, no-both}
+use Rattle.shelf.proofs.Numbers.{length-in, held-at, capped-above, capped-below, among-length, among-last, among-version, at-count, no-both}
 use Rattle.shelf_check.specs.Fine.{keyNumber}
 use Rattle.shelf_check.proofs.Four.{some-four, pairs}
 
@@ -161,3 +164,14 @@ pub all-four :
 unfolding spoiledOf shelfIn
 all-four words e f g h i j k l m n =
     rw (some-four (λ p. spoiledPlace (placeAt (shelfIn words) p)), pairs (λ p q. alike (placeAt (shelfIn words) p) (placeAt (shelfIn words) q)), e, f, g, h, i, j, k, l, m, n)
+
+-- all of the numbers, lent as a part of themselves
+module _ (words : List ℕ) where
+  all : part words 0 (length words - 0) ≡ words
+  all = ap (part words 0) (let n : length words - 0 ≡ length words = omega arith in n) ∙ part-whole words
+
+  pub all-asked : {r : Bool} → r ≡ spoiledOf (shelfAt (part words 0 (length words - 0))) → r ≡ spoiledOf (shelfAt words)
+  all-asked e = e ∙ ap (λ w. spoiledOf (shelfAt w)) all
+
+  pub all-in : {r : Bool} → length words ≡ 84 → r ≡ spoiledOf (shelfIn (part words 0 (length words - 0))) → r ≡ spoiledOf (shelfAt words)
+  all-in n e = e ∙ ap (λ w. spoiledOf (shelfIn w)) all ∙ sym (ap spoiledOf (at-count words n))

@@ -263,7 +263,7 @@ pub fn spoil(random: &mut Random, way: &str, record: &[u16; RECORD]) -> [u16; RE
     let free: Vec<_> = (0..PLACES).filter(|p| !taken(&numbers, *p)).collect();
     let p = random.pick(&places);
     let number = random.below(usize::from(numbers[head(p) + 3]).min(15) + 1);
-    let mut hold = |numbers: &mut [u16; RECORD], length: u16| {
+    let hold = |numbers: &mut [u16; RECORD], length: u16| {
         numbers[lengths(p) + number] = length;
         numbers[MASKS + p] |= 1 << number;
     };

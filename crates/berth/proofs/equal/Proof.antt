@@ -1,64 +1,59 @@
--- `berth::equal` meets its promise: no difference is gathered exactly while every byte passed is the same.
-use mathlib.Core.Path.{_≡_, sym}
-use Prim.Native.Nat.{_≤_, _-_}
-use native.Mathlib.Omega.{arith}
-use lib.Dec.{eqb}
-use lib.ListN.{length}
+-- `berth::equal` meets its promise: byte by byte, or by two pieces of 64.
+use Rattle.berth.proofs.Steps.{same-other}
+use Rattle.berth.proofs.Pieces.{tail-differs, one-piece, two-pieces}
 use borrow.Author.Needs.{needs}
-use Rattle.base.specs.Bytes.{byte}
-use Rattle.base.specs.Below.{every}
-use Rattle.base.proofs.Below.{every-none}
-use Rattle.berth.proofs.Steps.{same-other, same-more, same-end}
 use Rattle.berth.proofs.equal.Statement.{statement}
 use Rattle.berth.proofs.equal.Tie as tie
+use Rattle.berth.proofs.equal.Reads as reads
+use Rattle.berth.proofs.equal.Lts as lts
+use Rattle.berth.proofs.difference_from.Reads as difference-from-reads
+use Rattle.berth.proofs.each_equal.Reads as each-equal-reads
 
-abbrev Inv-loop : tie.InvT-loop
-Inv-loop a b difference₀ i₀ difference i =
-    (i ≤ length a) × (eqb difference 0 ≡ every i (λ k. eqb (byte a k) (byte b k)))
-
-abbrev μ-loop : tie.MeasureT-loop
-μ-loop a b difference₀ i₀ difference i = length a - i
-
-returns : tie.Need-returns Inv-loop μ-loop
+returns : tie.Need-returns
 returns c = same-other _ _ (c .if1 .taken)
 
-loop-holds : tie.Need-loop-holds Inv-loop μ-loop
-loop-holds c = (search needs, sym (every-none _))
+each-equal-requires : tie.Need-each-equal-requires
+each-equal-requires c κs = search needs
 
-shared-slice-read-difference : tie.Need-shared-slice-read-difference Inv-loop μ-loop
-shared-slice-read-difference c = search needs
+returns-2 : tie.Need-returns-2
+returns-2 c = search needs
 
-shared-slice-read-difference-2 : tie.Need-shared-slice-read-difference-2 Inv-loop μ-loop
-shared-slice-read-difference-2 c = search needs
+mul-if3 : tie.Need-mul-if3
+mul-if3 c = search needs
 
-add-i : tie.Need-add-i Inv-loop μ-loop
-add-i c = search needs
+each-equal-requires-2 : tie.Need-each-equal-requires-2
+each-equal-requires-2 c κs = search needs
 
-loop-less : tie.Need-loop-less Inv-loop μ-loop
-loop-less c = search needs
+returns-3 : tie.Need-returns-3
+returns-3 c = search needs
 
-loop-again : tie.Need-loop-again Inv-loop μ-loop
-loop-again c =
-    let args = c .before .before .before .before .before .args in
-    let at = c .before .before .before .loop in
-    (search needs, same-more (args .a .now) (args .b .now) (at .difference) (at .i) (at .inv .1))
+difference-from-requires : tie.Need-difference-from-requires
+difference-from-requires c κs = search needs
 
-returns-2 : tie.Need-returns-2 Inv-loop μ-loop
-returns-2 c =
-    let at = c .before .loop in
-    same-end _ _ (at .difference) (at .i) (search needs) (search needs) (omega arith) (at .inv .1)
+returns-4 : tie.Need-returns-4
+returns-4 c = tail-differs _ _ (c .before .before .before .before .if1 .left) (search needs) (c .before .difference-from .result) (c .before .difference-from .ensures) (c .if4 .taken)
+
+returns-5 : tie.Need-returns-5
+returns-5 c = one-piece _ _ (c .before .before .before .before .before .if1 .left) (search needs) (c .before .before .difference-from .result) (c .before .before .difference-from .ensures) (c .before .if4 .left) (c .if5 .taken)
+
+difference-from-requires-2 : tie.Need-difference-from-requires-2
+difference-from-requires-2 c κs = search needs
+
+returns-6 : tie.Need-returns-6
+returns-6 c = two-pieces _ _ (c .before .before .before .before .before .before .if1 .left) (search needs) (c .before .before .before .difference-from .result) (c .before .before .before .difference-from .ensures) (c .before .before .if4 .left) (c .difference-from2 .result) (search needs) (c .difference-from2 .ensures)
 
 pub equal-spec : {M : Type 1} → statement M
 equal-spec =
     tie.close
     (tie.spec
-    Inv-loop
-    μ-loop
     returns
-    loop-holds
-    shared-slice-read-difference
-    shared-slice-read-difference-2
-    add-i
-    loop-less
-    loop-again
-    returns-2)
+    each-equal-requires
+    returns-2
+    mul-if3
+    each-equal-requires-2
+    returns-3
+    difference-from-requires
+    returns-4
+    returns-5
+    difference-from-requires-2
+    returns-6)

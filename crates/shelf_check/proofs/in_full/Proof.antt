@@ -1,58 +1,39 @@
--- `shelf_check::in_full` meets its promise: four places and six pairs.
+-- `shelf_check::in_full` meets its promise: by its count, or place by place.
+use mathlib.Core.Path.{sym}
+use Rattle.shelf.proofs.Numbers.{no-record}
+use Rattle.shelf_check.proofs.Whole.{all-in}
 use borrow.Author.Needs.{needs}
-use Rattle.shelf_check.proofs.Whole.{all-four}
 use Rattle.shelf_check.proofs.in_full.Statement.{statement}
 use Rattle.shelf_check.proofs.in_full.Tie as tie
 use Rattle.shelf_check.proofs.in_full.Reads as reads
 use Rattle.shelf_check.proofs.in_full.Lts as lts
-use Rattle.shelf_check.proofs.one_key.Reads as one-key-reads
-use Rattle.shelf_check.proofs.place_spoiled.Reads as place-spoiled-reads
+use Rattle.shelf_check.proofs.each_asked.Reads as each-asked-reads
 
-place-spoiled-requires : tie.Need-place-spoiled-requires
-place-spoiled-requires c κs = search needs
+sub-numbers : tie.Need-sub-numbers
+sub-numbers c = search needs
 
-place-spoiled-requires-2 : tie.Need-place-spoiled-requires-2
-place-spoiled-requires-2 c κs = search needs
+part-numbers-start : tie.Need-part-numbers-start
+part-numbers-start c = search needs
 
-place-spoiled-requires-3 : tie.Need-place-spoiled-requires-3
-place-spoiled-requires-3 c κs = search needs
-
-place-spoiled-requires-4 : tie.Need-place-spoiled-requires-4
-place-spoiled-requires-4 c κs = search needs
-
-one-key-requires : tie.Need-one-key-requires
-one-key-requires c κs = search needs
-
-one-key-requires-2 : tie.Need-one-key-requires-2
-one-key-requires-2 c κs = search needs
-
-one-key-requires-3 : tie.Need-one-key-requires-3
-one-key-requires-3 c κs = search needs
-
-one-key-requires-4 : tie.Need-one-key-requires-4
-one-key-requires-4 c κs = search needs
-
-one-key-requires-5 : tie.Need-one-key-requires-5
-one-key-requires-5 c κs = search needs
-
-one-key-requires-6 : tie.Need-one-key-requires-6
-one-key-requires-6 c κs = search needs
+part-numbers-end : tie.Need-part-numbers-end
+part-numbers-end c = search needs
 
 returns : tie.Need-returns
-returns c = all-four _ (c .before .before .before .before .before .before .before .before .before .place-spoiled .ensures) (c .before .before .before .before .before .before .before .before .place-spoiled2 .ensures) (c .before .before .before .before .before .before .before .place-spoiled3 .ensures) (c .before .before .before .before .before .before .place-spoiled4 .ensures) (c .before .before .before .before .before .one-key .ensures) (c .before .before .before .before .one-key2 .ensures) (c .before .before .before .one-key3 .ensures) (c .before .before .one-key4 .ensures) (c .before .one-key5 .ensures) (c .one-key6 .ensures)
+returns c = sym (no-record _ (c .if1 .taken))
+
+each-asked-requires : tie.Need-each-asked-requires
+each-asked-requires c κs = search needs
+
+returns-2 : tie.Need-returns-2
+returns-2 c = all-in _ (c .before .if1 .left) (c .each-asked .ensures)
 
 pub in-full-spec : {M : Type 1} → statement M
 in-full-spec =
     tie.close
     (tie.spec
-    place-spoiled-requires
-    place-spoiled-requires-2
-    place-spoiled-requires-3
-    place-spoiled-requires-4
-    one-key-requires
-    one-key-requires-2
-    one-key-requires-3
-    one-key-requires-4
-    one-key-requires-5
-    one-key-requires-6
-    returns)
+    sub-numbers
+    part-numbers-start
+    part-numbers-end
+    returns
+    each-asked-requires
+    returns-2)

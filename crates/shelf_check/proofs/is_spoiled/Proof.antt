@@ -1,8 +1,7 @@
--- `shelf_check::is_spoiled` meets its promise: by its count, by the quick pass, or in full.
+-- `shelf_check::is_spoiled` meets its promise: by the pass, or in full.
+use mathlib.Core.Path.{sym}
+use Rattle.shelf_check.proofs.Whole.{all-asked, all-in}
 use borrow.Author.Needs.{needs}
-use mathlib.Core.Path.{sym, ap, _∙_}
-use Rattle.shelf.specs.Record.{spoiledOf}
-use Rattle.shelf.proofs.Numbers.{at-count, no-record}
 use Rattle.shelf_check.proofs.is_spoiled.Statement.{statement}
 use Rattle.shelf_check.proofs.is_spoiled.Tie as tie
 use Rattle.shelf_check.proofs.is_spoiled.Reads as reads
@@ -10,20 +9,43 @@ use Rattle.shelf_check.proofs.is_spoiled.Lts as lts
 use Rattle.shelf_check.proofs.in_full.Reads as in-full-reads
 use Rattle.shelf_check.proofs.sound.Reads as sound-reads
 
+sub-numbers : tie.Need-sub-numbers
+sub-numbers c = search needs
+
+part-numbers-start : tie.Need-part-numbers-start
+part-numbers-start c = search needs
+
+part-numbers-end : tie.Need-part-numbers-end
+part-numbers-end c = search needs
+
+in-full-requires : tie.Need-in-full-requires
+in-full-requires c κs = search needs
+
 returns : tie.Need-returns
-returns c = sym (no-record _ (c .if1 .taken))
+returns c = all-asked _ (c .in-full .ensures)
 
 sound-requires : tie.Need-sound-requires
 sound-requires c κs = search needs
 
 returns-2 : tie.Need-returns-2
-returns-2 c = sym (ap spoiledOf (at-count _ (c .before .before .if1 .left)) ∙ c .before .sound .ensures (c .if2 .taken))
+returns-2 c = all-in _ (c .before .before .if1 .left) (sym (c .before .sound .ensures (c .if2 .taken)))
 
-in-full-requires : tie.Need-in-full-requires
-in-full-requires c κs = search needs
+in-full-requires-2 : tie.Need-in-full-requires-2
+in-full-requires-2 c κs = search needs
 
 returns-3 : tie.Need-returns-3
-returns-3 c = c .in-full .ensures ∙ sym (ap spoiledOf (at-count _ (c .before .before .before .if1 .left)))
+returns-3 c = all-asked _ (c .in-full2 .ensures)
 
 pub is-spoiled-spec : {M : Type 1} → statement M
-is-spoiled-spec = tie.close (tie.spec returns sound-requires returns-2 in-full-requires returns-3)
+is-spoiled-spec =
+    tie.close
+    (tie.spec
+    sub-numbers
+    part-numbers-start
+    part-numbers-end
+    in-full-requires
+    returns
+    sound-requires
+    returns-2
+    in-full-requires-2
+    returns-3)
