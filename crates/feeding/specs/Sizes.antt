@@ -3,7 +3,7 @@ use Prim.Native.Nat.{ℕ, _+_, _-_, _*_}
 use mathlib.Core.List.{List, [], _∷_, _++_}
 use lib.ListN.{length}
 use Rattle.number.specs.Number.{spelt}
-use Rattle.file.specs.Layout.{form, listed}
+use Rattle.file.specs.Layout.{form, longest, listed}
 use Rattle.writer.specs.Writer.{full, lastOf, endOf, written}
 use Rattle.writer.specs.declared.Label.{Label}
 use Rattle.feeding.specs.Feeding.{sectionsBelow}
@@ -22,7 +22,7 @@ entryAt label body k = spelt (sizeAt (length body) k) ++ written label body k
 
 -- the file of a body of n bytes: form and count, the full sections, and the last
 abbrev pub fileSize : ℕ → ℕ
-fileSize n = 2 + 1026 * lastOf n + entrySize (sizeAt n (lastOf n))
+fileSize n = 2 + (2 + longest) * lastOf n + entrySize (sizeAt n (lastOf n))
 
 -- the front of the file, up to its first k sections
 unfoldable pub frontOf : Label → List ℕ → ℕ → ℕ → List ℕ

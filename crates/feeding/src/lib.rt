@@ -20,19 +20,10 @@ pub enum Fed {
 }
 
 // What a full section takes in the file, with its length.
-const ENTRY: usize = 1026;
+const ENTRY: usize = file::LONGEST as usize + 2;
 
 // The form and the count take a byte each.
 const FRONT: usize = 2;
-
-// From this on a number takes two groups.
-const TWO_GROUPS: u16 = 128;
-
-fn wide(x: u16) -> usize
-    ensures { λ r. ⌜ r ≡ x ⌝ }
-{
-    x as usize
-}
 
 // The bytes of section k of a body of so many bytes.
 fn size_at(length: usize, k: usize) -> u16
@@ -53,8 +44,8 @@ fn entry_size(size: u16) -> usize
     requires { ⌜ size ≤ 1024 ⌝ }
     ensures { λ r. ⌜ r ≡ entrySize size ⌝ }
 {
-    let bytes = wide(size);
-    if size < TWO_GROUPS {
+    let bytes = base::wide(size);
+    if size < number::SECOND {
         bytes + 1
     } else {
         bytes + 2
@@ -118,12 +109,12 @@ pub fn feed_file(label: Label, body: &[u8], out: &mut [u8]) -> Fed
     match counted {
         Counted::Refused(n) => Fed::Refused(n),
         Counted::Sections(count) => {
-            if writer::HIGHEST_VERSION < label.version {
+            if section::HIGHEST_VERSION < label.version {
                 return Fed::Refused(writer::VERSION_ABOVE_31);
             }
             let size = file_size(body.len(), count as usize - 1);
             if out.len() < size {
-                return Fed::Refused(writer::OUTPUT_TOO_SMALL);
+                return Fed::Refused(answers::OUTPUT_TOO_SMALL);
             }
             write_file(label, body, count, out);
             Fed::Bytes(size)

@@ -32,17 +32,19 @@ fn read_input(buffer: &mut [u8]) -> Input
     Input::Bytes(n)
 }
 
-// The buffer has one byte more than the largest file: an input that fills it is no file, and is refused as one that has bytes
-// left over.
+// One byte more than the largest file, so 16,419: an input that fills the buffer is no file, and is refused as one that has
+// bytes left over.
+const BUFFER: usize = file::LARGEST + 1;
+
 fn main() {
-    let mut buffer = [0u8; 16419];
+    let mut buffer = [0u8; BUFFER];
     let input = read_input(&mut buffer);
     match input {
         Input::Failed => {
             io::write_all(STDERR_FILENO, b"lister: read failed\n");
         }
         Input::Bytes(n) => {
-            let mut text = [0u8; 1024];
+            let mut text = [0u8; listing::LARGEST];
             let listed = listing::list_file(&buffer[..n], &mut text);
             match listed {
                 Listed::Bytes(size) => {

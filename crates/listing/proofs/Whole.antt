@@ -47,7 +47,7 @@ module _ (file : List ℕ) (scanned : Scanned) (e : scanned ≡ scanOf file) (t 
 pub table-last : (file : List ℕ) (scanned : Scanned) → scanned ≡ scanOf file → (h : Header) → scanned .answer ≡ Scan.Table h → h .last ≤ 15
 table-last file scanned e h a = held file h (ap (λ s. s .answer) (sym e) ∙ a) .last
 
-module _ (file out : List ℕ) (t : Text) (long : length (t .bytes) ≡ 1024) (g : Grew (textOf file) 687 empty t) where
+module _ (file out : List ℕ) (t : Text) (long : length (t .bytes) ≡ 687) (g : Grew (textOf file) 687 empty t) where
   text-size : length (textOf file) ≡ t .size
   text-size =
       let w : t .size ≤ 687 = g .within in

@@ -28,6 +28,10 @@ listLent file old = listOut (listOf file old)
 abbrev pub largestList : ℕ
 largestList = 390
 
+-- and there is a file with such a list
+abbrev pub Longest-List : Type 0
+Longest-List = (file : List ℕ) × (length (textOf file) ≡ largestList)
+
 -- Of listing a file of bytes:
 module _ (file : List ℕ) where
   -- the text has at most 390 bytes

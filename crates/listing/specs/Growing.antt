@@ -9,9 +9,13 @@ use Rattle.listing.specs.declared.Text.{Text}
 abbrev pub shown : Text → List ℕ
 shown t = take (t .size) (t .bytes)
 
+-- the room for a text: a line of 47 bytes, sixteen of 26 and sixteen of 14, with five digits for every number
+abbrev pub room : ℕ
+room = 687
+
 -- nothing is written yet
 abbrev pub empty : Text
-empty = record { bytes = replicate 1024 0; size = 0 }
+empty = record { bytes = replicate room 0; size = 0 }
 
 -- a text that grew by some bytes, at most so many
 pub record Grew (more : List ℕ) (most : ℕ) (before after : Text) : Type 0 where

@@ -6,7 +6,7 @@ ghost use mathlib.Core.List.{[], _∷_, _++_};
 ghost use Prim.Native.Nat.{_+_, _<_, _≤_};
 ghost use lib.ListN.{length};
 ghost use Rattle.listing.specs.Words.{place as placeOf, decimal, lines};
-ghost use Rattle.listing.specs.Growing.{empty, Grew};
+ghost use Rattle.listing.specs.Growing.{room, empty, Grew};
 ghost use Rattle.file.specs.Scan.{holds};
 ghost use Rattle.listing.specs.Listing.{headLine, sectionLine, missingLine, completeLine, refusedLine, sectionOf, missingOf, endOf, tableText, textOf, listing, listOf};
 ghost use Rattle.base.specs.Below.{every};
@@ -21,16 +21,16 @@ pub enum Listed {
 
 const NEWLINE: u8 = 10;
 
-fn wide(x: u8) -> u16
-    ensures { λ r. ⌜ r ≡ x ⌝ }
-{
-    x as u16
-}
+// The room for a text: a line of 47 bytes, sixteen of 26 and sixteen of 14.
+const ROOM: usize = 687;
+
+// The bytes of the longest text.
+pub const LARGEST: usize = 390;
 
 // A text that grows at its end. Each piece below says what it adds and in how many bytes at most, every number taken for five
 // digits; so counted, no listing comes to more than 687.
 struct Text {
-    bytes: [u8; 1024],
+    bytes: [u8; ROOM],
     size: usize,
 }
 
@@ -39,13 +39,13 @@ impl Text {
         ensures { λ r. ⌜ r ≡ empty ⌝ }
     {
         Text {
-            bytes: [0; 1024],
+            bytes: [0; ROOM],
             size: 0,
         }
     }
 
     fn byte(mut self, b: u8) -> Text
-        requires { ⌜ self .size < 1024 ⌝ }
+        requires { ⌜ self .size < room ⌝ }
         ensures { λ r. ⌜ Grew (b ∷ []) 1 self r ⌝ }
     {
         let at = self.size;
@@ -55,7 +55,7 @@ impl Text {
     }
 
     fn word(self, w: &[u8]) -> Text
-        requires { ⌜ self .size + length (now w) ≤ 1024 ⌝ }
+        requires { ⌜ self .size + length (now w) ≤ room ⌝ }
         ensures { λ r. ⌜ Grew (now (w .entry)) (length (now (w .entry))) self r ⌝ }
     {
         let mut bytes = self.bytes;
@@ -67,7 +67,7 @@ impl Text {
 
     // The digit of a power of ten, where the number reaches it.
     fn place(self, n: u16, power: u16) -> Text
-        requires { ⌜ self .size < 1024 ⌝ }
+        requires { ⌜ self .size < room ⌝ }
         requires { ⌜ 0 < power ⌝ }
         ensures { λ r. ⌜ Grew (placeOf power n) 1 self r ⌝ }
     {
@@ -78,7 +78,7 @@ impl Text {
     }
     // A number in decimal.
     fn number(self, n: u16) -> Text
-        requires { ⌜ self .size + 5 ≤ 1024 ⌝ }
+        requires { ⌜ self .size + 5 ≤ room ⌝ }
         ensures { λ r. ⌜ Grew (decimal n) 5 self r ⌝ }
     {
         let a = self.place(n, 10000);
@@ -90,7 +90,7 @@ impl Text {
 
     // A word and a number.
     fn field(self, w: &[u8], n: u16) -> Text
-        requires { ⌜ self .size + (length (now w) + 5) ≤ 1024 ⌝ }
+        requires { ⌜ self .size + (length (now w) + 5) ≤ room ⌝ }
         ensures { λ r. ⌜ Grew (now (w .entry) ++ decimal n) (length (now (w .entry)) + 5) self r ⌝ }
     {
         let named = self.word(w);
@@ -98,18 +98,18 @@ impl Text {
     }
 
     fn head_line(self, h: Header) -> Text
-        requires { ⌜ self .size + 47 ≤ 1024 ⌝ }
+        requires { ⌜ self .size + 47 ≤ room ⌝ }
         ensures { λ r. ⌜ Grew (headLine h) 47 self r ⌝ }
     {
-        let table = self.field(b"table ", wide(h.table));
+        let table = self.field(b"table ", answers::wide(h.table));
         let key = table.field(b" key ", h.extension);
-        let version = key.field(b" version ", wide(h.version));
-        let last = version.field(b" last ", wide(h.last));
+        let version = key.field(b" version ", answers::wide(h.version));
+        let last = version.field(b" last ", answers::wide(h.last));
         last.byte(NEWLINE)
     }
 
     fn section_line(self, n: u16, length: u16) -> Text
-        requires { ⌜ self .size + 26 ≤ 1024 ⌝ }
+        requires { ⌜ self .size + 26 ≤ room ⌝ }
         ensures { λ r. ⌜ Grew (sectionLine n length) 26 self r ⌝ }
     {
         let section = self.field(b"section ", n);
@@ -118,7 +118,7 @@ impl Text {
     }
 
     fn missing_line(self, n: u16) -> Text
-        requires { ⌜ self .size + 14 ≤ 1024 ⌝ }
+        requires { ⌜ self .size + 14 ≤ room ⌝ }
         ensures { λ r. ⌜ Grew (missingLine n) 14 self r ⌝ }
     {
         let missing = self.field(b"missing ", n);
@@ -126,7 +126,7 @@ impl Text {
     }
 
     fn complete_line(self) -> Text
-        requires { ⌜ self .size + 9 ≤ 1024 ⌝ }
+        requires { ⌜ self .size + 9 ≤ room ⌝ }
         ensures { λ r. ⌜ Grew completeLine 9 self r ⌝ }
     {
         let complete = self.word(b"complete");
@@ -134,16 +134,16 @@ impl Text {
     }
 
     fn refused_line(self, n: u8) -> Text
-        requires { ⌜ self .size + 14 ≤ 1024 ⌝ }
+        requires { ⌜ self .size + 14 ≤ room ⌝ }
         ensures { λ r. ⌜ Grew (refusedLine n) 14 self r ⌝ }
     {
-        let refused = self.field(b"refused ", wide(n));
+        let refused = self.field(b"refused ", answers::wide(n));
         refused.byte(NEWLINE)
     }
     // The line of one section, where the file holds it.
     fn section_of(self, n: u8, lengths: [u16; 16]) -> Text
         requires { ⌜ n < 16 ⌝ }
-        requires { ⌜ self .size + 26 ≤ 1024 ⌝ }
+        requires { ⌜ self .size + 26 ≤ room ⌝ }
         ensures { λ r. ⌜ Grew (sectionOf lengths n) 26 self r ⌝ }
     {
         let at = n as usize;
@@ -151,19 +151,19 @@ impl Text {
         if length == 0 {
             return self;
         }
-        self.section_line(wide(n), length)
+        self.section_line(answers::wide(n), length)
     }
 
     // The line of one number that the file lacks.
     fn missing_of(self, n: u8, lengths: [u16; 16]) -> Text
         requires { ⌜ n < 16 ⌝ }
-        requires { ⌜ self .size + 14 ≤ 1024 ⌝ }
+        requires { ⌜ self .size + 14 ≤ room ⌝ }
         ensures { λ r. ⌜ Grew (missingOf lengths n) 14 self r ⌝ }
     {
         let at = n as usize;
         let length = lengths[at];
         if length == 0 {
-            return self.missing_line(wide(n));
+            return self.missing_line(answers::wide(n));
         }
         self
     }
@@ -171,7 +171,7 @@ impl Text {
     // A line for each section held, rising.
     fn section_lines(self, last: u8, lengths: [u16; 16]) -> Text
         requires { ⌜ last ≤ 15 ⌝ }
-        requires { ⌜ self .size + 416 ≤ 1024 ⌝ }
+        requires { ⌜ self .size + 416 ≤ room ⌝ }
         ensures { λ r. ⌜ Grew (lines (last + 1) (sectionOf lengths)) 416 self r ⌝ }
     {
         let mut text = self;
@@ -186,7 +186,7 @@ impl Text {
     // A line for each number that lacks, rising.
     fn missing_lines(self, last: u8, lengths: [u16; 16]) -> Text
         requires { ⌜ last ≤ 15 ⌝ }
-        requires { ⌜ self .size + 224 ≤ 1024 ⌝ }
+        requires { ⌜ self .size + 224 ≤ room ⌝ }
         ensures { λ r. ⌜ Grew (lines (last + 1) (missingOf lengths)) 224 self r ⌝ }
     {
         let mut text = self;
@@ -200,7 +200,7 @@ impl Text {
     // What the listing ends with: that the table is complete, or the numbers that lack.
     fn end_lines(self, last: u8, lengths: [u16; 16]) -> Text
         requires { ⌜ last ≤ 15 ⌝ }
-        requires { ⌜ self .size + 224 ≤ 1024 ⌝ }
+        requires { ⌜ self .size + 224 ≤ room ⌝ }
         ensures { λ r. ⌜ Grew (endOf last lengths) 224 self r ⌝ }
     {
         if all_held(last, lengths) {
@@ -211,7 +211,7 @@ impl Text {
 
     fn table(self, h: Header, lengths: [u16; 16]) -> Text
         requires { ⌜ h .last ≤ 15 ⌝ }
-        requires { ⌜ self .size + 687 ≤ 1024 ⌝ }
+        requires { ⌜ self .size + 687 ≤ room ⌝ }
         ensures { λ r. ⌜ Grew (tableText h lengths) 687 self r ⌝ }
     {
         let last = h.last;
@@ -257,7 +257,7 @@ pub fn list_file(file: &[u8], out: &mut [u8]) -> Listed
     let bytes = text.bytes;
     let size = text.size;
     if out.len() < size {
-        return Listed::Refused(number::OUTPUT_TOO_SMALL);
+        return Listed::Refused(answers::OUTPUT_TOO_SMALL);
     }
     bytes::copy(&bytes[..size], out);
     Listed::Bytes(size)

@@ -17,8 +17,6 @@ pub enum Written {
 
 pub const BAD_NUMBER: u8 = 11;
 
-pub const OUTPUT_TOO_SMALL: u8 = 15;
-
 // A group's seven bits, and its top bit.
 const GROUP: u8 = 128;
 
@@ -26,15 +24,9 @@ const GROUP: u8 = 128;
 const HIGHEST_THIRD: u8 = 3;
 
 // What one of the second group counts for, and one of the third.
-const SECOND: u16 = 128;
+pub const SECOND: u16 = 128;
 
 const THIRD: u16 = 16384;
-
-fn wide(x: u8) -> u16
-    ensures { λ r. ⌜ r ≡ x ⌝ }
-{
-    x as u16
-}
 
 // The number at a place of the file and the place after it, or 11.
 pub fn read_number(file: &[u8], at: usize) -> Number
@@ -47,7 +39,7 @@ pub fn read_number(file: &[u8], at: usize) -> Number
     let low = file[at];
     let second = at + 1;
     if low < GROUP {
-        let value = wide(low);
+        let value = answers::wide(low);
         return Number::Value(value, second);
     }
     if end <= second {
@@ -59,7 +51,7 @@ pub fn read_number(file: &[u8], at: usize) -> Number
     }
     let third = second + 1;
     if middle < GROUP {
-        let value = wide(low % GROUP) + wide(middle) * SECOND;
+        let value = answers::wide(low % GROUP) + answers::wide(middle) * SECOND;
         return Number::Value(value, third);
     }
     if end <= third {
@@ -72,7 +64,9 @@ pub fn read_number(file: &[u8], at: usize) -> Number
     if HIGHEST_THIRD < high {
         return Number::Refused(BAD_NUMBER);
     }
-    let value = wide(low % GROUP) + wide(middle % GROUP) * SECOND + wide(high) * THIRD;
+    let value = answers::wide(low % GROUP)
+        + answers::wide(middle % GROUP) * SECOND
+        + answers::wide(high) * THIRD;
     let next = third + 1;
     Number::Value(value, next)
 }
@@ -84,7 +78,7 @@ pub fn write_number(n: u16, out: &mut [u8]) -> Written
     let room = out.len();
     if n < SECOND {
         if room < 1 {
-            return Written::Refused(OUTPUT_TOO_SMALL);
+            return Written::Refused(answers::OUTPUT_TOO_SMALL);
         }
         out[0] = n as u8;
         return Written::Bytes(1);
@@ -93,14 +87,14 @@ pub fn write_number(n: u16, out: &mut [u8]) -> Written
     let rest = n / SECOND;
     if rest < SECOND {
         if room < 2 {
-            return Written::Refused(OUTPUT_TOO_SMALL);
+            return Written::Refused(answers::OUTPUT_TOO_SMALL);
         }
         out[0] = low;
         out[1] = rest as u8;
         return Written::Bytes(2);
     }
     if room < 3 {
-        return Written::Refused(OUTPUT_TOO_SMALL);
+        return Written::Refused(answers::OUTPUT_TOO_SMALL);
     }
     let middle = (SECOND + rest % SECOND) as u8;
     let high = (rest / SECOND) as u8;

@@ -12,7 +12,7 @@ use Rattle.listing.proofs.list_file.Tie as tie
 text-for-requires : tie.Need-text-for-requires
 text-for-requires c κs = search needs
 
-long : (c : tie.After-bytes) → length (c .before .text-for .result .bytes) ≡ 1024
+long : (c : tie.After-bytes) → length (c .before .text-for .result .bytes) ≡ 687
 long c = search needs
 
 room : (c : tie.After-bytes) → c .before .text-for .result .size ≤ length (c .before .text-for .result .bytes)
