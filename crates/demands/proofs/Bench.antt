@@ -13,24 +13,21 @@ use Rattle.ask.specs.Ask.{Copy}
 use Rattle.ask.specs.declared.Copied.{Copied}
 use Rattle.answers.specs.Answers.{sizeIn}
 use Rattle.shelf_laws.specs.State.{copyOut, wholeIn}
-use Rattle.shelf_laws.specs.History.{copy, afterAll}
+use Rattle.shelf_laws.specs.History.{OfBytes, copy, afterAll}
+use Rattle.shelf_laws.proofs.Octets.{octets-cons}
 use Rattle.shelf_laws.proofs.Ranges.{CopyRange}
 use Rattle.writer.specs.Writer.{most, lastOf, bodyAt, sectionOf, written}
 use Rattle.writer.specs.declared.Label.{Label}
 use Rattle.writer.proofs.Laws.{last-le}
 use Rattle.writer_laws.specs.Offers as layer
 use Rattle.writer_laws.proofs.AnyOrder as order
-use Rattle.lent_histories.specs.Numbers as Numbers
-use Rattle.lent_histories.specs.Numbers.{copiedCode}
-use Rattle.lent_histories.specs.History.{OfBytes, History, copyAfter}
+use Rattle.ask.specs.Answer as ask-answer
+use Rattle.ask.specs.Answer.{copiedCode}
+use Rattle.lent_histories.specs.History.{History, copyAfter}
 use Rattle.lent_histories.proofs.Back.{size-in}
 use Rattle.lent_histories.proofs.After.{reply-range, reply-after}
 use Rattle.demands.specs.Bench.{InBytes, CanBeOffered, CompleteTable, HandsOut, bodyOf, bodiesAfter, BodiesBack}
 use Rattle.demands.proofs.Shelf.{by-complete}
-
-octets-cons : (x : ℕ) (s : List ℕ) → x < 256 → Octets s → Octets (x ∷ s)
-octets-cons x s h o zero = h
-octets-cons x s h o (suc k) = o k
 
 -- a header's eight bytes, then others
 octets-eight : (a b c d e f g h : ℕ) (s : List ℕ) → a < 256 → b < 256 → c < 256 → d < 256 → e < 256 → f < 256 → g < 256 → h < 256 → Octets s
@@ -73,7 +70,7 @@ can-be-offered label body five fits ks any b l sizes = (
 )
 
 -- a body that is handed out, in numbers
-body-same : (c : Copy) → CopyRange (c .said) → bodyOf (Numbers.copyOut c) ≡ layer.bodyOf c
+body-same : (c : Copy) → CopyRange (c .said) → bodyOf (ask-answer.copyOut c) ≡ layer.bodyOf c
 body-same c r = go (c .said) r
   where
     go : (a : Copied) → CopyRange a → drop 8 (take (sizeIn (copiedCode a)) (c .out)) ≡ layer.bodyIn a (c .out)
@@ -91,7 +88,7 @@ complete-table label body five fits ks any h e =
 pub hands-out : HandsOut
 hands-out label body five fits ks any h e k known output room =
     reply-after h (copy (layer.keyOf label) k output)
-    ∙ ap Numbers.copyOut
+    ∙ ap ask-answer.copyOut
     (ap (λ cs. copyOut (afterAll cs) (layer.keyOf label) k output) e ∙ order.hands-out label body five fits ks any k known output room)
 
 bodies-same : (h : History) (key : Key) (output : List ℕ) (n : ℕ) → bodiesAfter h key output n ≡ layer.bodiesAfter (h .calls) key output n

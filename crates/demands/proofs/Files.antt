@@ -11,6 +11,7 @@ use Rattle.shelf.specs.Record.{keyOf}
 use Rattle.load.specs.declared.Loaded.{Loaded}
 use Rattle.save.specs.Save.{Save}
 use Rattle.save.specs.declared.Saved.{Saved}
+use Rattle.base.specs.Octets.{Octets}
 use Rattle.answers.specs.Answers.{refusalIn, sizeIn}
 use Rattle.shelf_laws.specs.State.{loadOn, saveOut, afterLoad}
 use Rattle.shelf_laws.specs.History.{afterAll, save, load}
@@ -20,11 +21,15 @@ use Rattle.shelf_laws.proofs.Histories.{holds-all}
 use Rattle.shelf_laws.proofs.Loaded.{load-good}
 use Rattle.file_round.specs.Round.{Restores}
 use Rattle.file_round.proofs.Saved.{saved-bytes}
+use Rattle.shelf_laws.proofs.Octets.{octets-after}
+use Rattle.file_round.proofs.Octets.{octets-saved}
 use Rattle.file_round.proofs.Round as round
-use Rattle.lent_histories.specs.Numbers as Numbers
-use Rattle.lent_histories.specs.Numbers.{loadedCode, savedCode, replied}
+use Rattle.save.specs.Answer as save-answer
+use Rattle.save.specs.Answer.{savedCode}
+use Rattle.load.specs.Answer.{loadedCode, loadedIn}
+use Rattle.lent_histories.specs.Numbers.{replied}
 use Rattle.lent_histories.specs.History.{History, logAfter, saveAfter, loadAfter}
-use Rattle.lent_histories.proofs.Back.{size-in, loaded-back}
+use Rattle.lent_histories.proofs.Back.{size-in, loaded-told}
 use Rattle.lent_histories.proofs.After.{reply-range, reply-after, next-answer, next-reply}
 use Rattle.demands.specs.Files.{fileIn, RestoresAlways, SavedAgain}
 use Rattle.demands.proofs.Shelf.{same-log}
@@ -33,7 +38,7 @@ use Rattle.demands.proofs.Shelf.{same-log}
 pub record Written (c : Save) : Type 0 where
   pub size : ℕ
   pub said : c .said ≡ Saved.Bytes size
-  pub file : fileIn (Numbers.saveOut c) ≡ take size (c .out)
+  pub file : fileIn (save-answer.saveOut c) ≡ take size (c .out)
 
 written : (c : Save) → SaveRange (c .said) → refusalIn (savedCode (c .said)) ≡ 0 → Written c
 written c r e = go (c .said) refl r e
@@ -55,7 +60,7 @@ module _ (first second : History) (key : Key) (output : List ℕ) (e : refusalIn
   abbrev file : List ℕ
   file = fileIn (saveAfter first key output)
 
-  same-save : saveAfter first key output ≡ Numbers.saveOut (saveOut (afterAll (first .calls)) key output)
+  same-save : saveAfter first key output ≡ save-answer.saveOut (saveOut (afterAll (first .calls)) key output)
   same-save = reply-after first (save key output)
 
   wrote : Written (saveOut (afterAll (first .calls)) key output)
@@ -75,12 +80,15 @@ module _ (first second : History) (key : Key) (output : List ℕ) (e : refusalIn
       (λ q. not-full (load-code second file ∙ ap loadedCode (ap (λ f. loadOn (afterAll (second .calls)) f .said) (sym same-file) ∙ q))))
 
 pub restores-always : RestoresAlways
-restores-always first second key output e octets unheld not-full =
+restores-always first second key output e unheld not-full =
     let file = fileIn (saveAfter first key output) in
     let s = afterAll (first .calls) in
     let t = afterAll (second .calls) in
     let back = restored first second key output e unheld not-full in
-    let was = saved-bytes s key (holds-all (first .calls) .good) output (wrote first second key output e .size) (wrote first second key output e .said) in (
+    let was = saved-bytes s key (holds-all (first .calls) .good) output (wrote first second key output e .size) (wrote first second key output e .said) in
+    let octets =
+    subst Octets (sym (was .file) ∙ same-file first second key output e)
+    (octets-saved s (holds-all (first .calls) .good) (octets-after (first .calls) (first .bytes)) key (was .held)) in (
       load-code second file ∙ ap loadedCode (back .0),
       λ q mine.
           next-reply second (load file) (octets, tt) q
@@ -94,6 +102,6 @@ pub saved-again : SavedAgain
 saved-again h file octets header table e output room =
     let t = afterAll (h .calls) in
     let said : loadOn (afterAll (h .calls)) file .said ≡ Loaded.Done =
-    sym (loaded-back (loadOn t file .said) (range t (holds-all (h .calls) .good) (load file))) ∙ ap Numbers.loadedIn (sym (load-code h file) ∙ e) in
+    sym (loaded-told (loadOn t file .said) (range t (holds-all (h .calls) .good) (load file))) ∙ ap loadedIn (sym (load-code h file) ∙ e) in
     next-reply h (load file) (octets, tt) (save (keyOf header) output)
-    ∙ ap Numbers.saveOut (round.saved-again (h .calls) file octets header table said output room)
+    ∙ ap save-answer.saveOut (round.saved-again (h .calls) file octets header table said output room)

@@ -24,10 +24,11 @@ use Rattle.shelf_laws.proofs.HandedOut as handed
 use Rattle.shelf_laws.proofs.Ranges.{OfferRange, Range, range, ranges-all}
 use Rattle.shelf_laws.proofs.Never.{most-16}
 use Rattle.shelf_laws.proofs.Histories.{holds-all}
-use Rattle.lent_histories.specs.Numbers as Numbers
-use Rattle.lent_histories.specs.Numbers.{offeredCode, wholeCode, copyOut, answered, inNumbers}
+use Rattle.offer.specs.Answer.{offeredCode}
+use Rattle.ask.specs.Answer.{wholeCode, wholeBack, copyOut}
+use Rattle.lent_histories.specs.Numbers.{answered, inNumbers}
 use Rattle.lent_histories.specs.History.{History, logAfter, wholeAfter, EachLine}
-use Rattle.lent_histories.proofs.Back.{whole-back, entry-number}
+use Rattle.lent_histories.proofs.Back.{whole-told, entry-number}
 use Rattle.lent_histories.proofs.OneHistory.{one-history}
 use Rattle.lent_histories.proofs.After.{reply-range, reply-after, reply-refusal, next-answer, next-reply}
 use Rattle.demands.specs.Shelf.{complete, HeldExactly, CompleteExactly, MoreReception, Never17Nor18, HandedOut}
@@ -63,7 +64,7 @@ whole-after h key = ap (λ a. a .code) (reply-after h (whole key))
 
 complete-by : (h : History) (key : Key) → wholeAfter h key ≡ complete → wholeIn (afterAll (h .calls)) key ≡ Whole.Complete
 complete-by h key e =
-    sym (whole-back (wholeIn (afterAll (h .calls)) key) (reply-range h (whole key))) ∙ ap Numbers.wholeIn (sym (whole-after h key) ∙ e)
+    sym (whole-told (wholeIn (afterAll (h .calls)) key) (reply-range h (whole key))) ∙ ap wholeBack (sym (whole-after h key) ∙ e)
 
 pub by-complete : (h : History) (key : Key) → wholeIn (afterAll (h .calls)) key ≡ Whole.Complete → wholeAfter h key ≡ complete
 by-complete h key e = whole-after h key ∙ ap wholeCode e

@@ -10,24 +10,23 @@ use Rattle.section.specs.declared.Header.{Header}
 use Rattle.answers.specs.Answers.{Out, refusalIn, sizeIn, filled}
 use Rattle.shelf.specs.declared.Key.{Key}
 use Rattle.shelf.specs.Record.{keyOf}
+use Rattle.save.specs.Answer.{saveLent}
 use Rattle.file.specs.Scan.{scanOf}
 use Rattle.file.specs.declared.Scan.{Scan}
 use Rattle.shelf_laws.specs.History.{Question, about}
 use Rattle.shelf_laws.specs.Log.{heldBy}
-use Rattle.lent_histories.specs.Calls.{saveLent}
 use Rattle.lent_histories.specs.History.{History, loan, replyTo, logAfter, replyAfter, saveAfter, loadAfter}
 
 -- the file that a save left at the front of its output
 abbrev pub fileIn : Out → List ℕ
 fileIn saved = take (sizeIn (saved .code)) (saved .out)
 
--- A table is saved after one history, and the file, of bytes as every file is that a host can lend, is loaded after another history that
--- does not hold that table: it is loaded, unless the shelf is full, and then every question about the table is answered as before.
+-- A table is saved after one history, and the file is loaded after another that does not hold that table: it is loaded, unless the
+-- shelf is full, and then every question about the table is answered as before.
 abbrev pub RestoresAlways : Type 0
 RestoresAlways =
     (first second : History) (key : Key) (output : List ℕ)
     → refusalIn (saveAfter first key output .code) ≡ 0
-    → Octets (fileIn (saveAfter first key output))
     → heldBy key (logAfter second) ≡ false
     → ¬ (loadAfter second (fileIn (saveAfter first key output)) .code ≡ 9)
     → (loadAfter second (fileIn (saveAfter first key output)) .code ≡ 0)

@@ -24,12 +24,11 @@ use Rattle.section.specs.Section.{sectionNumber}
 use Rattle.answers.specs.Answers.{refusalIn, filled}
 use Rattle.shelf.specs.declared.Key.{Key}
 use Rattle.ask.specs.declared.Whole.{Whole}
+use Rattle.ask.specs.Answer.{wholeCode, copyLent}
 use Rattle.shelf_laws.specs.History.{Question, about, Each}
 use Rattle.shelf_laws.specs.Named.{keyIn}
 use Rattle.shelf_laws.specs.Log.{heldBy, since, lastSince}
 use Rattle.shelf_laws.specs.Reception.{SectionOf, OfferedIn, Undisturbed}
-use Rattle.lent_histories.specs.Numbers.{wholeCode}
-use Rattle.lent_histories.specs.Calls.{copyLent}
 use Rattle.lent_histories.specs.History.{History, logAfter, linesAfter, replyAfter, wholeAfter, copyAfter, offerAfter, EachLine}
 
 -- the number that calls a table complete

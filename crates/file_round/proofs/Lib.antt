@@ -6,3 +6,4 @@ pub mod Again
 pub mod Restored
 pub mod Round
 pub mod Faults
+pub mod Octets

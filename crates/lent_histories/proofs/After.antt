@@ -5,11 +5,11 @@ use mathlib.Core.Path.{_≡_, ap, _∙_}
 use mathlib.Core.List.{[], _∷_}
 use Rattle.answers.specs.Answers.{refusalIn}
 use Rattle.shelf_laws.specs.State.{State}
-use Rattle.shelf_laws.specs.History.{Question, Call, reply, replyNo, entry, step, afterAll, ask}
+use Rattle.shelf_laws.specs.History.{OfBytes, Question, Call, reply, replyNo, entry, step, afterAll, ask}
 use Rattle.shelf_laws.proofs.Ranges.{ReplyRange, range}
 use Rattle.shelf_laws.proofs.Histories.{holds-all}
 use Rattle.lent_histories.specs.Numbers.{replied, answered}
-use Rattle.lent_histories.specs.History.{stateOf, replyTo, answerTo, leftBy, OfBytes, History, leftAfter, replyAfter}
+use Rattle.lent_histories.specs.History.{stateOf, replyTo, answerTo, leftBy, History, leftAfter, replyAfter}
 use Rattle.lent_histories.proofs.Ties.{left-state, same-answer}
 use Rattle.lent_histories.proofs.Back.{reply-number}
 use Rattle.lent_histories.proofs.OneHistory.{one-history}

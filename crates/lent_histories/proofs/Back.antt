@@ -2,48 +2,42 @@
 --   ..-back                        an answer comes back out of its number
 --   entry-number, reply-number     the low 8 bits are the paper's number
 --   entry-back, log-back           a call's entry comes back out of its line, and a log out of its lines
-use mathlib.Core.Path.{_≡_, refl, ap, _∙_}
+use mathlib.Core.Path.{_≡_, refl, ap, subst, _∙_}
 use mathlib.Core.List.{List, [], _∷_}
-use Prim.Native.Nat.{ℕ, _+_, _*_, _/_, _%_, _<_, _≤_}
+use Prim.Native.Nat.{ℕ, _+_, _*_, _%_, _<_, _≤_}
 use native.Mathlib.Omega.{arith}
-use borrow.Author.Tests.{eq-eqb, ne-eqb}
 use Rattle.offer.specs.Offer as Offer
+use Rattle.offer.specs.Answer.{offeredCode}
+use Rattle.offer.proofs.Told.{offered-back}
 use Rattle.offer.specs.declared.Offered.{Offered}
 use Rattle.release.specs.Release as Release
+use Rattle.release.specs.Answer.{releasedCode}
+use Rattle.release.proofs.Told.{released-back}
 use Rattle.release.specs.declared.Released.{Released}
 use Rattle.ask.specs.Ask as Ask
+use Rattle.ask.specs.Answer.{wholeCode, wholeBack, missingCode, copiedCode, copiedIn}
+use Rattle.ask.proofs.Told.{whole-back, missing-back}
 use Rattle.ask.specs.declared.Copied.{Copied}
 use Rattle.ask.specs.declared.Whole.{Whole}
 use Rattle.ask.specs.declared.Missing.{Missing}
 use Rattle.load.specs.Load as Load
+use Rattle.load.specs.Answer.{loadedCode, loadedIn}
+use Rattle.load.proofs.Told.{loaded-back}
 use Rattle.load.specs.declared.Loaded.{Loaded}
 use Rattle.save.specs.Save as Save
+use Rattle.save.specs.Answer.{savedCode, savedIn}
 use Rattle.save.specs.declared.Saved.{Saved}
 use Rattle.answers.specs.Answers.{refusalIn, sizeCode, sizeIn}
 use Rattle.answers.proofs.Fills.{size-back, refusal-back}
-use Rattle.shelf_laws.specs.State as layer
-use Rattle.shelf_laws.specs.State.{State, offerTo, loadOn, releaseFrom}
+use Rattle.shelf_laws.specs.State.{State, offerTo, loadOn, releaseFrom, copyOut, wholeIn, missingIn, saveOut}
 use Rattle.shelf_laws.specs.History.{Question, Call, Reply, replyNo, numberIn, Entry, offered, loaded, released, asked, copied, wholly, lacking, saved, entry, reply, step, logged, logOf, start}
-use Rattle.shelf_laws.proofs.Ranges.{OfferRange, LoadRange, ReleaseRange, CopyRange, WholeRange, MissingRange, SaveRange, ReplyRange, Range, range}
+use Rattle.shelf_laws.proofs.Ranges.{Refusing, OfferRange, LoadRange, ReleaseRange, CopyRange, WholeRange, MissingRange, SaveRange, ReplyRange, Range, range}
 use Rattle.shelf_laws.proofs.Histories.{Holds, step-holds, start-holds}
-use Rattle.lent_histories.specs.Numbers.{offeredCode, loadedCode, releasedCode, copiedCode, wholeCode, missingCode, savedCode, replied, answered, called, inNumbers, offeredIn, loadedIn, releasedIn, copiedIn, wholeIn, missingIn, savedIn, replyIn, entryIn, logIn}
+use Rattle.lent_histories.specs.Numbers.{replied, answered, called, inNumbers, replyIn, entryIn, logIn}
 
-pub offered-back : (a : Offered) → OfferRange a → offeredIn (offeredCode a) ≡ a
-offered-back Offered.Began r = refl
-offered-back Offered.BeganAgain r = refl
-offered-back Offered.Added r = refl
-offered-back Offered.Repeat r = refl
-offered-back (Offered.Refused n) r =
-    let m : n ≤ 16 = r .1 in
-    rw (ne-eqb n 256 (λ e. omega arith), ne-eqb n 512 (λ e. omega arith), ne-eqb n 768 (λ e. omega arith), ne-eqb n 1024 (λ e. omega arith))
-
-pub loaded-back : (a : Loaded) → LoadRange a → loadedIn (loadedCode a) ≡ a
-loaded-back Loaded.Done r = refl
-loaded-back (Loaded.Refused n) r = let m : 1 ≤ n = r .0 in rw (ne-eqb n 0 (λ e. omega arith))
-
-released-back : (a : Released) → ReleaseRange a → releasedIn (releasedCode a) ≡ a
-released-back Released.Done r = refl
-released-back (Released.Refused n) r = let m : 1 ≤ n = r .0 in rw (ne-eqb n 0 (λ e. omega arith))
+-- a refusal of the range is a number of 8 bits, and not 0
+below-256 : (n : ℕ) → Refusing n → n < 256
+below-256 n r = let m : n ≤ 16 = r .1 in omega arith
 
 -- a size comes back out of its number
 pub size-in : (n : ℕ) → n < 65536 → sizeIn (sizeCode n) ≡ n
@@ -51,24 +45,11 @@ size-in n h = omega arith
 
 copied-back : (a : Copied) → CopyRange a → copiedIn (copiedCode a) ≡ a
 copied-back (Copied.Bytes n) r = size-back Copied.Bytes Copied.Refused n r
-copied-back (Copied.Refused n) r = let m : n ≤ 16 = r .1 in refusal-back Copied.Bytes Copied.Refused n (r .0) (omega arith)
+copied-back (Copied.Refused n) r = refusal-back Copied.Bytes Copied.Refused n (r .0) (below-256 n r)
 
 saved-back : (a : Saved) → SaveRange a → savedIn (savedCode a) ≡ a
 saved-back (Saved.Bytes n) r = size-back Saved.Bytes Saved.Refused n r
-saved-back (Saved.Refused n) r = let m : n ≤ 16 = r .1 in refusal-back Saved.Bytes Saved.Refused n (r .0) (omega arith)
-
-pub whole-back : (a : Whole) → WholeRange a → wholeIn (wholeCode a) ≡ a
-whole-back Whole.Complete r = refl
-whole-back Whole.Incomplete r = refl
-whole-back (Whole.Refused n) r = let m : n ≤ 16 = r .1 in rw (ne-eqb n 256 (λ e. omega arith), ne-eqb n 512 (λ e. omega arith))
-
-missing-back : (a : Missing) → MissingRange a → missingIn (missingCode a) ≡ a
-missing-back Missing.Nothing r = refl
-missing-back (Missing.Number n) r =
-    rw (ne-eqb (512 + 65536 * n) 256 (λ e. omega arith), eq-eqb ((512 + 65536 * n) % 65536) 512 (omega arith))
-    (ap Missing.Number (let e : (512 + 65536 * n) / 65536 ≡ n = omega arith in e))
-missing-back (Missing.Refused n) r =
-    let m : n ≤ 16 = r .1 in rw (ne-eqb n 256 (λ e. omega arith), ne-eqb (n % 65536) 512 (λ e. omega arith))
+saved-back (Saved.Refused n) r = refusal-back Saved.Bytes Saved.Refused n (r .0) (below-256 n r)
 
 -- the low 8 bits are the paper's number
 offered-number : (a : Offered) → OfferRange a → refusalIn (offeredCode a) ≡ Offer.numberOf a
@@ -116,19 +97,29 @@ entry-number (loaded file said) r = loaded-number said r
 entry-number (released key said) r = released-number said r
 entry-number (asked question said) r = reply-number said r
 
+-- an answer comes back out of its number
+pub whole-told : (a : Whole) → WholeRange a → wholeBack (wholeCode a) ≡ a
+whole-told a r = whole-back a (λ n e. below-256 n (subst WholeRange e r))
+
+pub loaded-told : (a : Loaded) → LoadRange a → loadedIn (loadedCode a) ≡ a
+loaded-told a r = loaded-back a (λ n e. subst LoadRange e r .0)
+
 module _ (s : State) where
   reply-back : (q : Question) → ReplyRange (reply s q) → replyIn q (replied (reply s q)) ≡ reply s q
   reply-back (Question.copy key n bytes) r =
-      ap (λ a. copied (Ask.copy a (layer.copyOut s key n bytes .out))) (copied-back (layer.copyOut s key n bytes .said) r)
-  reply-back (Question.whole key) r = ap wholly (whole-back (layer.wholeIn s key) r)
-  reply-back (Question.missing key) r = ap lacking (missing-back (layer.missingIn s key) r)
+      ap (λ a. copied (Ask.copy a (copyOut s key n bytes .out))) (copied-back (copyOut s key n bytes .said) r)
+  reply-back (Question.whole key) r = ap wholly (whole-told (wholeIn s key) r)
+  reply-back (Question.missing key) r =
+      ap lacking (missing-back (missingIn s key) (λ n e. below-256 n (subst MissingRange e r)))
   reply-back (Question.save key bytes) r =
-      ap (λ a. saved (Save.save a (layer.saveOut s key bytes .out))) (saved-back (layer.saveOut s key bytes .said) r)
+      ap (λ a. saved (Save.save a (saveOut s key bytes .out))) (saved-back (saveOut s key bytes .said) r)
 
   pub entry-back : (c : Call) → Range (entry s c) → entryIn (called (entry s c)) (answered (entry s c)) ≡ entry s c
-  entry-back (Call.offer payload) r = ap (offered payload) (offered-back (offerTo s payload .said) r)
-  entry-back (Call.load file) r = ap (loaded file) (loaded-back (loadOn s file .said) r)
-  entry-back (Call.release key) r = ap (released key) (released-back (releaseFrom s key .said) r)
+  entry-back (Call.offer payload) r =
+      ap (offered payload) (offered-back (offerTo s payload .said) (λ n e. below-256 n (subst OfferRange e r)))
+  entry-back (Call.load file) r = ap (loaded file) (loaded-told (loadOn s file .said) r)
+  entry-back (Call.release key) r =
+      ap (released key) (released-back (releaseFrom s key .said) (λ n e. subst ReleaseRange e r .0))
   entry-back (Call.ask question) r = ap (asked question) (reply-back question r)
 
 back-from : (s : State) (log : List Entry) → Holds s log → logIn (inNumbers log) ≡ log → (cs : List Call)

@@ -3,9 +3,10 @@
 use mathlib.Core.Path.{_≡_, refl, sym, ap, _∙_}
 use mathlib.Core.List.{List, [], _∷_}
 use Rattle.shelf_laws.specs.State.{State}
-use Rattle.shelf_laws.specs.History.{Call, Entry, entry, step, after, logged, logOf, start}
+use Rattle.shelf_laws.specs.History.{OfBytes, Call, Entry, entry, step, after, logged, logOf, start}
+use Rattle.shelf_laws.proofs.Octets.{others}
 use Rattle.lent_histories.specs.Numbers.{Line, line, lineOf, called, answered, inNumbers, logIn}
-use Rattle.lent_histories.specs.History.{Loan, stateOf, answerTo, leftBy, begun, leftFrom, linesFrom, OfBytes, History, linesAfter}
+use Rattle.lent_histories.specs.History.{Loan, stateOf, answerTo, leftBy, begun, leftFrom, linesFrom, History, linesAfter}
 use Rattle.lent_histories.specs.Laws.{SameHistory, OneHistory}
 use Rattle.lent_histories.proofs.Ties.{begun-state, begun-code, left-state, same-answer}
 use Rattle.lent_histories.proofs.Back.{log-back}
@@ -17,13 +18,7 @@ its-call s (Call.load file) = refl
 its-call s (Call.release key) = refl
 its-call s (Call.ask question) = refl
 
--- the first call of a history, and the others
-others : (c : Call) (cs : List Call) → OfBytes (c ∷ cs) → OfBytes cs
-others (Call.offer payload) cs b = b .1
-others (Call.load file) cs b = b .1
-others (Call.release key) cs b = b
-others (Call.ask question) cs b = b
-
+-- the first call of a history
 module _ (l : Loan) (s : State) (e : stateOf l ≡ s) where
   first-line : (c : Call) → line c (answerTo l c) ≡ lineOf (entry s c)
   first-line c =

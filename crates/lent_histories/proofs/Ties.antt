@@ -6,15 +6,20 @@ use Prim.Native.Nat.{ℕ}
 use mathlib.Core.Path.{_≡_, refl, ap, _∙_}
 use mathlib.Core.List.{List, [], _∷_}
 use Rattle.shelf.specs.Record.{Shelf}
-use Rattle.begin.proofs.Lent.{begin-done, begin-shelf}
-use Rattle.offer.proofs.Lent.{offer-said, offer-shelf, offer-store}
-use Rattle.release.proofs.Lent.{release-said, release-shelf, release-store}
-use Rattle.load.proofs.Lent.{load-said, load-shelf, load-store}
+use Rattle.begin.specs.Answer.{begunCode, beginLent}
+use Rattle.begin.proofs.On.{begin-done, begin-shelf}
+use Rattle.offer.specs.Answer.{offeredCode, offerLent}
+use Rattle.offer.proofs.On.{offer-said, offer-shelf, offer-store}
+use Rattle.release.specs.Answer.{releasedCode, releaseLent}
+use Rattle.release.proofs.On.{release-said, release-shelf, release-store}
+use Rattle.ask.specs.Answer.{wholeLent, missingLent, copyLent}
+use Rattle.save.specs.Answer.{saveLent}
+use Rattle.load.specs.Answer.{loadedCode, loadLent}
+use Rattle.load.proofs.On.{load-said, load-shelf, load-store}
 use Rattle.shelf_laws.specs.State.{State}
-use Rattle.shelf_laws.specs.History.{Question, Call, entry, step, start}
-use Rattle.lent_histories.specs.Numbers.{begunCode, offeredCode, loadedCode, releasedCode, answered}
-use Rattle.lent_histories.specs.Calls.{beginLent}
-use Rattle.lent_histories.specs.History.{Loan, Sized, stateOf, answerTo, leftBy, begun, OfBytes}
+use Rattle.shelf_laws.specs.History.{OfBytes, Question, Call, entry, step, start}
+use Rattle.lent_histories.specs.Numbers.{answered}
+use Rattle.lent_histories.specs.History.{Loan, Sized, stateOf, answerTo, leftBy, begun}
 use Rattle.answers.specs.Answers.{out}
 
 state-is : (a b : Shelf) (x y : List ℕ) → a ≡ b → x ≡ y → _≡_ {A = State} (record { shelf = a; store = x }) (record { shelf = b; store = y })
@@ -23,14 +28,17 @@ state-is a b x y e f = ap (λ z. record { shelf = z; store = x }) e ∙ ap (λ z
 module _ (l : Loan) where
   module _ (sizes : Sized l) where
     pub begun-state : stateOf (begun l) ≡ start
+    unfolding beginLent
     begun-state =
         state-is _ _ _ _ (begin-shelf l.words l.store (sizes .bytes) (sizes .numbers))
         (ap (λ a. a .store) (begin-done l.words l.store (sizes .bytes) (sizes .numbers)))
 
     pub begun-code : beginLent l.words l.store .code ≡ 0
+    unfolding beginLent
     begun-code = ap (λ a. begunCode (a .said)) (begin-done l.words l.store (sizes .bytes) (sizes .numbers))
 
   pub left-state : (c : Call) (cs : List Call) → OfBytes (c ∷ cs) → stateOf (leftBy l c) ≡ step (stateOf l) c
+  unfolding offerLent loadLent releaseLent
   left-state (Call.offer payload) cs b =
       state-is _ _ _ _ (offer-shelf l.words l.store payload (b .0)) (offer-store l.words l.store payload)
   left-state (Call.load file) cs b = state-is _ _ _ _ (load-shelf file (b .0) l.words l.store) (load-store l.words l.store file)
@@ -38,6 +46,7 @@ module _ (l : Loan) where
   left-state (Call.ask question) cs b = refl
 
   pub same-answer : (c : Call) → answerTo l c ≡ answered (entry (stateOf l) c)
+  unfolding offerLent loadLent releaseLent wholeLent missingLent copyLent saveLent
   same-answer (Call.offer payload) = ap (λ a. out (offeredCode a) []) (offer-said l.words l.store payload)
   same-answer (Call.load file) = ap (λ a. out (loadedCode a) []) (load-said l.words l.store file)
   same-answer (Call.release key) = ap (λ a. out (releasedCode a) []) (release-said l.words l.store key)

@@ -4,15 +4,19 @@ use Prim.Native.Nat.{ℕ}
 use mathlib.Core.Path.{_≡_}
 use mathlib.Core.List.{List, [], _∷_}
 use lib.ListN.{length}
-use Rattle.base.specs.Octets.{Octets}
 use Rattle.answers.specs.Answers.{Lent, Out, out}
 use Rattle.berth.specs.Berth.{storeSize}
 use Rattle.shelf.specs.declared.Key.{Key}
 use Rattle.shelf.specs.Layout.{count, shelfAt}
+use Rattle.begin.specs.Answer.{beginLent}
+use Rattle.offer.specs.Answer.{offerLent}
+use Rattle.release.specs.Answer.{releaseLent}
+use Rattle.ask.specs.Answer.{wholeLent, missingLent, copyLent}
+use Rattle.load.specs.Answer.{loadLent}
+use Rattle.save.specs.Answer.{saveLent}
 use Rattle.shelf_laws.specs.State.{State}
-use Rattle.shelf_laws.specs.History.{Question, Call, Entry, copy, whole, missing, save, offer, load, release, ask}
+use Rattle.shelf_laws.specs.History.{OfBytes, Question, Call, Entry, copy, whole, missing, save, offer, load, release, ask}
 use Rattle.lent_histories.specs.Numbers.{Line, line, logIn}
-use Rattle.lent_histories.specs.Calls.{beginLent, offerLent, loadLent, releaseLent, wholeLent, missingLent, copyLent, saveLent}
 
 -- what a host lends: the record's numbers and the store
 pub record Loan : Type 0 where
@@ -67,15 +71,8 @@ abbrev pub linesFrom : Loan → List Line → List Call → List Line
 linesFrom l lines [] = lines
 linesFrom l lines (c ∷ cs) = linesFrom (leftBy l c) (line c (answerTo l c) ∷ lines) cs
 
--- payloads and files are of bytes, as all are that a host can lend
-abbrev pub OfBytes : List Call → Type 0
-OfBytes [] = Unit {0}
-OfBytes (offer payload ∷ cs) = Octets payload × OfBytes cs
-OfBytes (load file ∷ cs) = Octets file × OfBytes cs
-OfBytes (release key ∷ cs) = OfBytes cs
-OfBytes (ask question ∷ cs) = OfBytes cs
-
--- a history: what was lent to begin a shelf on, whatever stood in it, and the calls that followed
+-- a history: what was lent to begin a shelf on, whatever stood in it, and the calls that followed, whose payloads and files are of
+-- bytes, as all are that a host can lend
 pub record History : Type 0 where
   pub lent : Loan
   pub sizes : Sized lent

@@ -1,8 +1,8 @@
 -- The words of the law that ties the two kinds of histories.
 use mathlib.Core.Path.{_≡_}
+use Rattle.begin.specs.Answer.{beginLent}
 use Rattle.shelf_laws.specs.History.{afterAll, logOf}
 use Rattle.lent_histories.specs.Numbers.{inNumbers}
-use Rattle.lent_histories.specs.Calls.{beginLent}
 use Rattle.lent_histories.specs.History.{Loan, Sized, stateOf, History, leftAfter, linesAfter, logAfter}
 
 -- after a history at the boundary the record that the numbers are, and the store, are those after the layer's history of the same

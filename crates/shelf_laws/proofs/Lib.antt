@@ -10,6 +10,7 @@ pub mod Asked
 pub mod Released
 pub mod HandedOut
 pub mod Loaded
+pub mod Octets
 pub mod Faults
 pub mod Histories
 pub mod Held

@@ -39,6 +39,7 @@ use Rattle.shelf_laws.specs.State.{State, loadOn, afterLoad}
 use Rattle.shelf_laws.specs.Named.{loadNames}
 use Rattle.shelf_laws.specs.Answers.{isDone}
 use Rattle.shelf_laws.specs.Log.{tableHas, tableVersion, tableLast, loads}
+use Rattle.shelf_laws.specs.Laws.{LoadRefused, LoadElsewhere}
 use Rattle.shelf_laws.proofs.Berths.{Berth, put-length, put-berth, put-elsewhere}
 use Rattle.shelf_laws.proofs.Places.{at-same, has-not, its-key, unheld, free-le, free-at, right, same-key, key-itself}
 use Rattle.shelf_laws.proofs.Kept.{Good, Table, Kept, Alike, alike-itself, alike-with, key-with, good-with}
@@ -225,9 +226,6 @@ module _ (s : State) (file : List ℕ) where
   unchanged-goes (Goes.refuses _ _ _) e = refl
   unchanged-goes (Goes.done _ _ _ _ _ _) e = absurd (unlike e)
 
-  pub load-refused : (n : ℕ) → loadOn s file .said ≡ Loaded.Refused n → afterLoad (loadOn s file) ≡ s
-  load-refused n e = unchanged-goes goes (ap isDone e)
-
   length-goes : {scan : Scan} {r : After} → Goes scan r → length (r .store) ≡ length s.store
   length-goes (Goes.refuses _ _ _) = refl
   length-goes (Goes.done h c l u e f) = filled-length file h c s.store (freeOf s.shelf) l f sections (omega arith) ∙ sym l
@@ -241,10 +239,6 @@ module _ (s : State) (file : List ℕ) where
   elsewhere-goes (Goes.done h c l u q f) p n k i j e =
       filled-elsewhere file h c s.store (freeOf s.shelf) l f sections (omega arith) p n k i
       (λ z _ t. unlike (sym (rw (eq-eqb p (freeOf s.shelf) (sym z)) t) ∙ e)) j
-
-  pub load-elsewhere : (p n k : ℕ) → n < sections → k ≤ berthSize → loadNames s.shelf file (loadOn s file .said) p n ≡ false
-      → standing (loadOn s file .store) p n k ≡ standing s.store p n k
-  load-elsewhere = elsewhere-goes goes
 
   own-goes : {scan : Scan} {r : After} → Goes scan r → (p n : ℕ) → n < sections → loadNames s.shelf file (r .said) p n ≡ true
       → standing (r .store) p n berthSize ≡ padded berthSize (sectionIn file n)
@@ -312,3 +306,9 @@ module _ (s : State) (file : List ℕ) where
     pub load-begins : (key : Key) → (loads key file && isDone (loadOn s file .said)) ≡ true
         → Kept (afterLoad (loadOn s file)) key (freeOf s.shelf) (carriedTable (scanOf file .answer))
     load-begins = begins-goes goes
+
+pub load-refused : LoadRefused
+load-refused s file n e = unchanged-goes s file (goes s file) (ap isDone e)
+
+pub load-elsewhere : LoadElsewhere
+load-elsewhere s file = elsewhere-goes s file (goes s file)

@@ -22,6 +22,7 @@ use Rattle.offer.specs.declared.Offered.{Offered}
 use Rattle.shelf_laws.specs.State.{State, offerTo, afterOffer}
 use Rattle.shelf_laws.specs.Named.{keyIn, ownPlace}
 use Rattle.shelf_laws.specs.Answers.{begins, joins, stores, accepted}
+use Rattle.shelf_laws.specs.Laws.{OfferRefused, OfferRepeat}
 use Rattle.shelf_laws.proofs.Berths.{put-elsewhere}
 use Rattle.shelf_laws.proofs.Places.{key-itself, same-owner, its-key, has-not, held-at, unheld, free-at, one-key}
 use Rattle.shelf_laws.proofs.Offering.{Heard, HeardOf, Goes, goes, own-berth}
@@ -163,12 +164,6 @@ module _ (s : State) (payload : List ℕ) where
   unchanged-goes (Goes.added _ _ _ _ _) e = absurd (unlike e)
   unchanged-goes (Goes.repeats _ _ _ _ _ _) e = refl
 
-  pub offer-refused : (n : ℕ) → offerTo s payload .said ≡ Offered.Refused n → afterOffer (offerTo s payload) ≡ s
-  offer-refused n e = unchanged-goes (goes s payload) (ap stores e)
-
-  pub offer-repeat : offerTo s payload .said ≡ Offered.Repeat → afterOffer (offerTo s payload) ≡ s
-  offer-repeat e = unchanged-goes (goes s payload) (ap stores e)
-
   -- a table of which no section is accepted is left alone
   pub offer-apart : Good s → (key : Key) → (sameKey (keyIn payload) key && accepted (offerTo s payload .said)) ≡ false
       → Alike s (afterOffer (offerTo s payload)) key
@@ -177,3 +172,9 @@ module _ (s : State) (payload : List ℕ) where
       (λ t.
       subst (λ x. Alike s x key) (sym (unchanged-goes (goes s payload) (unstored (offerTo s payload .said) (rw t at e)))) (alike-itself s key))
       (λ t. offer-alike s payload g key (λ q. unlike (sym (ap (λ x. sameKey x key) q ∙ key-itself key) ∙ t)))
+
+pub offer-refused : OfferRefused
+offer-refused s payload n e = unchanged-goes s payload (goes s payload) (ap stores e)
+
+pub offer-repeat : OfferRepeat
+offer-repeat s payload e = unchanged-goes s payload (goes s payload) (ap stores e)

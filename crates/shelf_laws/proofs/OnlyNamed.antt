@@ -24,6 +24,7 @@ use Rattle.offer.specs.declared.Offered.{Offered}
 use Rattle.shelf_laws.specs.State.{State, offerTo}
 use Rattle.shelf_laws.specs.Named.{keyIn, ownPlace, offerNames}
 use Rattle.shelf_laws.specs.Answers.{stores}
+use Rattle.shelf_laws.specs.Laws.{OfferElsewhere}
 use Rattle.shelf_laws.proofs.Berths.{Berth, put-length, put-berth, put-elsewhere}
 use Rattle.shelf_laws.proofs.Offering.{HeardOf, Goes, goes, number-16, most-1024, own-berth}
 
@@ -87,10 +88,6 @@ module _ (s : State) (payload : List ℕ) where
       (apart p (sectionNumber payload) q m (rw (a .place) at e)) j
   elsewhere-goes (Goes.repeats _ _ _ _ _ _) q m k i j e = refl
 
-  pub offer-elsewhere : (p n k : ℕ) → n < sections → k ≤ berthSize → offerNames s.shelf payload (offerTo s payload .said) p n ≡ false
-      → standing (offerTo s payload .store) p n k ≡ standing s.store p n k
-  offer-elsewhere = elsewhere-goes (goes s payload)
-
   own-goes : {r : After} → Goes s payload r → stores (r .said) ≡ true
       → standing (r .store) (ownPlace s.shelf payload (r .said)) (sectionNumber payload) berthSize ≡ padded berthSize payload
   own-goes (Goes.refuses _ _) e = absurd (unlike (sym e))
@@ -122,3 +119,6 @@ module _ (s : State) (payload : List ℕ) where
       → holds (placeAt s.shelf (placeOf s.shelf (keyIn payload))) n ≡ true
       → standing (offerTo s payload .store) (placeOf s.shelf (keyIn payload)) n berthSize ≡ zeros berthSize
   offer-wiped e n i = wiped-goes (goes s payload) n i (ap wipes e)
+
+pub offer-elsewhere : OfferElsewhere
+offer-elsewhere s payload = elsewhere-goes s payload (goes s payload)

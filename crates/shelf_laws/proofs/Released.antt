@@ -23,6 +23,7 @@ use Rattle.release.specs.declared.Released.{Released}
 use Rattle.shelf_laws.specs.State.{State, releaseFrom, afterRelease}
 use Rattle.shelf_laws.specs.Named.{releaseNames}
 use Rattle.shelf_laws.specs.Answers.{frees}
+use Rattle.shelf_laws.specs.Laws.{ReleaseElsewhere}
 use Rattle.shelf_laws.proofs.Places.{key-itself, at-same, at-other, has-not, its-key, held-at, placed, not-held, one-key}
 use Rattle.shelf_laws.proofs.Kept.{Good, Alike, alike-itself, alike-with, good-with}
 
@@ -70,10 +71,6 @@ module _ (s : State) (key : Key) where
   elsewhere-goes (Goes.done l u t) p n k i j e =
       where-spared (λ _. true) s.store l (placeOf s.shelf key) t sections (omega arith) p n k i (λ a _ _. eqb-false _ _ e (sym a)) j
 
-  pub release-elsewhere : (p n k : ℕ) → n < sections → k ≤ berthSize → releaseNames s.shelf key (releaseFrom s key .said) p n ≡ false
-      → standing (releaseFrom s key .store) p n k ≡ standing s.store p n k
-  release-elsewhere = elsewhere-goes goes
-
   module _ (g : Good s) where
     good-goes : {r : After} → Goes r → Good (afterRelease r)
     good-goes (Goes.refuses _ _) = g
@@ -117,3 +114,6 @@ module _ (s : State) (key : Key) where
 
     pub release-done : frees (releaseFrom s key .said) ≡ true → placeOf (releaseFrom s key .shelf) key ≡ places
     release-done = done-goes goes
+
+pub release-elsewhere : ReleaseElsewhere
+release-elsewhere s key = elsewhere-goes s key (goes s key)

@@ -3,6 +3,7 @@
 use Prim.Native.Nat.{ℕ}
 use mathlib.Core.List.{List, [], _∷_}
 use Rattle.base.specs.Bytes.{zeros}
+use Rattle.base.specs.Octets.{Octets}
 use Rattle.berth.specs.Berth.{storeSize}
 use Rattle.shelf.specs.Record.{fresh}
 use Rattle.shelf.specs.declared.Key.{Key}
@@ -111,6 +112,14 @@ numberIn (offered payload said) = Offer.numberOf said
 numberIn (loaded file said) = Load.numberOf said
 numberIn (released key said) = Release.numberOf said
 numberIn (asked question said) = replyNo said
+
+-- payloads and files are of bytes
+abbrev pub OfBytes : List Call → Type 0
+OfBytes [] = Unit {0}
+OfBytes (offer payload ∷ cs) = Octets payload × OfBytes cs
+OfBytes (load file ∷ cs) = Octets file × OfBytes cs
+OfBytes (release key ∷ cs) = OfBytes cs
+OfBytes (ask question ∷ cs) = OfBytes cs
 
 -- so of every entry of a log
 abbrev pub Each : (Entry → Type 0) → List Entry → Type 0

@@ -1,20 +1,22 @@
--- The words of the laws over histories that other pages cite; each is proved in the file of proofs/ that is named beside it.
-use Prim.Native.Nat.{ℕ, _≤_}
+-- The words of the laws that other pages cite; each is proved in the file of proofs/ that is named beside it.
+use Prim.Native.Nat.{ℕ, _<_, _≤_}
 use mathlib.Core.Path.{_≡_}
-use mathlib.Core.Bool.{true}
+use mathlib.Core.Bool.{Bool, true, false}
 use mathlib.Core.Logic.{_↔_}
 use mathlib.Core.List.{List, [], _++_}
 use lib.ListN.{length, drop}
 use Rattle.section.specs.Section.{sectionNumber}
-use Rattle.berth.specs.Berth.{storeSize}
+use Rattle.berth.specs.Berth.{sections, storeSize, berthSize, standing}
 use Rattle.shelf.specs.Record.{fresh}
 use Rattle.shelf.specs.declared.Key.{Key}
+use Rattle.offer.specs.declared.Offered.{Offered}
 use Rattle.release.specs.declared.Released.{Released}
+use Rattle.load.specs.declared.Loaded.{Loaded}
 use Rattle.ask.specs.Ask.{copy, copiedNo}
 use Rattle.ask.specs.declared.Copied.{Copied}
 use Rattle.ask.specs.declared.Whole.{Whole}
-use Rattle.shelf_laws.specs.State.{State, Formed, offerTo, releaseFrom, copyOut, afterOffer}
-use Rattle.shelf_laws.specs.Named.{keyIn}
+use Rattle.shelf_laws.specs.State.{State, Formed, offerTo, loadOn, releaseFrom, copyOut, afterOffer, afterLoad}
+use Rattle.shelf_laws.specs.Named.{keyIn, offerNames, loadNames, releaseNames}
 use Rattle.shelf_laws.specs.Answers.{accepted}
 use Rattle.shelf_laws.specs.History.{Question, about, Call, replyNo, replyAfter, afterAll, logOf, copyAfter, wholeAfter, logged, numberIn, Each}
 use Rattle.shelf_laws.specs.Log.{heldBy, since, lastSince}
@@ -66,3 +68,28 @@ HandedOut =
     → length payload ≤ length out
     → copyOut (afterOffer (offerTo s payload)) (keyIn payload) (sectionNumber payload) out
     ≡ copy (Copied.Bytes (length payload)) (payload ++ drop (length payload) out)
+
+-- a call changes only the berths that document 01 names: of any other the first bytes, be they as many as they may, stay (OnlyNamed,
+-- Loaded, Released)
+abbrev pub Stays : State → List ℕ → (ℕ → ℕ → Bool) → Type 0
+Stays s store named =
+    (p n k : ℕ) → n < sections → k ≤ berthSize → named p n ≡ false → standing store p n k ≡ standing s.store p n k
+
+abbrev pub OfferElsewhere : Type 0
+OfferElsewhere = (s : State) (payload : List ℕ) → Stays s (offerTo s payload .store) (offerNames s.shelf payload (offerTo s payload .said))
+
+abbrev pub LoadElsewhere : Type 0
+LoadElsewhere = (s : State) (file : List ℕ) → Stays s (loadOn s file .store) (loadNames s.shelf file (loadOn s file .said))
+
+abbrev pub ReleaseElsewhere : Type 0
+ReleaseElsewhere = (s : State) (key : Key) → Stays s (releaseFrom s key .store) (releaseNames s.shelf key (releaseFrom s key .said))
+
+-- a refused call changes nothing, and neither does a repeat (Offered, Loaded)
+abbrev pub OfferRefused : Type 0
+OfferRefused = (s : State) (payload : List ℕ) (n : ℕ) → offerTo s payload .said ≡ Offered.Refused n → afterOffer (offerTo s payload) ≡ s
+
+abbrev pub OfferRepeat : Type 0
+OfferRepeat = (s : State) (payload : List ℕ) → offerTo s payload .said ≡ Offered.Repeat → afterOffer (offerTo s payload) ≡ s
+
+abbrev pub LoadRefused : Type 0
+LoadRefused = (s : State) (file : List ℕ) (n : ℕ) → loadOn s file .said ≡ Loaded.Refused n → afterLoad (loadOn s file) ≡ s

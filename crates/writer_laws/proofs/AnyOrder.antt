@@ -17,10 +17,7 @@ use lib.Seq.{take-append-seam}
 use Rattle.base.proofs.Below.{every-all}
 use Rattle.base.proofs.Cases.{unlike}
 use Rattle.shelf.specs.declared.Key.{Key}
-use Rattle.ask.specs.Ask.{copy}
-use Rattle.ask.specs.declared.Copied.{Copied}
-use Rattle.ask.specs.declared.Whole.{Whole}
-use Rattle.shelf_laws.specs.History.{Call, start, afterAll, logOf, copyAfter, wholeAfter, Each}
+use Rattle.shelf_laws.specs.History.{Call, start, afterAll, logOf, copyAfter, Each}
 use Rattle.shelf_laws.specs.Reception.{OfferedIn, Undisturbed}
 use Rattle.shelf_laws.proofs.Kept.{Kept}
 use Rattle.shelf_laws.proofs.Asked.{kept-copied, kept-whole}
@@ -31,7 +28,7 @@ use Rattle.writer.specs.declared.Label.{Label}
 use Rattle.writer.proofs.Laws.{last-le}
 use Rattle.writer.proofs.Fewest.{firstBodies, bodies-join}
 use Rattle.writer_laws.specs.Offers.{keyOf, offersOf, AnyOrder, bodyOf, bodiesAfter}
-use Rattle.writer_laws.specs.Laws.{CompleteTable, HandsOut, BodiesBack}
+use Rattle.writer_laws.specs.Laws.{CompleteIn, HandedIn, JoinedIn, CompleteTable, HandsOut, BodiesBack, CompleteAmong, HandedAmong, JoinedAmong}
 use Rattle.writer_laws.proofs.Sections.{is-section, its-number, its-size, its-body}
 use Rattle.writer_laws.proofs.Undisturbed.{undisturbed}
 
@@ -57,15 +54,13 @@ module _ (label : Label) (body : List ℕ) (five : label .version ≤ 31) (fits 
         go (Fed.unheard _ none) = absurd (unlike (sym (heard-each 0 (omega arith)) ∙ none 0))
         go (Fed.held p k) = (p, k)
 
-    pub complete-among : wholeAfter h key ≡ Whole.Complete
-    complete-among =
+    completes : CompleteIn label h
+    completes =
         kept-whole (afterAll h) (holds-all h .good) key (kept .1)
         ∙ rw (every-all (heard key (logOf h)) (last + 1) (λ k i. heard-each k (omega arith)))
 
-    pub handed-among : (k : ℕ) → k ≤ last → (out : List ℕ) → length (written label body k) ≤ length out →
-        copyAfter h key k out
-        ≡ copy (Copied.Bytes (length (written label body k))) (written label body k ++ drop (length (written label body k)) out)
-    handed-among k i out room =
+    handed : HandedIn label body h
+    handed k i out room =
         let l : last ≤ 15 = last-le (length body) fits in
         kept-copied (afterAll h) (holds-all h .good) key (kept .1) k (omega arith) (heard-each k i) out room
 
@@ -73,7 +68,7 @@ module _ (label : Label) (body : List ℕ) (five : label .version ≤ 31) (fits 
     handed-body : (k : ℕ) → k ≤ last → (out : List ℕ) → 1024 ≤ length out → bodyOf (copyAfter h key k out) ≡ bodyAt body k
     handed-body k i out room =
         let s : length (written label body k) ≤ 1024 = its-size label body five fits k i in
-        ap bodyOf (handed-among k i out (omega arith))
+        ap bodyOf (handed k i out (omega arith))
         ∙ ap (drop 8) (take-append-seam (written label body k) (drop (length (written label body k)) out))
         ∙ its-body label body k
 
@@ -83,8 +78,8 @@ module _ (label : Label) (body : List ℕ) (five : label .version ≤ 31) (fits 
         ap (λ l. l ++ bodyOf (copyAfter h key n out)) (first-handed out room n (omega arith))
         ∙ ap (λ l. firstBodies body n ++ l) (handed-body n (omega arith) out room)
 
-    pub joined-among : (out : List ℕ) → 1024 ≤ length out → bodiesAfter h key out (last + 1) ≡ body
-    joined-among out room = first-handed out room (last + 1) (omega arith) ∙ bodies-join body
+    joined : JoinedIn label body h
+    joined out room = first-handed out room (last + 1) (omega arith) ∙ bodies-join body
 
   offered-in : (ks : List ℕ) (k : ℕ) → List·Memᴰ k ks → OfferedIn (offersOf label body ks) (written label body k)
   offered-in [] k m = absurd (List·Memᴰ·not-nil m)
@@ -103,6 +98,15 @@ module _ (label : Label) (body : List ℕ) (five : label .version ≤ 31) (fits 
 
     each-offered : (k : ℕ) → k ≤ last → OfferedIn h (written label body k)
     each-offered k i = offered-in ks k (order .each k i)
+
+pub complete-among : CompleteAmong
+complete-among = completes
+
+pub handed-among : HandedAmong
+handed-among = handed
+
+pub joined-among : JoinedAmong
+joined-among = joined
 
 pub complete-table : CompleteTable
 complete-table label body five fits ks order =

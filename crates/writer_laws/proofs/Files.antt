@@ -32,6 +32,7 @@ use Rattle.writer.proofs.Laws.{last-le, length-section}
 use Rattle.writer.proofs.Agree.{found}
 use Rattle.feeding.specs.Feeding.{sectionsBelow, sectionsOf, feedFile}
 use Rattle.feeding.proofs.Sizes.{sections-count}
+use Rattle.writer_laws.specs.Laws.{SoundSections, FileAccepted, FileHolds, FileListed}
 use Rattle.writer_laws.proofs.Sections.{its-header, is-section, its-number}
 use Rattle.writer_laws.proofs.Among.{mem-front, mem-last, mem-chosen}
 
@@ -112,19 +113,19 @@ module _ (label : Label) (body : List ℕ) where
     all-from : sectionsOf label body ≡ sectionsFrom 0 (suc last)
     all-from = ap (sectionsBelow label body) (let e : last + 1 ≡ suc last = omega arith in e) ∙ below-from (suc last)
 
-    pub sound-table : SoundTable (sectionsOf label body)
-    sound-table = subst SoundTable (sym all-from) sound-from
+    sound-sections : SoundTable (sectionsOf label body)
+    sound-sections = subst SoundTable (sym all-from) sound-from
 
-    pub accepted : scanOf (feedFile label body) .answer ≡ Scan.Table (headerAt 0)
+    file-accepted : scanOf (feedFile label body) .answer ≡ Scan.Table (headerAt 0)
     unfolding feedFile sectionsFrom
-    accepted =
+    file-accepted =
         ap (λ ss. scanOf (fileOf ss) .answer) all-from
         ∙ accepted-as (written label body 0) (sectionsFrom 1 last) sound-from
         ∙ ap Scan.Table (its-header label body five fits 0 (omega arith))
 
-    pub holds-sections : tableIn (feedFile label body) ≡ sectionsOf label body
+    file-holds : tableIn (feedFile label body) ≡ sectionsOf label body
     unfolding feedFile
-    holds-sections = in-one-way (sectionsOf label body) sound-table
+    file-holds = in-one-way (sectionsOf label body) sound-sections
 
     -- the byte length that the file has for section k
     abbrev lengths : List ℕ
@@ -137,7 +138,7 @@ module _ (label : Label) (body : List ℕ) where
     unfolding foundIn
     section-in k l =
         mem-chosen (holds lengths) bytesAt 16
-        (subst (List·Memᴰ (written label body k)) (sym holds-sections) (in-sections (last + 1) k (omega arith)))
+        (subst (List·Memᴰ (written label body k)) (sym file-holds) (in-sections (last + 1) k (omega arith)))
 
     its-length : (k : ℕ) → k ≤ last → getD lengths k 0 ≡ length (written label body k)
     its-length k l = go (section-in k l)
@@ -152,7 +153,7 @@ module _ (label : Label) (body : List ℕ) where
             let n : w .0 ≡ k = sym (f .number) ∙ ap (λ (x : Header). x .number) h ∙ its-number label body five fits k l in
             let size : length (bytesAt (w .0)) ≡ getD lengths (w .0) 0 = length-part (feedFile label body) _ (getD lengths (w .0) 0) (f .inside) in
             ap (λ m. getD lengths m 0) (sym n) ∙ sym size ∙ ap length (sym (w .2)))
-            (held (feedFile label body) (headerAt 0) accepted .each (w .0))
+            (held (feedFile label body) (headerAt 0) file-accepted .each (w .0))
 
     some : (k : ℕ) → k ≤ last → holds lengths k ≡ true
     unfolding written
@@ -182,6 +183,18 @@ module _ (label : Label) (body : List ℕ) where
     unfolding tableText
     table-text = rw (all-lines (last + 1) (omega arith), complete)
 
-    pub lists-complete : textOf (feedFile label body) ≡ headLine (headerAt 0) ++ (lines (last + 1) lineAt ++ completeLine)
+    file-listed : textOf (feedFile label body) ≡ headLine (headerAt 0) ++ (lines (last + 1) lineAt ++ completeLine)
     unfolding textOf
-    lists-complete = rw accepted table-text
+    file-listed = rw file-accepted table-text
+
+pub sound-table : SoundSections
+sound-table = sound-sections
+
+pub accepted : FileAccepted
+accepted = file-accepted
+
+pub holds-sections : FileHolds
+holds-sections = file-holds
+
+pub lists-complete : FileListed
+lists-complete = file-listed
