@@ -1,0 +1,4 @@
+pub mod Lists
+pub mod Scan
+pub mod Back
+pub mod Places
