@@ -52,7 +52,7 @@ module _ (w : List ℕ) where
 abbrev pub heardAs : Offered → Called
 heardAs r = record { answer = heardCode (r .answer); words = r .clock .words }
 
-heard-as : (w : List ℕ) (x : Heard) (b : Book) → heardAs (heardBy (recordOf w) x b) ≡ heardCall w x b
+pub heard-as : (w : List ℕ) (x : Heard) (b : Book) → heardAs (heardBy (recordOf w) x b) ≡ heardCall w x b
 heard-as w Heard.Applied b = refl
 heard-as w Heard.Waiting b = refl
 heard-as w (Heard.Refused n) b = refl
@@ -60,7 +60,7 @@ heard-as w (Heard.Refused n) b = refl
 abbrev pub movedAs : Advanced → Called
 movedAs r = record { answer = movedCode (r .answer); words = r .clock .words }
 
-moved-as : (w : List ℕ) (x : Moved) (b : Book) → movedAs (movedBy (recordOf w) x b) ≡ movedCall w x b
+pub moved-as : (w : List ℕ) (x : Moved) (b : Book) → movedAs (movedBy (recordOf w) x b) ≡ movedCall w x b
 moved-as w (Moved.Applied n) b = refl
 moved-as w (Moved.Refused n) b = refl
 
@@ -120,7 +120,7 @@ unfolding waitingOf
 waiting-fewer [] = omega arith
 waiting-fewer (h ∷ hs) = let ih = waiting-fewer hs in by (h .applied) (λ t. rw t (omega arith)) λ f. rw f (omega arith)
 
-due-fewer : (to : ℕ) (hs : List Held) → length (dueOf to hs) ≤ length hs
+pub due-fewer : (to : ℕ) (hs : List Held) → length (dueOf to hs) ≤ length hs
 due-fewer to hs = omega (arith, only-fewer (reached to) (waitingOf hs), waiting-fewer hs)
 
 -- an answer that counts at most 32

@@ -38,13 +38,13 @@ use Rattle.clock_laws.proofs.Alike.{past-says, past-true, young-says, y
 sound-says : (b : Book) → spoiled b ≡ false → ¬ Spoiled b
 sound-says b s x = unlike (sym (spoiled-true b x) ∙ s)
 
-sound-true : (b : Book) → ¬ Spoiled b → spoiled b ≡ false
+pub sound-true : (b : Book) → ¬ Spoiled b → spoiled b ≡ false
 sound-true b n = by (spoiled b) (λ s. absurd (n (spoiled-says b s))) (λ s. s)
 
 free-says : (b : Book) (a : Activation) → isHeld a (b .held) ≡ false → ¬ Holds b a
 free-says b a h x = unlike (sym (holds-true b a x) ∙ h)
 
-free-true : (b : Book) (a : Activation) → ¬ Holds b a → isHeld a (b .held) ≡ false
+pub free-true : (b : Book) (a : Activation) → ¬ Holds b a → isHeld a (b .held) ≡ false
 free-true b a n = by (isHeld a (b .held)) (λ h. absurd (n (holds-says b a h))) (λ h. h)
 
 low-says : (n : ℕ) → above n ≡ false → n ≤ 7

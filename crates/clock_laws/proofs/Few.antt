@@ -20,7 +20,7 @@ unfolding onlyOf
 only-few t [] = omega arith
 only-few t (x ∷ l) = let n = only-few t l in by (t x) (λ e. rw e (omega arith)) (λ e. rw e (omega arith))
 
-kept-few : (to : ℕ) (l : List Held) → length (keptOf to l) ≤ length l
+pub kept-few : (to : ℕ) (l : List Held) → length (keptOf to l) ≤ length l
 unfolding keptOf
 kept-few to l =
     let n = only-few (λ h. not (forgotten to h)) (map (moved to) l) in

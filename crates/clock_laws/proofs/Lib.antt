@@ -10,3 +10,5 @@ pub mod Held
 pub mod Cases
 pub mod Kept
 pub mod Few
+pub mod Says
+pub mod Codes

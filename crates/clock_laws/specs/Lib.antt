@@ -5,3 +5,5 @@ pub mod Alike
 pub mod Members
 pub mod History
 pub mod Promise
+pub mod Says
+pub mod Lossless
