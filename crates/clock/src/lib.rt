@@ -52,8 +52,8 @@ pub enum Heard {
 
 // The answer to an offer, and the next record.
 pub struct Offered {
-    pub answer: Heard,
     pub clock: Clock,
+    pub answer: Heard,
 }
 
 // What is answered to a move: how many it applied.
@@ -64,8 +64,8 @@ pub enum Moved {
 
 // The answer to a move, and the next record.
 pub struct Advanced {
-    pub answer: Moved,
     pub clock: Clock,
+    pub answer: Moved,
 }
 
 pub enum AskedTime {

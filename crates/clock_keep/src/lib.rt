@@ -13,11 +13,8 @@ use clock_record::SIZE;
 use clock_record::STATES;
 use clock_record::TIMES;
 ghost use mathlib.Core.Path.{_≡_};
-ghost use mathlib.Core.List.{_++_};
-ghost use lib.ListN.{take};
 ghost use Rattle.base.specs.Choice.{if_then_else_};
-ghost use Rattle.clock_activation.specs.Limits.{mostHeld};
-ghost use Rattle.clock_record.specs.Words.{heldsIn, bookIn, pairs, wordsWith};
+ghost use Rattle.clock_record.specs.Words.{bookIn, wordsWith};
 ghost use Rattle.clock_keep.specs.Keep.{moved, forgotten, keptOf};
 ghost use Rattle.clock_keep.specs.Hold.{holding};
 
@@ -30,10 +27,21 @@ fn word_if(there: bool, word: u32) -> u32
     if there { word } else { 0 }
 }
 
-// The words with what the first n places hold in them, and zeros past them.
-fn keep_places(n: usize, words: [u32; SIZE]) -> [u32; SIZE]
-    ensures { λ r. ⌜ r ≡ take 3 words ++ pairs mostHeld (take n (heldsIn words)) ⌝ }
+fn wide(x: u32) -> usize
+    ensures { λ r. ⌜ r ≡ x ⌝ }
 {
+    x as usize
+}
+
+// The words with one more behind those that are held, and with the states; the places past it are zeros. Where 32 are held the
+// words are as they were.
+pub fn hold(states: u32, h: Held, words: [u32; SIZE]) -> [u32; SIZE]
+    ensures { λ r. ⌜ r ≡ holding states h words ⌝ }
+{
+    let n = wide(words[COUNT]);
+    if HELD <= n {
+        return words;
+    }
     let mut next = words;
     let mut i: usize = 0;
     while i < HELD {
@@ -43,30 +51,12 @@ fn keep_places(n: usize, words: [u32; SIZE]) -> [u32; SIZE]
         next[MARKS + 2 * i] = second;
         i += 1;
     }
-    next
-}
-
-fn wide(x: u32) -> usize
-    ensures { λ r. ⌜ r ≡ x ⌝ }
-{
-    x as usize
-}
-
-// The words with one more behind those that are held, and with the states. Where 32 are held they are as they were.
-pub fn hold(states: u32, h: Held, words: [u32; SIZE]) -> [u32; SIZE]
-    ensures { λ r. ⌜ r ≡ holding states h words ⌝ }
-{
-    let n = wide(words[COUNT]);
-    if HELD <= n {
-        return words;
-    }
     let a = h.activation;
-    let second = mark(h);
-    let mut next = keep_places(n, words);
+    let last = mark(h);
     next[STATES] = states;
     next[COUNT] = n as u32 + 1;
     next[TIMES + 2 * n] = a.time;
-    next[MARKS + 2 * n] = second;
+    next[MARKS + 2 * n] = last;
     next
 }
 
