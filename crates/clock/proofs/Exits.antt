@@ -3,12 +3,12 @@
 --   move-35, move-31, move-advances                      of a move
 --   unheard, heard-applied, heard-waiting                what an offer hands back, from such a way out
 --   unmoved, moved                                       what a move hands back
-use mathlib.Core.Path.{_≡_, refl, sym, ap, _∙_}
-use mathlib.Core.Bool.{Bool, true, false}
+use mathlib.Core.Path.{_≡_}
+use mathlib.Core.Bool.{true, false}
 use mathlib.Core.List.{List, [], _∷_, _++_}
 use Prim.Native.Nat.{ℕ, _<_, _≤_, min}
 use native.Mathlib.Omega.{arith}
-use lib.ListN.{length, take, length-take}
+use lib.ListN.{length, length-take}
 use borrow.Author.Tests.{lt-ltb, le-ltb, le-leb, lt-leb}
 use Rattle.clock_rule.specs.Rule.{above, applied}
 use Rattle.clock_activation.specs.declared.Activation.{Activation}
@@ -18,7 +18,7 @@ use Rattle.clock_activation.specs.Limits.{mostHeld}
 use Rattle.clock_states.specs.States.{appsIn, statesWord}
 use Rattle.clock_record.specs.Held.{isHeld}
 use Rattle.clock_record.specs.Book.{Book, spoiled}
-use Rattle.clock_record.specs.Words.{wordAt, heldsIn, bookIn, wordsWith}
+use Rattle.clock_record.specs.Words.{wordAt, bookIn, wordsWith}
 use Rattle.clock_record.proofs.Back.{places}
 use Rattle.clock_due.specs.Keys.{Runs}
 use Rattle.clock_due.specs.declared.Ran.{Ran}
@@ -26,9 +26,7 @@ use Rattle.clock_keep.specs.Keep.{keptOf}
 use Rattle.clock_keep.specs.Hold.{holding}
 use Rattle.clock.specs.declared.Clock.{Clock}
 use Rattle.clock.specs.declared.Heard.{Heard}
-use Rattle.clock.specs.declared.Offered.{Offered}
 use Rattle.clock.specs.declared.Moved.{Moved}
-use Rattle.clock.specs.declared.Advanced.{Advanced}
 use Rattle.clock.specs.Offer.{refused, applies, waits, offerIn}
 use Rattle.clock.specs.Move.{advanced, moveIn}
 use Rattle.clock.specs.Move as Move

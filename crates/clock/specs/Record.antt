@@ -8,7 +8,6 @@ use Rattle.clock.specs.declared.Heard.{Heard}
 use Rattle.clock.specs.declared.Offered.{Offered}
 use Rattle.clock.specs.declared.Moved.{Moved}
 use Rattle.clock.specs.declared.Advanced.{Advanced}
-use Rattle.clock.specs.Answered.{Answered}
 use Rattle.clock.specs.Offer.{offerIn}
 use Rattle.clock.specs.Move.{moveIn}
 

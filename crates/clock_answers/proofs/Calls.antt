@@ -4,22 +4,18 @@
 --   move-35, move-answered, move-kept, few             of a move, which applies at most 32
 --   time-35, time-asked, state-35, state-asked         of the questions
 use mathlib.Core.Path.{_≡_, refl, sym, ap, subst, _∙_}
-use mathlib.Core.Bool.{Bool, true, false}
-use mathlib.Core.List.{List, [], _∷_}
+use mathlib.Core.List.{List}
 use Prim.Native.Nat.{ℕ, _<_, _≤_}
 use native.Mathlib.Omega.{arith}
 use lib.ListN.{length}
 use borrow.Author.Tests.{lt-ltb, le-ltb, eq-eqb, ne-eqb}
-use Rattle.base.proofs.Cases.{by}
 use Rattle.base.proofs.Tables.{among}
 use Rattle.clock_rule.specs.declared.Action.{Action}
 use Rattle.clock_activation.specs.declared.Activation.{Activation}
-use Rattle.clock_activation.specs.declared.Held.{Held}
 use Rattle.clock_activation.specs.Places.{actionNo}
-use Rattle.clock_record.specs.Lists.{onlyOf}
-use Rattle.clock_record.specs.Waiting.{waitingOf, dueOf, reached}
 use Rattle.clock_record.specs.Book.{Book, fresh}
 use Rattle.clock_record.specs.Words.{bookIn}
+use Rattle.clock_record.proofs.Waiting.{due-fewer}
 use Rattle.clock_record.proofs.Back.{sized}
 use Rattle.clock.specs.declared.Clock.{Clock}
 use Rattle.clock.specs.declared.Heard.{Heard}
@@ -108,20 +104,6 @@ module _ (w : List ℕ) (application event action time : ℕ) where
           ap (λ (x : Offered). x .clock .words) same
           ∙ ap (λ (x : Clock). x .words)
           (heard-kept (recordOf w) (offerIn (bookIn w) a .answer) (offerIn (bookIn w) a .book) n (sym (ap (λ (x : Offered). x .answer) same) ∙ t))
-
--- those that pass are no more than all
-pub only-fewer : {A : Type 0} (p : A → Bool) (l : List A) → length (onlyOf p l) ≤ length l
-unfolding onlyOf
-only-fewer p [] = omega arith
-only-fewer p (x ∷ l) = let ih = only-fewer p l in by (p x) (λ t. rw t (omega arith)) λ f. rw f (omega arith)
-
-waiting-fewer : (hs : List Held) → length (waitingOf hs) ≤ length hs
-unfolding waitingOf
-waiting-fewer [] = omega arith
-waiting-fewer (h ∷ hs) = let ih = waiting-fewer hs in by (h .applied) (λ t. rw t (omega arith)) λ f. rw f (omega arith)
-
-pub due-fewer : (to : ℕ) (hs : List Held) → length (dueOf to hs) ≤ length hs
-due-fewer to hs = omega (arith, only-fewer (reached to) (waitingOf hs), waiting-fewer hs)
 
 -- an answer that counts at most 32
 abbrev FewIn : Moved → Type 0

@@ -2,24 +2,23 @@
 --   answered-code                                                     an answer is the number for the layer's answer
 --   fresh-laws, offer-laws, move-laws, time-laws, state-laws
 use mathlib.Core.Path.{_≡_, refl, sym, ap, subst, _∙_}
-use mathlib.Core.Bool.{Bool, true, false, not}
-use mathlib.Core.List.{List, [], _∷_}
-use mathlib.Core.Logic.{_↔_}
+use mathlib.Core.Bool.{true, false}
+use mathlib.Core.List.{List}
 use Prim.Native.Nat.{ℕ, _*_, _/_, _%_, _^_, _<_, _≤_}
 use native.Mathlib.Omega.{arith}
 use lib.Dec.{ltb, leb, eqb}
 use lib.ListN.{length}
-use borrow.Author.Tests.{eq-eqb, ne-eqb, le-ltb, lt-ltb, ltb-false, eqb-true, eqb-false, leb-true, leb-false, le-leb, lt-leb}
-use Rattle.base.specs.Choice.{if_then_else_, _if_, first}
-use Rattle.base.proofs.Cases.{by, unlike}
-use Rattle.base.proofs.Tables.{among}
+use borrow.Author.Tests.{eq-eqb, ne-eqb, le-ltb, ltb-false, eqb-true, eqb-false, leb-true, leb-false, lt-leb}
+use Rattle.base.specs.Choice.{if_then_else_, _if_}
+use Rattle.base.proofs.Cases.{by}
 use Rattle.clock_rule.specs.declared.State.{State}
-use Rattle.clock_rule.specs.Rule.{above, stateOf}
+use Rattle.clock_rule.specs.Rule.{stateOf}
 use Rattle.clock_rule.specs.Numbers.{columnOf}
 use Rattle.clock_activation.specs.declared.Activation.{Activation}
 use Rattle.clock_record.specs.Waiting.{dueOf}
-use Rattle.clock_record.specs.Book.{Book, fresh, spoiled}
+use Rattle.clock_record.specs.Book.{Book, fresh}
 use Rattle.clock_record.specs.Words.{recordSize, bookIn, wordsOf}
+use Rattle.clock_record.proofs.Waiting.{due-fewer}
 use Rattle.clock_record.proofs.Back.{sized}
 use Rattle.clock.specs.declared.Heard.{Heard}
 use Rattle.clock.specs.declared.Moved.{Moved}
@@ -36,8 +35,7 @@ use Rattle.clock_laws.specs.When.{NoneOffered}
 use Rattle.clock_laws.proofs.Alike.{young-true}
 use Rattle.clock_laws.proofs.Exactly.{sound-true, free-true, offer-when, move-when, time-when, state-when}
 use Rattle.clock_laws.proofs.Codes.{values}
-use Rattle.clock_answers.specs.Calls.{Called, unchanged, unsized, activation, heardCall, heardIn, movedCall, movedIn, freshCall, offerCall, moveCall, timeCall, stateCall}
-use Rattle.clock_answers.proofs.Calls.{due-fewer}
+use Rattle.clock_answers.specs.Calls.{Called, unchanged, activation, heardCall, heardIn, movedCall, movedIn, freshCall, offerCall, moveCall, timeCall, stateCall}
 use Rattle.clock_demands.specs.Host.{HostCall, answered, codeIn}
 use Rattle.clock_demands.specs.Boundary.{Untouched, FreshLaws, OfferLaws, MoveLaws, TimeLaws, StateLaws}
 

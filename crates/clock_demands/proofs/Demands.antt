@@ -1,9 +1,9 @@
 -- What is demanded of the clock, of the exported functions' own promises.
 --   demands   `ClockDemands`: the history, kept, never-35 and accepted-33
-use mathlib.Core.Path.{_≡_, refl, sym, ap, subst, _∙_}
-use mathlib.Core.Bool.{true, false}
-use mathlib.Core.List.{List, [], _∷_}
-use Prim.Native.Nat.{ℕ, _+_, _%_, _^_, _≤_}
+use mathlib.Core.Path.{_≡_, sym, ap, subst, _∙_}
+use mathlib.Core.Bool.{false}
+use mathlib.Core.List.{List}
+use Prim.Native.Nat.{ℕ, _+_, _≤_}
 use native.Mathlib.Omega.{arith}
 use lib.Dec.{ltb}
 use lib.ListN.{length}
@@ -12,21 +12,18 @@ use Rattle.base.proofs.Cases.{by, unlike}
 use Rattle.clock_activation.specs.declared.Activation.{Activation}
 use Rattle.clock_record.specs.Lists.{All}
 use Rattle.clock_record.specs.Book.{Book, spoiled}
-use Rattle.clock_record.specs.Words.{recordSize, bookIn}
+use Rattle.clock_record.specs.Words.{bookIn}
 use Rattle.clock_record.proofs.Lists.{all-map}
-use Rattle.clock.specs.Spoiled.{One}
-use Rattle.clock.specs.Answered.{Answered}
-use Rattle.clock.specs.declared.Heard.{Heard}
 use Rattle.clock.specs.Offer.{offerIn, refused}
 use Rattle.clock.specs.Codes.{refusalOf}
-use Rattle.clock_laws.specs.History.{Account, Moment, after}
+use Rattle.clock_laws.specs.History.{Account, after}
 use Rattle.clock_laws.specs.Promise.{Kept, Again}
 use Rattle.clock_laws.proofs.Words.{spoiled-true}
 use Rattle.clock_laws.proofs.Exactly.{offer-when, move-when, time-when, state-when}
 use Rattle.clock_laws.proofs.Kept.{kept, accepted-33}
-use Rattle.clock_answers.specs.Calls.{Called, unchanged, activation, heardIn, offerCall, moveCall, timeCall, stateCall}
-use Rattle.clock_demands.specs.Host.{HostCall, Typed, answered, layerCalls, codeIn, hostAfter}
-use Rattle.clock_demands.specs.Demands.{HostHistory, HostKept, Never35, HostAgain, Accepted33, Demanded, ClockDemands}
+use Rattle.clock_answers.specs.Calls.{activation, heardIn, offerCall}
+use Rattle.clock_demands.specs.Host.{HostCall, layerCalls, codeIn, hostAfter}
+use Rattle.clock_demands.specs.Demands.{HostHistory, HostKept, Never35, HostAgain, Accepted33, ClockDemands}
 use Rattle.clock_demands.proofs.Boundary.{answered-code}
 use Rattle.clock_demands.proofs.History.{host-history}
 

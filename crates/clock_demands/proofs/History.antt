@@ -1,15 +1,14 @@
 -- A history of the host's calls is one of the layer's.
 --   host-step      a call on words that say a book leaves words that say the layer's next one, and answers the layer's number
 --   host-history   so does any list of calls
-use mathlib.Core.Path.{_≡_, refl, sym, ap, subst, _∙_}
-use mathlib.Core.Bool.{Bool, true, false}
+use mathlib.Core.Path.{_≡_, refl, sym, ap, _∙_}
+use mathlib.Core.Bool.{true, false}
 use mathlib.Core.List.{List, [], _∷_, _++_}
-use Prim.Native.Nat.{ℕ, _*_, _%_, _^_, _<_, _≤_}
+use Prim.Native.Nat.{ℕ, _*_, _%_, _^_}
 use native.Mathlib.Omega.{arith}
-use lib.Dec.{ltb, eqb}
+use lib.Dec.{ltb}
 use lib.ListN.{length}
-use borrow.Author.Tests.{eq-eqb, ne-eqb, ltb-false}
-use Rattle.base.specs.Choice.{if_then_else_}
+use borrow.Author.Tests.{eq-eqb, ne-eqb}
 use Rattle.base.proofs.Cases.{by}
 use Rattle.clock_activation.specs.declared.Activation.{Activation}
 use Rattle.clock_activation.specs.Code.{Narrow}
@@ -19,21 +18,18 @@ use Rattle.clock_record.specs.Words.{recordSize, bookIn, wordsOf}
 use Rattle.clock_record.proofs.Back.{Sized, back}
 use Rattle.clock.specs.declared.Heard.{Heard}
 use Rattle.clock.specs.declared.Moved.{Moved}
-use Rattle.clock.specs.declared.Offered.{Offered}
-use Rattle.clock.specs.declared.Advanced.{Advanced}
 use Rattle.clock.specs.Answered.{Answered}
 use Rattle.clock.specs.Offer.{offerIn}
 use Rattle.clock.specs.Move.{moveIn}
-use Rattle.clock.specs.Ask.{timeIn, stateIn}
-use Rattle.clock.specs.Record.{bookOf, heardBy, movedBy, offerTo, moveTo}
-use Rattle.clock.specs.Codes.{heardCode, movedCode, timeCode, stateCode, refusalOf}
+use Rattle.clock.specs.Record.{offerTo, moveTo}
+use Rattle.clock.specs.Codes.{heardCode, movedCode}
 use Rattle.clock_laws.specs.Lossless.{HeardFits, MovedFits}
-use Rattle.clock_laws.specs.History.{Call, Account, nothingYet, heard, passed, Moment, step, steps, after}
+use Rattle.clock_laws.specs.History.{Call, Account, nothingYet, heard, passed, Moment, step, steps}
 use Rattle.clock_laws.proofs.Says.{offer-says, offer-long, move-says, move-long, words-long}
 use Rattle.clock_laws.proofs.Codes.{heard-fits, moved-fits}
-use Rattle.clock_answers.specs.Calls.{Called, unchanged, activation, heardCall, heardIn, movedCall, movedIn, freshCall, offerCall, moveCall, timeCall, stateCall}
+use Rattle.clock_answers.specs.Calls.{Called, unchanged, activation, freshCall, offerCall, moveCall}
 use Rattle.clock_answers.proofs.Calls.{recordOf, heardAs, heard-as, movedAs, moved-as}
-use Rattle.clock_demands.specs.Host.{HostCall, Typed, answered, left, leftBy, answeredBy, layerCall, layerCalls, codeIn, bookAfter, codesBy, noted, HostMoment, hostStep, hostSteps, hostAfter}
+use Rattle.clock_demands.specs.Host.{HostCall, Typed, answered, left, leftBy, answeredBy, layerCall, layerCalls, codeIn, bookAfter, codesBy, noted, hostSteps}
 use Rattle.clock_demands.specs.Demands.{HostHistory}
 use Rattle.clock_demands.proofs.Boundary.{offer-no, offer-on, move-on, answered-code}
 

@@ -1,6 +1,6 @@
 -- Laws of the exported functions: a refused call leaves the words as they were, the low 8 bits of an answer are 0 exactly when the
 -- call is accepted, and each value comes back out of the answer.
-use Prim.Native.Nat.{ℕ, _*_, _/_, _^_, _<_, _≤_}
+use Prim.Native.Nat.{ℕ, _/_, _^_, _<_, _≤_}
 use mathlib.Core.Path.{_≡_}
 use mathlib.Core.Logic.{_↔_}
 use mathlib.Core.List.{List}

@@ -3,7 +3,7 @@
 --   keep-none, none-kept         none is kept of none
 --   keep-more, keep-less, keep-put, keep-many     one more is kept, or is forgotten
 --   keep-words                   the words once all are passed
-use mathlib.Core.Path.{_≡_, refl, sym, ap, _∙_}
+use mathlib.Core.Path.{_≡_, refl, ap, _∙_}
 use mathlib.Core.Bool.{Bool, true, false, not}
 use mathlib.Core.List.{List, [], _∷_, _++_, map, append-nil}
 use Prim.Native.Nat.{ℕ, _+_, _*_, _<_}

@@ -2,10 +2,9 @@
 --   heard-lossless, moved-lossless, time-lossless, state-lossless     two answers with one number are one answer
 --   values                                                            each value comes back out
 --   heard-fits, moved-fits, time-fits, state-fits                     a refusal is a number of the table
-use mathlib.Core.Path.{_≡_, refl, sym, ap, _∙_}
-use mathlib.Core.Bool.{Bool, true, false}
+use mathlib.Core.Path.{_≡_, refl, ap}
 use mathlib.Core.List.{[], _∷_}
-use Prim.Native.Nat.{ℕ, _*_, _/_, _%_, _^_, _<_, _≤_}
+use Prim.Native.Nat.{ℕ, _%_, _^_, _<_}
 use native.Mathlib.Omega.{arith}
 use lib.Dec.{leb}
 use Rattle.base.specs.Choice.{if_then_else_}
@@ -14,6 +13,7 @@ use Rattle.base.proofs.Tables.{among}
 use Rattle.clock_rule.specs.declared.State.{State}
 use Rattle.clock_rule.specs.Rule.{stateOf}
 use Rattle.clock_rule.specs.Numbers.{columnOf}
+use Rattle.clock_states.proofs.States.{column-small}
 use Rattle.clock_activation.specs.declared.Activation.{Activation}
 use Rattle.clock_record.specs.Book.{Book}
 use Rattle.clock.specs.declared.Heard.{Heard}
@@ -46,12 +46,6 @@ column-one State.Suspended State.Released e = absurd (omega arith)
 column-one State.Suspended State.Ready e = absurd (omega arith)
 column-one State.Suspended State.Active e = absurd (omega arith)
 column-one State.Suspended State.Suspended e = refl
-
-column-below : (s : State) → columnOf s < 4
-column-below State.Released = omega arith
-column-below State.Ready = omega arith
-column-below State.Active = omega arith
-column-below State.Suspended = omega arith
 
 heard-one : (x y : Heard) → HeardFits x → HeardFits y → heardCode x ≡ heardCode y → x ≡ y
 heard-one Heard.Applied Heard.Applied f g e = refl
@@ -116,7 +110,7 @@ values =
     record {
       count = λ n. omega arith;
       time = λ t. omega arith;
-      state = λ s. (omega arith, column-below s);
+      state = λ s. (omega arith, column-small s);
     }
 
 -- every answer of the definitions is one of these

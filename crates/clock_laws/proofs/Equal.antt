@@ -22,14 +22,12 @@ use Rattle.clock_record.specs.Waiting.{waitingOf, reached, dueOf}
 use Rattle.clock_due.specs.Order.{runOf}
 use Rattle.clock_keep.specs.Keep.{moved, forgotten, keptOf}
 use Rattle.clock.specs.declared.Clock.{Clock}
-use Rattle.clock.specs.declared.Heard.{Heard}
 use Rattle.clock.specs.declared.Offered.{Offered}
 use Rattle.clock.specs.declared.Moved.{Moved}
 use Rattle.clock.specs.declared.Advanced.{Advanced}
 use Rattle.clock.specs.declared.AskedTime.{AskedTime}
 use Rattle.clock.specs.declared.AskedState.{AskedState}
 use Rattle.clock_record.specs.Book.{Book, Same, fresh, spoiled}
-use Rattle.clock.specs.Answered.{Answered}
 use Rattle.clock.specs.Record.{bookOf, clockOf, offerTo, moveTo}
 use Rattle.clock.specs.Offer.{faults, refused, applies, waits, offerIn}
 use Rattle.clock.specs.Move.{moveIn}
@@ -51,9 +49,6 @@ same-sym b c s = record { over = sym (s .over); now = sym (s .now); apps = sym (
 pub same-trans : (b c d : Book) → Same b c → Same c d → Same b d
 same-trans b c d s t =
     record { over = s .over ∙ t .over; now = s .now ∙ t .now; apps = s .apps ∙ t .apps; held = Rearranged.next (s .held) (t .held) }
-
-pub same-of : (b c : Book) → b ≡ c → Same b c
-same-of b c e = rw e (same-refl c)
 
 -- what the order of the held does not change
 around : (a p q t : Bool) → (a || p) || (q || t) ≡ (a || q) || (p || t)

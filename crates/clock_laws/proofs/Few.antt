@@ -1,29 +1,22 @@
 -- At most 32 are held at any time of a history.
 --   few   after any history from fresh, at most 32 are held
-use mathlib.Core.Path.{_≡_, refl}
-use mathlib.Core.Bool.{Bool, not}
+use mathlib.Core.Bool.{not}
 use mathlib.Core.List.{List, [], _∷_, map}
 use Prim.Native.Nat.{ℕ, _≤_}
 use native.Mathlib.Omega.{arith}
 use lib.ListN.{length, length-append, length-map}
-use Rattle.base.proofs.Cases.{by}
 use Rattle.clock_activation.specs.declared.Held.{Held}
 use Rattle.clock_activation.specs.Limits.{mostHeld}
-use Rattle.clock_record.specs.Lists.{onlyOf}
+use Rattle.clock_record.proofs.Lists.{only-fewer}
 use Rattle.clock_keep.specs.Keep.{keptOf, moved, forgotten}
 use Rattle.clock_laws.specs.History.{Call, Moment, step, steps, after, nothingYet}
 use Rattle.clock_record.specs.Book.{fresh}
 use Rattle.clock_laws.proofs.Cases.{offer-cases, move-cases}
 
-only-few : (t : Held → Bool) (l : List Held) → length (onlyOf t l) ≤ length l
-unfolding onlyOf
-only-few t [] = omega arith
-only-few t (x ∷ l) = let n = only-few t l in by (t x) (λ e. rw e (omega arith)) (λ e. rw e (omega arith))
-
 pub kept-few : (to : ℕ) (l : List Held) → length (keptOf to l) ≤ length l
 unfolding keptOf
 kept-few to l =
-    let n = only-few (λ h. not (forgotten to h)) (map (moved to) l) in
+    let n = only-fewer (λ (h : Held). not (forgotten to h)) (map (moved to) l) in
     let m = length-map l (moved to) in
     omega arith
 

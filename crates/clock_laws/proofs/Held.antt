@@ -8,10 +8,10 @@ use mathlib.Core.Path.{_≡_, refl, sym, ap, _∙_}
 use mathlib.Core.Bool.{Bool, true, false, not, _||_}
 use mathlib.Core.Logic.{_⊎_, ⊎-elim, inl, inr}
 use mathlib.Core.List.{List, [], _∷_, _++_}
-use Prim.Native.Nat.{ℕ, _<_, _≤_}
+use Prim.Native.Nat.{ℕ, _≤_}
 use native.Mathlib.Omega.{arith}
 use lib.Dec.{ltb}
-use borrow.Author.Tests.{ltb-true, ltb-false, leb-true, leb-false}
+use borrow.Author.Tests.{ltb-true, ltb-false, leb-true}
 use Rattle.base.proofs.Cases.{by, unlike, or-left, or-right, and-right}
 use Rattle.clock_rule.specs.declared.App.{App}
 use Rattle.clock_rule.specs.Rule.{above, applied}
@@ -90,9 +90,6 @@ module _ (to : ℕ) where
 module _ (now : ℕ) (h : Held) (right : wrong now h ≡ false) where
   pub right-known : above (h .activation .application) ≡ false
   right-known = by (above (h .activation .application)) (λ k. absurd (unlike (sym (wrong-above now h k) ∙ right))) (λ k. k)
-
-  pub right-ahead : h .applied ≡ false → now < h .activation .time
-  right-ahead d = leb-false _ _ (sym (wrong-waiting now h right-known d) ∙ right)
 
   pub right-reached : h .applied ≡ true → h .activation .time ≤ now
   right-reached d =

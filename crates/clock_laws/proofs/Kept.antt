@@ -26,12 +26,9 @@ use Rattle.clock_laws.proofs.Wrong.{wrong-waiting, wrong-past}
 use Rattle.clock_due.specs.Order.{sortOf, runOf}
 use Rattle.clock_due.proofs.Keys.{length-sort}
 use Rattle.clock_keep.specs.Keep.{keptOf}
-use Rattle.clock.specs.declared.Clock.{Clock}
 use Rattle.clock.specs.declared.Heard.{Heard}
 use Rattle.clock.specs.declared.Moved.{Moved}
 use Rattle.clock_record.specs.Book.{Book, fresh, spoiled, Same}
-use Rattle.clock.specs.Answered.{Answered}
-use Rattle.clock.specs.Record.{bookOf}
 use Rattle.clock.specs.Offer.{offerIn, applies, waits}
 use Rattle.clock.specs.Move.{moveIn, advanced}
 use Rattle.clock.proofs.Exits.{offer-33}

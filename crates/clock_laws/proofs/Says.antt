@@ -3,10 +3,10 @@
 --   offer-long, move-long   and that is 67 words, where the one that was given is
 use mathlib.Core.Path.{_≡_, refl, ap, _∙_}
 use mathlib.Core.Bool.{Bool, true, false, not}
-use mathlib.Core.List.{List, [], _∷_, _++_, map}
-use Prim.Native.Nat.{ℕ, _+_, _<_, _≤_}
+use mathlib.Core.List.{List, [], _∷_, map}
+use Prim.Native.Nat.{ℕ, _≤_}
 use native.Mathlib.Omega.{arith}
-use lib.ListN.{length, length-set, length-map, length-append}
+use lib.ListN.{length, length-set, length-append}
 use Rattle.clock_rule.specs.declared.Action.{Action}
 use Rattle.clock_rule.specs.declared.App.{App}
 use Rattle.clock_rule.specs.Rule.{applied}
@@ -16,8 +16,8 @@ use Rattle.clock_activation.specs.Code.{Narrow}
 use Rattle.clock_record.specs.Lists.{All}
 use Rattle.clock_record.specs.Waiting.{dueOf}
 use Rattle.clock_record.specs.Book.{Book}
-use Rattle.clock_record.specs.Words.{pairs, wordsWith, wordsOf, bookIn}
-use Rattle.clock_record.proofs.Lists.{all-append, all-only}
+use Rattle.clock_record.specs.Words.{wordsWith, wordsOf}
+use Rattle.clock_record.proofs.Lists.{all-append, only-all}
 use Rattle.clock_record.proofs.Back.{Fits, Sized, sized, back}
 use Rattle.clock_due.specs.Order.{sortOf, runOf}
 use Rattle.clock_keep.specs.Keep.{moved, forgotten, keptOf}
@@ -25,11 +25,9 @@ use Rattle.clock_keep.proofs.Puts.{pairs-length}
 use Rattle.clock.specs.declared.Clock.{Clock}
 use Rattle.clock.specs.declared.Heard.{Heard}
 use Rattle.clock.specs.declared.Moved.{Moved}
-use Rattle.clock.specs.declared.Offered.{Offered}
-use Rattle.clock.specs.declared.Advanced.{Advanced}
 use Rattle.clock.specs.Answered.{Answered}
-use Rattle.clock.specs.Offer.{more, applies, waits, offerIn}
-use Rattle.clock.specs.Move.{advanced, moveIn}
+use Rattle.clock.specs.Offer.{more, applies, waits}
+use Rattle.clock.specs.Move.{advanced}
 use Rattle.clock.specs.Record.{bookOf, heardBy, movedBy, offerTo, moveTo}
 use Rattle.clock_laws.specs.Says.{OfferSays, MoveSays}
 use Rattle.clock_laws.proofs.Cases.{Accepts, offer-cases, move-cases}
@@ -55,7 +53,7 @@ moved-sized to b s =
     record {
       apps = run-length (b .apps) (sortOf (dueOf to (b .held))) ∙ s .apps;
       held = let many = s .held in let few = kept-few to (b .held) in omega arith;
-      each = all-only Fits (λ (h : Held). not (forgotten to h)) (map (moved to) (b .held)) (all-moved to (b .held) (s .each));
+      each = only-all Fits (λ (h : Held). not (forgotten to h)) (map (moved to) (b .held)) (all-moved to (b .held) (s .each));
     }
 
 pub words-long : (b : Book) → length (wordsOf b) ≡ 67

@@ -1,5 +1,5 @@
 -- An answer's number loses nothing of the answer.
-use Prim.Native.Nat.{ℕ, _*_, _/_, _^_, _<_, _≤_}
+use Prim.Native.Nat.{ℕ, _/_, _^_, _<_}
 use mathlib.Core.Path.{_≡_}
 use mathlib.Core.Logic.{_↔_}
 use Rattle.clock_rule.specs.declared.State.{State}
@@ -8,7 +8,7 @@ use Rattle.clock.specs.declared.Heard.{Heard}
 use Rattle.clock.specs.declared.Moved.{Moved}
 use Rattle.clock.specs.declared.AskedTime.{AskedTime}
 use Rattle.clock.specs.declared.AskedState.{AskedState}
-use Rattle.clock.specs.Codes.{heardCode, movedCode, timeCode, stateCode, refusalOf}
+use Rattle.clock.specs.Codes.{movedCode, timeCode, stateCode, refusalOf}
 
 -- a number of the table of refusals
 abbrev pub InTable : ℕ → Type 0

@@ -1,8 +1,8 @@
 -- What words say, and the words of what a record says.
 --   Sized, sized   any words say eight states and at most 32 held, each with numbers of its widths
 --   back           what the words of such a record say is the record, where it does not claim over 32
-use mathlib.Core.Path.{_≡_, refl, sym, ap, _∙_}
-use mathlib.Core.Bool.{Bool, true, false}
+use mathlib.Core.Path.{_≡_, refl, _∙_}
+use mathlib.Core.Bool.{false}
 use mathlib.Core.List.{List, [], _∷_}
 use Prim.Native.Nat.{ℕ, zero, suc, _+_, _*_, _<_, _≤_}
 use native.Mathlib.Omega.{arith}

@@ -1,11 +1,13 @@
 -- Laws on lists.
---   all-map, all-append, all-at, all-take, all-only     what each of a list has
+--   all-map, all-append, all-at, all-take, only-all     what each of a list has
 --   map-append              what is made of two lists, one after the other
+--   only-fewer              those that pass are no more than all
 use mathlib.Core.Path.{_≡_, refl, ap}
 use mathlib.Core.Bool.{Bool}
 use mathlib.Core.List.{List, [], _∷_, _++_, map}
-use Prim.Native.Nat.{ℕ, zero, suc}
-use lib.ListN.{take, getD}
+use Prim.Native.Nat.{ℕ, zero, suc, _≤_}
+use native.Mathlib.Omega.{arith}
+use lib.ListN.{length, take, getD}
 use Rattle.base.proofs.Cases.{by}
 use Rattle.clock_record.specs.Lists.{All, onlyOf}
 
@@ -29,11 +31,17 @@ module _ {A : Type 0} (P : A → Type 0) where
   all-take (suc n) [] a = tt
   all-take (suc n) (x ∷ l) a = (a .0, all-take n l (a .1))
 
-  pub all-only : (p : A → Bool) (l : List A) → All P l → All P (onlyOf p l)
+  pub only-all : (p : A → Bool) (l : List A) → All P l → All P (onlyOf p l)
   unfolding onlyOf
-  all-only p [] a = tt
-  all-only p (x ∷ l) a = by (p x) (λ t. rw t (a .0, all-only p l (a .1))) λ f. rw f (all-only p l (a .1))
+  only-all p [] a = tt
+  only-all p (x ∷ l) a = by (p x) (λ t. rw t (a .0, only-all p l (a .1))) λ f. rw f (only-all p l (a .1))
 
 pub map-append : {A B : Type 0} (f : A → B) (l r : List A) → map f (l ++ r) ≡ map f l ++ map f r
 map-append f [] r = refl
 map-append f (x ∷ l) r = ap (_∷_ (f x)) (map-append f l r)
+
+-- those that pass are no more than all
+pub only-fewer : {A : Type 0} (p : A → Bool) (l : List A) → length (onlyOf p l) ≤ length l
+unfolding onlyOf
+only-fewer p [] = omega arith
+only-fewer p (x ∷ l) = let ih = only-fewer p l in by (p x) (λ t. rw t (omega arith)) λ f. rw f (omega arith)

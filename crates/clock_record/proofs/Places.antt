@@ -1,13 +1,13 @@
 -- Laws on a scan of the places.
 --   wrong-by               what makes one wrong, in one expression
 --   look-step, look-end    a scan of the first n places that looks at all
-use mathlib.Core.Path.{_≡_, refl, sym, ap, _∙_}
-use mathlib.Core.Bool.{Bool, true, false, not, _&&_, _||_}
+use mathlib.Core.Path.{_≡_, sym, ap, _∙_}
+use mathlib.Core.Bool.{Bool, not, _&&_, _||_}
 use Prim.Native.Nat.{ℕ, _+_, _<_, _≤_}
 use mathlib.Core.List.{List}
 use native.Mathlib.Omega.{arith}
-use lib.Dec.{leb, ltb}
-use lib.ListN.{length, take, drop, getD}
+use lib.Dec.{leb}
+use lib.ListN.{take, drop, getD}
 use borrow.Author.Tests.{lt-ltb, le-ltb, leb-true, leb-false}
 use Rattle.base.proofs.Cases.{by}
 use Rattle.clock_rule.specs.Rule.{above}

@@ -1,8 +1,7 @@
 -- Laws on a scan of the first n of an array.
 --   from-here     what is left to scan begins with the next one
 --   from-end      at the end nothing is left
---   any-found, any-more, any-end         a scan for one that passes
---   gather-step, gather-end              the same, looking at all
+--   gather-step, gather-end              a scan for one that passes, looking at all
 --   same-found, same-more, same-end      a scan for two equal numbers
 --   two-of-four, four-found, four-more   the same, four at a time
 --   numbered-none, numbered-more         the numbers of the held
@@ -34,19 +33,6 @@ module _ {A : Type 0} (l : List A) (n : ℕ) (fits : n ≤ length l) where
 
   pub from-end : (i : ℕ) → n ≤ i → drop i (take n l) ≡ []
   from-end i h = drop-of-length-le (take n l) {i = i} (let e : length (take n l) ≡ n = length-take-le n l fits in omega arith)
-
-  module _ (p : A → Bool) (d : A) (i : ℕ) where
-    pub any-found : i < n → p (getD l i d) ≡ true → anyOf p (drop i (take n l)) ≡ true
-    unfolding anyOf
-    any-found h t = rw (from-here i d h, t)
-
-    pub any-more : i < n → p (getD l i d) ≡ false → anyOf p (drop i (take n l)) ≡ anyOf p (drop (i + 1) (take n l))
-    unfolding anyOf
-    any-more h t = rw (from-here i d h, t)
-
-    pub any-end : n ≤ i → anyOf p (drop i (take n l)) ≡ false
-    unfolding anyOf
-    any-end h = rw (from-end i h)
 
 -- past the array's end there is no more
 pub take-within : {A : Type 0} (n : ℕ) (l : List A) (k : ℕ) → length l ≡ k → take (min n k) l ≡ take n l

@@ -1,9 +1,10 @@
 -- A word of states and the states that it is.
 --   states-kept   the word of the states that a word is has the word's own sixteen bits
+--   column-small  the number of a state is below 4
 --   states-back   the states that the word of eight states is are those states
 use mathlib.Core.Path.{_≡_, refl, sym, ap, _∙_}
 use mathlib.Core.List.{List, [], _∷_}
-use Prim.Native.Nat.{ℕ, _+_, _*_, _/_, _%_, _^_, _<_, _≤_}
+use Prim.Native.Nat.{ℕ, _+_, _*_, _/_, _%_, _^_, _<_}
 use native.Mathlib.Nat.{add-mul-div-left, div-eq-of-lt}
 use native.Mathlib.Omega.{arith}
 use lib.Dec.{eqb}
@@ -22,7 +23,7 @@ state-back State.Ready = refl
 state-back State.Active = refl
 state-back State.Suspended = refl
 
-column-small : (s : State) → columnOf s < 4
+pub column-small : (s : State) → columnOf s < 4
 column-small State.Released = omega arith
 column-small State.Ready = omega arith
 column-small State.Active = omega arith

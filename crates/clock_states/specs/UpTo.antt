@@ -1,5 +1,5 @@
 -- Lists over the numbers below n.
-use Prim.Native.Nat.{ℕ, zero, suc, _+_}
+use Prim.Native.Nat.{ℕ, zero, suc}
 use mathlib.Core.List.{List, [], _∷_}
 
 -- f 0, f 1 and so on, n of them

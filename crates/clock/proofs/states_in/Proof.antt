@@ -1,7 +1,6 @@
 -- `states_in` keeps the bits of the states.
 use mathlib.Core.Path.{sym}
 use Rattle.clock_states.proofs.States.{states-kept}
-use borrow.Author.Needs.{needs}
 use Rattle.clock.proofs.states_in.Statement.{statement}
 use Rattle.clock.proofs.states_in.Tie as tie
 

@@ -1,6 +1,6 @@
 -- `clock_fresh` leaves by the ways of its meaning.
 use mathlib.Core.Path.{ap, _∙_}
-use Rattle.clock_answers.specs.Calls.{Called, unchanged}
+use Rattle.clock_answers.specs.Calls.{Called}
 use Rattle.clock_answers.proofs.Calls.{fresh-35, fresh-put}
 use borrow.Author.Needs.{needs}
 use Rattle.clock_answers.proofs.clock_fresh.Statement.{statement}

@@ -3,7 +3,7 @@ use mathlib.Core.Path.{sym, ap, _∙_}
 use Prim.Native.Nat.{_≤_}
 use native.Mathlib.Omega.{arith}
 use Rattle.clock.specs.Codes.{movedCode}
-use Rattle.clock_answers.specs.Calls.{Called, unchanged}
+use Rattle.clock_answers.specs.Calls.{Called}
 use Rattle.clock_answers.proofs.Calls.{move-35, move-answered, move-kept, few}
 use borrow.Author.Needs.{needs}
 use Rattle.clock_answers.proofs.clock_move.Statement.{statement}

@@ -1,7 +1,7 @@
 -- `clock_offer` leaves by the ways of its meaning.
 use mathlib.Core.Path.{sym, ap, _∙_}
 use Rattle.clock.specs.Codes.{heardCode}
-use Rattle.clock_answers.specs.Calls.{Called, unchanged}
+use Rattle.clock_answers.specs.Calls.{Called}
 use Rattle.clock_answers.proofs.Calls.{offer-255, offer-35, offer-answered, offer-kept}
 use borrow.Author.Needs.{needs}
 use Rattle.clock_answers.proofs.clock_offer.Statement.{statement}

@@ -5,7 +5,6 @@ use Rattle.clock_answers.proofs.Copies.{copy-more, copy-done}
 use mathlib.Core.List.{List}
 use Prim.Native.Nat.{ℕ, _≤_, _-_}
 use native.Mathlib.Omega.{arith}
-use borrow.Author.Needs.{needs}
 use Rattle.clock_answers.proofs.record_in.Statement.{statement}
 use Rattle.clock_answers.proofs.record_in.Tie as tie
 

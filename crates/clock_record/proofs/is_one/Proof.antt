@@ -1,7 +1,6 @@
 -- `is_one` compares the three that make an activation.
 use mathlib.Core.Path.{refl}
 use Rattle.clock_activation.specs.Activation.{alike}
-use borrow.Author.Needs.{needs}
 use Rattle.clock_record.proofs.is_one.Statement.{statement}
 use Rattle.clock_record.proofs.is_one.Tie as tie
 

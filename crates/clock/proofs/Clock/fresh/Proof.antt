@@ -2,7 +2,6 @@
 use mathlib.Core.Path.{refl}
 use Rattle.clock_states.specs.States.{statesWord}
 use Rattle.clock_record.specs.Words.{wordsWith, pairs}
-use borrow.Author.Needs.{needs}
 use Rattle.clock.proofs.Clock.fresh.Statement.{statement}
 use Rattle.clock.proofs.Clock.fresh.Tie as tie
 
