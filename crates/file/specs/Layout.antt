@@ -10,7 +10,7 @@ use Rattle.base.specs.Choice.{if_then_else_}
 use Rattle.section.specs.Section.{readOf, headerOf, headerSize, largestSection, mostSections}
 use Rattle.section.specs.declared.Header.{Header}
 use Rattle.section.specs.declared.Reading.the-variants.{Sound}
-use Rattle.number.specs.Number.{spelt}
+use Rattle.file_number.specs.Number.{spelt}
 
 -- the form of every file
 abbrev pub form : ℕ

@@ -1,11 +1,11 @@
 // Reads a shelf file (document 01, "The shelf file") from left to right: which table it is, and where in the file each of its
 // sections lies. Nothing is copied, and the first fault from the left is the answer.
-use number::Number;
+use file_number::Number;
 use section::Header;
 use section::Reading;
 ghost use mathlib.Core.Path.{_≡_};
 ghost use Rattle.base.specs.Choice.{if_then_else_};
-ghost use Rattle.number.specs.Number.{numberAt};
+ghost use Rattle.file_number.specs.Number.{numberAt};
 ghost use Rattle.file.specs.Layout.{sameTable};
 ghost use Rattle.file.specs.Scan.{
   refused as refusedOf,
@@ -59,7 +59,7 @@ pub const LARGEST: usize = 2 + section::SECTIONS * (2 + section::LARGEST);
 fn section_at(file: &[u8], at: usize) -> Part
     ensures { λ r. ⌜ r ≡ sectionAt (now (file .entry)) at ⌝ }
 {
-    let found = number::read_number(file, at);
+    let found = file_number::read_number(file, at);
     match found {
         Number::Refused(n) => Part::Refused(n),
         Number::Value(length, start) => {
@@ -185,7 +185,7 @@ fn scan_sections(file: &[u8], count: usize, from: usize) -> Scanned
 fn read_count(file: &[u8], at: usize) -> Scanned
     ensures { λ r. ⌜ r ≡ countOf (now (file .entry)) (numberAt (now (file .entry)) at) ⌝ }
 {
-    let found = number::read_number(file, at);
+    let found = file_number::read_number(file, at);
     match found {
         Number::Refused(n) => refused(n),
         Number::Value(count, next) => {
@@ -204,7 +204,7 @@ fn read_count(file: &[u8], at: usize) -> Scanned
 pub fn read_file(file: &[u8]) -> Scanned
     ensures { λ r. ⌜ r ≡ scanOf (now (file .entry)) ⌝ }
 {
-    let found = number::read_number(file, 0);
+    let found = file_number::read_number(file, 0);
     match found {
         Number::Refused(n) => refused(n),
         Number::Value(form, next) => {

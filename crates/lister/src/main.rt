@@ -1,9 +1,9 @@
-// Lists a shelf file that stands on the standard input (document 01, "The lister"). The text is `listing::list_file`'s; here
+// Lists a shelf file that stands on the standard input (document 01, "The lister"). The text is `file_listing::list_file`'s; here
 // it is only read and written.
 use libc::STDERR_FILENO;
 use libc::STDIN_FILENO;
 use libc::STDOUT_FILENO;
-use listing::Listed;
+use file_listing::Listed;
 ghost use lib.ListN.{length};
 ghost use Rattle.lister.specs.Input.{Within};
 
@@ -44,8 +44,8 @@ fn main() {
             io::write_all(STDERR_FILENO, b"lister: read failed\n");
         }
         Input::Bytes(n) => {
-            let mut text = [0u8; listing::LARGEST];
-            let listed = listing::list_file(&buffer[..n], &mut text);
+            let mut text = [0u8; file_listing::LARGEST];
+            let listed = file_listing::list_file(&buffer[..n], &mut text);
             match listed {
                 Listed::Bytes(size) => {
                     io::write_all(STDOUT_FILENO, &text[..size]);

@@ -7,14 +7,14 @@ use native.Mathlib.Omega.{arith}
 use lib.ListN.{length, take, drop, replicate, length-replicate, length-drop}
 use lib.Seq.{length-take-le}
 use Rattle.section.specs.declared.Header.{Header}
-use Rattle.listing.specs.Words.{place, decimal, lines}
-use Rattle.listing.specs.Listing.{headLine, sectionLine, completeLine}
-use Rattle.listing.specs.Answer.{largestList, Longest-List}
+use Rattle.file_listing.specs.Words.{place, decimal, lines}
+use Rattle.file_listing.specs.Listing.{headLine, sectionLine, completeLine}
+use Rattle.file_listing.specs.Answer.{largestList, Longest-List}
 use Rattle.writer.specs.Writer.{full, most, lastOf, bodyAt, written}
 use Rattle.writer.specs.declared.Label.{Label}
 use Rattle.writer.specs.Theorems.{found}
 use Rattle.writer.proofs.Laws.{length-section}
-use Rattle.feeding.specs.Feeding.{feedFile}
+use Rattle.writer_file.specs.Feeding.{feedFile}
 use Rattle.writer_laws.proofs.Files.{lists-complete}
 
 -- every number of this label has all its digits
