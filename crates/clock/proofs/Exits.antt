@@ -1,34 +1,36 @@
--- Each way out of a call: what leads to it, and what is then answered.
+-- Each way out of a call: what leads to it, and what is then answered and handed back.
 --   offer-35 .. offer-34, offer-applies, offer-waits     of an offer
 --   move-35, move-31, move-advances                      of a move
---   hold-book, act-book                                  what the next record says
---   unheard-says, applied-says, waiting-says             the promise of an offer, from such a way out
---   unmoved-says, advanced-says                          the promise of a move
-use mathlib.Core.Path.{_≡_, refl, sym, ap, _∙_}
-use mathlib.Core.Bool.{Bool, true, false}
-use Prim.Native.Nat.{ℕ, _+_, _<_, _≤_}
-use native.Mathlib.Numerals.{add-one}
+--   unheard, heard-applied, heard-waiting                what an offer hands back, from such a way out
+--   unmoved, moved                                       what a move hands back
+use mathlib.Core.Path.{_≡_}
+use mathlib.Core.Bool.{true, false}
+use mathlib.Core.List.{List, [], _∷_, _++_}
+use Prim.Native.Nat.{ℕ, _<_, _≤_, min}
 use native.Mathlib.Omega.{arith}
-use lib.ListN.{length, take, length-take}
-use lib.Seq.{take-suc-set, length-take-le}
+use lib.ListN.{length, length-take}
 use borrow.Author.Tests.{lt-ltb, le-ltb, le-leb, lt-leb}
-use Rattle.rule.specs.Rule.{above, applied}
-use Rattle.activation.specs.declared.Activation.{Activation}
-use Rattle.activation.specs.Activation.{past}
-use Rattle.activation.specs.Limits.{most}
-use Rattle.held.specs.Held.{isHeld}
-use Rattle.due.specs.Keys.{Runs}
-use Rattle.due.specs.declared.Ran.{Ran}
-use Rattle.keep.specs.Keep.{Keeps}
-use Rattle.keep.specs.declared.Kept.{Kept}
+use Rattle.clock_rule.specs.Rule.{above, applied}
+use Rattle.clock_activation.specs.declared.Activation.{Activation}
+use Rattle.clock_activation.specs.declared.Held.{Held}
+use Rattle.clock_activation.specs.Activation.{past}
+use Rattle.clock_activation.specs.Limits.{mostHeld}
+use Rattle.clock_states.specs.States.{appsIn, statesWord}
+use Rattle.clock_record.specs.Held.{isHeld}
+use Rattle.clock_record.specs.Book.{Book, spoiled}
+use Rattle.clock_record.specs.Words.{wordAt, bookIn, wordsWith}
+use Rattle.clock_record.proofs.Back.{places}
+use Rattle.clock_due.specs.Keys.{Runs}
+use Rattle.clock_due.specs.declared.Ran.{Ran}
+use Rattle.clock_keep.specs.Keep.{keptOf}
+use Rattle.clock_keep.specs.Hold.{holding}
 use Rattle.clock.specs.declared.Clock.{Clock}
 use Rattle.clock.specs.declared.Heard.{Heard}
-use Rattle.clock.specs.declared.Offered.{Offered}
 use Rattle.clock.specs.declared.Moved.{Moved}
-use Rattle.clock.specs.Book.{Book, bookOf, spoiled}
-use Rattle.clock.specs.Offer.{refused, applies, waits, more, offerIn, OfferSays, holding, acting}
-use Rattle.clock.specs.Move.{advanced, moveIn, MoveSays}
+use Rattle.clock.specs.Offer.{refused, applies, waits, offerIn}
+use Rattle.clock.specs.Move.{advanced, moveIn}
 use Rattle.clock.specs.Move as Move
+use Rattle.clock.specs.Record.{bookOf, offerTo, moveTo}
 
 module _ (b : Book) (a : Activation) where
   pub offer-35 : spoiled b ≡ true → offerIn b a ≡ refused b 35
@@ -51,18 +53,18 @@ module _ (b : Book) (a : Activation) where
         offer-33 t = rw (s, k, p, t)
 
         module _ (h : isHeld a (b .held) ≡ false) where
-          pub offer-34 : most ≤ length (b .held) → offerIn b a ≡ refused b 34
+          pub offer-34 : mostHeld ≤ length (b .held) → offerIn b a ≡ refused b 34
           unfolding offerIn
           offer-34 t = rw (s, k, p, h, le-leb _ _ t)
 
-          module _ (f : length (b .held) < most) where
+          module _ (f : length (b .held) < mostHeld) where
             pub offer-applies : a .time ≤ b .now → offerIn b a ≡ applies b a
             unfolding offerIn
-            offer-applies t = rw (s, k, p, h, lt-leb most _ f, le-leb _ _ t)
+            offer-applies t = rw (s, k, p, h, lt-leb mostHeld _ f, le-leb _ _ t)
 
             pub offer-waits : b .now < a .time → offerIn b a ≡ waits b a
             unfolding offerIn
-            offer-waits t = rw (s, k, p, h, lt-leb most _ f, lt-leb _ _ t)
+            offer-waits t = rw (s, k, p, h, lt-leb mostHeld _ f, lt-leb _ _ t)
 
 module _ (b : Book) (to : ℕ) where
   pub move-35 : spoiled b ≡ true → moveIn b to ≡ Move.refused b 35
@@ -78,60 +80,43 @@ module _ (b : Book) (to : ℕ) where
     unfolding moveIn
     move-advances t = rw (s, le-ltb _ _ t)
 
-module _ (c : Clock) (a : Activation) (r : Offered) where
-  pub unheard-says : (n : ℕ) → r ≡ record { answer = Heard.Refused n; clock = c } → offerIn (bookOf c) a ≡ refused (bookOf c) n → OfferSays c a r
-  unheard-says n e o =
-      record {
-        says = ap (λ (x : Offered). record { answer = x .answer; book = bookOf (x .clock) }) e ∙ sym o;
-        untouched = λ m x. ap (λ (x : Offered). x .clock) e;
-      }
+-- as many are held as the record has places for
+pub few : (w : List ℕ) (n : ℕ) → n ≡ min (wordAt w 2) 32 → length (bookIn w .held) ≡ n
+few w n e = let l = places w in simp length-take (omega arith)
 
-module _ (c : Clock) (a : Activation) (room : c .count < 32) (long : length (c .held) ≡ 32) where
-  pub hold-book : (m : Bool) → bookOf (holding c a m) ≡ record { over = false; now = c .now; apps = c .apps; held = more (bookOf c) a m }
+module _ (c : Clock) (a : Activation) where
+  pub unheard : (n : ℕ) → offerIn (bookOf c) a ≡ refused (bookOf c) n → record { answer = Heard.Refused n; clock = c } ≡ offerTo c a
+  unfolding offerTo
+  unheard n e = rw e
+
+  -- one more is held where there is room
+  held-more : (states : ℕ) (h : Held) (n : ℕ) → n ≡ min (wordAt (c .words) 2) 32 → n < 32
+      → holding states h (c .words) ≡ wordsWith (wordAt (c .words) 0) states (bookOf c .held ++ (h ∷ []))
   unfolding holding
-  hold-book m = rw (le-ltb 32 (c .count + 1) (omega arith), add-one, take-suc-set (c .held) (c .count) (record { activation = a; applied = m }) (omega arith))
+  held-more states h n e t = rw (lt-leb 32 (wordAt (c .words) 2) (omega arith))
 
-  pub act-book : (m : Bool)
-      → bookOf (acting (holding c a m) a)
-      ≡ record { over = false; now = c .now; apps = applied (c .apps) (a .application) (a .action); held = more (bookOf c) a m }
-  unfolding holding acting
-  act-book m = rw (le-ltb 32 (c .count + 1) (omega arith), add-one, take-suc-set (c .held) (c .count) (record { activation = a; applied = m }) (omega arith))
+  module _ (n : ℕ) (e : n ≡ min (wordAt (c .words) 2) 32) (room : n < 32) (states : ℕ) (next : List ℕ) where
+    pub heard-applied : offerIn (bookOf c) a ≡ applies (bookOf c) a
+        → states ≡ statesWord (applied (appsIn (wordAt (c .words) 1)) (a .application) (a .action))
+        → next ≡ holding states (record { activation = a; applied = true }) (c .words)
+        → record { answer = Heard.Applied; clock = record { words = next } } ≡ offerTo c a
+    unfolding offerTo
+    heard-applied o s h = rw (o, h, held-more states (record { activation = a; applied = true }) n e room, s)
 
-  -- of a whole record, count and length agree
-  pub held-length : length (bookOf c .held) ≡ c .count
-  held-length = length-take-le (c .count) (c .held) (omega arith)
-
-  pub applied-says : (r : Clock) → r ≡ acting (holding c a true) a → offerIn (bookOf c) a ≡ applies (bookOf c) a
-      → OfferSays c a (record { answer = Heard.Applied; clock = r })
-  applied-says r e o =
-      record {
-        says = ap (λ (x : Book). record { answer = Heard.Applied; book = x }) (ap bookOf e ∙ act-book true) ∙ sym o;
-        untouched = λ n x. absurd (let z : _≡_ {A = ℕ} 0 1 = cc in omega arith);
-      }
-
-  pub waiting-says : (r : Clock) → r ≡ holding c a false → offerIn (bookOf c) a ≡ waits (bookOf c) a
-      → OfferSays c a (record { answer = Heard.Waiting; clock = r })
-  waiting-says r e o =
-      record {
-        says = ap (λ (x : Book). record { answer = Heard.Waiting; book = x }) (ap bookOf e ∙ hold-book false) ∙ sym o;
-        untouched = λ n x. absurd (let z : _≡_ {A = ℕ} 0 1 = cc in omega arith);
-      }
-
--- a record with 32 places holds 32 where it claims as many
-pub held-full : (c : Clock) → length (c .held) ≡ 32 → 32 ≤ c .count → 32 ≤ length (bookOf c .held)
-held-full c long h = simp length-take (omega arith)
+    pub heard-waiting : offerIn (bookOf c) a ≡ waits (bookOf c) a
+        → states ≡ statesWord (appsIn (wordAt (c .words) 1))
+        → next ≡ holding states (record { activation = a; applied = false }) (c .words)
+        → record { answer = Heard.Waiting; clock = record { words = next } } ≡ offerTo c a
+    unfolding offerTo
+    heard-waiting o s h = rw (o, h, held-more states (record { activation = a; applied = false }) n e room, s)
 
 module _ (c : Clock) (to : ℕ) where
-  pub unmoved-says : (n : ℕ) → moveIn (bookOf c) to ≡ Move.refused (bookOf c) n → MoveSays c to (record { answer = Moved.Refused n; clock = c })
-  unmoved-says n o = record { says = sym o; untouched = λ m x. refl }
+  pub unmoved : (n : ℕ) → moveIn (bookOf c) to ≡ Move.refused (bookOf c) n → record { answer = Moved.Refused n; clock = c } ≡ moveTo c to
+  unfolding moveTo
+  unmoved n e = rw e
 
-  pub advanced-says : (d : Ran) (k : Kept)
-      → Runs to (take (c .count) (c .held)) (c .apps) d
-      → Keeps to (take (c .count) (c .held)) k
-      → moveIn (bookOf c) to ≡ advanced (bookOf c) to
-      → MoveSays c to (record { answer = Moved.Applied (d .count); clock = record { now = to; apps = d .apps; count = k .count; held = k .held } })
-  advanced-says d k r w o =
-      record {
-        says = rw (r .count, r .apps, w .list, le-ltb 32 (k .count) (w .fits)) (sym o);
-        untouched = λ n x. absurd (let z : _≡_ {A = ℕ} 0 1 = cc in omega arith);
-      }
+  pub moved : (d : Ran) (next : List ℕ) → moveIn (bookOf c) to ≡ advanced (bookOf c) to → Runs to (bookOf c) d
+      → next ≡ wordsWith to (d .states) (keptOf to (bookOf c .held))
+      → record { answer = Moved.Applied (d .count); clock = record { words = next } } ≡ moveTo c to
+  unfolding moveTo
+  moved d next o r k = rw (o, k, r .states, r .count)

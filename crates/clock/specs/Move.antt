@@ -1,23 +1,16 @@
 -- The clock is moved.
 use Prim.Native.Nat.{ℕ}
-use mathlib.Core.Path.{_≡_}
 use mathlib.Core.Bool.{false}
 use mathlib.Core.List.{List, [], _∷_}
 use lib.ListN.{length}
 use Rattle.base.specs.Choice.{Row, first}
-use Rattle.held.specs.Waiting.{dueOf}
-use Rattle.due.specs.Order.{sortOf, runOf}
-use Rattle.keep.specs.Keep.{keptOf}
-use Rattle.clock.specs.declared.Clock.{Clock}
+use Rattle.clock_record.specs.Waiting.{dueOf}
+use Rattle.clock_due.specs.Order.{sortOf, runOf}
+use Rattle.clock_keep.specs.Keep.{keptOf}
 use Rattle.clock.specs.declared.Moved.{Moved}
-use Rattle.clock.specs.declared.Advanced.{Advanced}
-use Rattle.clock.specs.Book.{Book, bookOf, Answered}
+use Rattle.clock_record.specs.Book.{Book}
+use Rattle.clock.specs.Answered.{Answered}
 use Rattle.clock.specs.Refusals.{no31, no35}
-
--- the number that an answer bears: 0 for none
-abbrev pub numberOf : Moved → ℕ
-numberOf (Moved.Applied n) = 0
-numberOf (Moved.Refused n) = n
 
 -- the refusals, in their order
 abbrev pub faults : Book → ℕ → List Row
@@ -36,8 +29,3 @@ advanced b to =
 
 unfoldable pub moveIn : Book → ℕ → Answered Moved
 moveIn b to = first (refused b) (faults b to) (advanced b to)
-
--- the promise of a move: the answer and the record after it; a refused one hands back the record itself
-pub record MoveSays (c : Clock) (to : ℕ) (r : Advanced) : Type 0 where
-  pub says : record { answer = r .answer; book = bookOf (r .clock) } ≡ moveIn (bookOf c) to
-  pub untouched : (n : ℕ) → r .answer ≡ Moved.Refused n → r .clock ≡ c

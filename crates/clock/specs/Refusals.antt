@@ -3,12 +3,12 @@ use Prim.Native.Nat.{ℕ}
 use lib.Dec.{ltb, leb}
 use lib.ListN.{length}
 use Rattle.base.specs.Choice.{Row, _if_}
-use Rattle.rule.specs.Rule.{above}
-use Rattle.activation.specs.declared.Activation.{Activation}
-use Rattle.activation.specs.Activation.{past}
-use Rattle.activation.specs.Limits.{most}
-use Rattle.held.specs.Held.{isHeld}
-use Rattle.clock.specs.Book.{Book, spoiled}
+use Rattle.clock_rule.specs.Rule.{above}
+use Rattle.clock_activation.specs.declared.Activation.{Activation}
+use Rattle.clock_activation.specs.Activation.{past}
+use Rattle.clock_activation.specs.Limits.{mostHeld}
+use Rattle.clock_record.specs.Held.{isHeld}
+use Rattle.clock_record.specs.Book.{Book, spoiled}
 
 -- application above 7
 abbrev pub no30 : ℕ → Row
@@ -28,7 +28,7 @@ no33 b a = 33 if isHeld a (b .held)
 
 -- 32 held
 abbrev pub no34 : Book → Row
-no34 b = 34 if leb most (length (b .held))
+no34 b = 34 if leb mostHeld (length (b .held))
 
 -- clock record spoiled
 abbrev pub no35 : Book → Row

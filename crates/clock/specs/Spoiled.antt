@@ -3,11 +3,11 @@ use Prim.Native.Nat.{ℕ, _+_, _<_, _≤_}
 use mathlib.Core.Path.{_≡_}
 use mathlib.Core.Bool.{true, false}
 use lib.ListN.{length, getD}
-use Rattle.activation.specs.declared.Activation.{Activation}
-use Rattle.activation.specs.declared.Held.{Held}
-use Rattle.activation.specs.Activation.{nobody}
-use Rattle.activation.specs.Limits.{memory}
-use Rattle.clock.specs.Book.{Book}
+use Rattle.clock_activation.specs.declared.Activation.{Activation}
+use Rattle.clock_activation.specs.declared.Held.{Held}
+use Rattle.clock_activation.specs.Activation.{nobody}
+use Rattle.clock_activation.specs.Limits.{memory}
+use Rattle.clock_record.specs.Book.{Book}
 
 -- one activation: equal application, event and time
 pub record One (a b : Activation) : Type 0 where

@@ -1,23 +1,27 @@
 // The clock that applies activations to applications (document 01, "Applications and the clock").
 // Each call takes the clock record and hands back the next one. Any record may be handed in: a spoiled one is refused.
 
-use activation::Activation;
-use activation::Held;
-use due::run;
-use held::is_held;
-use held::is_spoiled;
-use keep::keep;
-use rule::Action;
-use rule::App;
-use rule::State;
-use rule::apply;
-use rule::is_above;
+use clock_activation::Activation;
+use clock_activation::Held;
+use clock_activation::is_past;
+use clock_activation::within;
+use clock_due::run;
+use clock_keep::hold;
+use clock_keep::keep;
+use clock_record::COUNT;
+use clock_record::NOW;
+use clock_record::STATES;
+use clock_record::is_held;
+use clock_record::is_spoiled;
+use clock_rule::State;
+use clock_rule::apply;
+use clock_rule::is_above;
+use clock_states::apps_in;
+use clock_states::states_word;
 ghost use mathlib.Core.Path.{_≡_};
-ghost use Prim.Native.Nat.{_<_};
-ghost use Rattle.activation.specs.Limits.{most};
-ghost use Rattle.clock.specs.Book.{bookOf, fresh};
-ghost use Rattle.clock.specs.Offer.{holding, acting, OfferSays};
-ghost use Rattle.clock.specs.Move.{MoveSays};
+ghost use Rattle.clock_record.specs.Book.{fresh};
+ghost use Rattle.clock_states.specs.States.{appsIn, statesWord};
+ghost use Rattle.clock.specs.Record.{bookOf, clockOf, offerTo, moveTo};
 ghost use Rattle.clock.specs.Ask.{timeIn, stateIn};
 
 // What a refused call answers.
@@ -33,12 +37,10 @@ pub const FULL: u8 = 34;
 
 pub const SPOILED: u8 = 35;
 
-// The clock, the applications, and the activations held: the first `count` of the array.
+// A clock record, in words: the clock, the applications' states, and the activations held. The layout stands in
+// crates/clock_record/specs/Words.antt.
 pub struct Clock {
-    pub now: u32,
-    pub apps: [App; rule::APPLICATIONS],
-    pub count: usize,
-    pub held: [Held; activation::HELD],
+    pub words: [u32; clock_record::SIZE],
 }
 
 // What is answered to an activation that is offered.
@@ -50,8 +52,8 @@ pub enum Heard {
 
 // The answer to an offer, and the next record.
 pub struct Offered {
-    pub answer: Heard,
     pub clock: Clock,
+    pub answer: Heard,
 }
 
 // What is answered to a move: how many it applied.
@@ -62,8 +64,8 @@ pub enum Moved {
 
 // The answer to a move, and the next record.
 pub struct Advanced {
-    pub answer: Moved,
     pub clock: Clock,
+    pub answer: Moved,
 }
 
 pub enum AskedTime {
@@ -76,36 +78,30 @@ pub enum AskedState {
     Refused(u8),
 }
 
+// The states' word has its states below this bit.
+const BIT_16: u32 = 65536;
+
+// The states' word with nothing beside the states.
+fn states_in(word: u32) -> u32
+    ensures { λ r. ⌜ r ≡ statesWord (appsIn word) ⌝ }
+{
+    word % BIT_16
+}
+
 impl Clock {
     // The most activations held, the milliseconds that an applied one is remembered, and the applications.
-    pub const HELD: usize = activation::HELD;
+    pub const HELD: usize = clock_activation::HELD;
 
-    pub const MEMORY: u32 = activation::MEMORY;
+    pub const MEMORY: u32 = clock_activation::MEMORY;
 
-    pub const APPLICATIONS: usize = rule::APPLICATIONS;
+    pub const APPLICATIONS: usize = clock_rule::APPLICATIONS;
 
     // A clock at 0 with every application Released and nothing held.
     pub fn fresh() -> Clock
-        ensures { λ r. ⌜ bookOf r ≡ fresh ⌝ }
+        ensures { λ r. ⌜ r ≡ clockOf fresh ⌝ }
     {
-        let nothing = Activation {
-            application: 0,
-            event: 0,
-            action: Action::Prep,
-            time: 0,
-        };
-        let nobody = Held {
-            activation: nothing,
-            applied: false,
-        };
-        let released = App {
-            state: State::Released,
-        };
         Clock {
-            now: 0,
-            apps: [released; Clock::APPLICATIONS],
-            count: 0,
-            held: [nobody; Clock::HELD],
+            words: [0u32; clock_record::SIZE],
         }
     }
 
@@ -118,105 +114,76 @@ impl Clock {
         }
     }
 
-    // The record with one more held.
-    fn hold(self, a: Activation, applied: bool) -> Clock
-        requires { ⌜ self .count < most ⌝ }
-        ensures { λ r. ⌜ r ≡ holding self a applied ⌝ }
-    {
-        let at = self.count;
-        let mut next = self;
-        next.held[at] = Held {
-            activation: a,
-            applied,
-        };
-        next.count = at + 1;
-        next
-    }
-
-    // The record with an activation applied to the applications.
-    fn act(self, a: Activation) -> Clock
-        ensures { λ r. ⌜ r ≡ acting self a ⌝ }
-    {
-        let action = a.action;
-        let apps = self.apps;
-        let after = apply(apps, a.application, action);
-        let held = self.held;
-        Clock {
-            now: self.now,
-            apps: after,
-            count: self.count,
-            held,
-        }
-    }
-
     // Hears an activation: one at or before the clock is applied now, and a later one waits. Refused are, in this order,
     // 35 a spoiled record, 30 an application above 7, 32 a time more than 60,000 before the clock, 33 one that is held
     // (the first heard stands, whatever the action), and 34 where 32 are held. A refusal hands the record back as it was.
     pub fn offer(self, a: Activation) -> Offered
-        ensures { λ r. ⌜ OfferSays self a r ⌝ }
+        ensures { λ r. ⌜ r ≡ offerTo self a ⌝ }
     {
-        let now = self.now;
-        let count = self.count;
-        let held = self.held;
-        if is_spoiled(now, count, held) {
+        let words = self.words;
+        if is_spoiled(&words) {
             return self.unheard(SPOILED);
         }
         if is_above(a.application) {
             return self.unheard(ABOVE);
         }
-        if activation::is_past(now, a.time) {
+        let now = words[NOW];
+        if is_past(now, a.time) {
             return self.unheard(PAST);
         }
-        if is_held(a, count, held) {
+        if is_held(a, &words) {
             return self.unheard(ALREADY_HELD);
         }
-        if Clock::HELD <= count {
+        if Clock::HELD <= within(words[COUNT]) {
             return self.unheard(FULL);
         }
         if a.time <= now {
+            let action = a.action;
+            let apps = apply(apps_in(words[STATES]), a.application, action);
+            let done = Held {
+                activation: a,
+                applied: true,
+            };
+            let next = hold(states_word(apps), done, words);
             return Offered {
                 answer: Heard::Applied,
-                clock: self.hold(a, true).act(a),
+                clock: Clock { words: next },
             };
         }
+        let waiting = Held {
+            activation: a,
+            applied: false,
+        };
+        let next = hold(states_in(words[STATES]), waiting, words);
         Offered {
             answer: Heard::Waiting,
-            clock: self.hold(a, false),
+            clock: Clock { words: next },
         }
     }
 
     // Moves the clock: each waiting activation that it reaches is applied, in order of time, then application, then event,
     // and the answer is how many. Refused are 35 a spoiled record and 31 a move back, and the record is then as it was.
     pub fn move_to(self, to: u32) -> Advanced
-        ensures { λ r. ⌜ MoveSays self to r ⌝ }
+        ensures { λ r. ⌜ r ≡ moveTo self to ⌝ }
     {
-        let count = self.count;
-        let held = self.held;
-        if is_spoiled(self.now, count, held) {
+        let words = self.words;
+        if is_spoiled(&words) {
             return Advanced {
                 answer: Moved::Refused(SPOILED),
                 clock: self,
             };
         }
-        if to < self.now {
+        if to < words[NOW] {
             return Advanced {
                 answer: Moved::Refused(MOVED_BACK),
                 clock: self,
             };
         }
-        let apps = self.apps;
-        let ran = run(to, count, held, apps);
-        let kept = keep(to, count, held);
-        let after = ran.apps;
-        let next = kept.held;
+        let ran = run(to, &words);
+        let next = keep(to, ran.states, &words);
         Advanced {
             answer: Moved::Applied(ran.count),
-            clock: Clock {
-                now: to,
-                apps: after,
-                count: kept.count,
-                held: next,
-            },
+            clock: Clock { words: next },
         }
     }
 
@@ -224,25 +191,25 @@ impl Clock {
     pub fn time_now(self) -> AskedTime
         ensures { λ r. ⌜ r ≡ timeIn (bookOf self) ⌝ }
     {
-        let held = self.held;
-        if is_spoiled(self.now, self.count, held) {
+        let words = self.words;
+        if is_spoiled(&words) {
             return AskedTime::Refused(SPOILED);
         }
-        AskedTime::At(self.now)
+        AskedTime::At(words[NOW])
     }
 
     // The state of an application. A spoiled record is refused 35, and then an application above 7 is refused 30.
     pub fn state_of(self, application: u8) -> AskedState
         ensures { λ r. ⌜ r ≡ stateIn (bookOf self) application ⌝ }
     {
-        let held = self.held;
-        if is_spoiled(self.now, self.count, held) {
+        let words = self.words;
+        if is_spoiled(&words) {
             return AskedState::Refused(SPOILED);
         }
         if is_above(application) {
             return AskedState::Refused(ABOVE);
         }
-        let apps = self.apps;
+        let apps = apps_in(words[STATES]);
         let at = application as usize;
         let app = apps[at];
         let state = app.state;

@@ -12,9 +12,9 @@ use native.Mathlib.Omega.{arith}
 use lib.Dec.{ltb, eqb}
 use borrow.Author.Tests.{lt-ltb, le-ltb, eq-eqb, ltb-true, ltb-false, eqb-true}
 use Rattle.base.proofs.Cases.{by, unlike, and-left, and-right}
-use Rattle.activation.specs.declared.Activation.{Activation}
-use Rattle.activation.specs.Activation.{alike, before, past}
-use Rattle.activation.specs.Limits.{memory}
+use Rattle.clock_activation.specs.declared.Activation.{Activation}
+use Rattle.clock_activation.specs.Activation.{alike, before, past}
+use Rattle.clock_activation.specs.Limits.{memory}
 use Rattle.clock.specs.Spoiled.{One}
 
 module _ (a b : Activation) where

@@ -10,27 +10,27 @@ use lib.Dec.{ltb, leb}
 use borrow.Author.Tests.{ltb-true, ltb-false}
 use Rattle.base.specs.Choice.{if_then_else_, first, Row}
 use Rattle.base.proofs.Cases.{by, or-left, or-right}
-use Rattle.rule.specs.declared.App.{App}
-use Rattle.rule.specs.Rule.{applied}
-use Rattle.activation.specs.declared.Activation.{Activation}
-use Rattle.activation.specs.declared.Held.{Held}
-use Rattle.activation.specs.Activation.{alike, past}
-use Rattle.activation.specs.Limits.{most}
-use Rattle.held.specs.Lists.{All, Rearranged, anyOf}
-use Rattle.held.specs.Held.{isOne, isHeld, twoAlike, wrong, spoiledBy}
-use Rattle.held.specs.Waiting.{waitingOf, reached, dueOf}
-use Rattle.due.specs.Order.{runOf}
-use Rattle.keep.specs.Keep.{moved, forgotten, keptOf}
+use Rattle.clock_rule.specs.declared.App.{App}
+use Rattle.clock_rule.specs.Rule.{applied}
+use Rattle.clock_activation.specs.declared.Activation.{Activation}
+use Rattle.clock_activation.specs.declared.Held.{Held}
+use Rattle.clock_activation.specs.Activation.{alike, past}
+use Rattle.clock_activation.specs.Limits.{mostHeld}
+use Rattle.clock_record.specs.Lists.{All, Rearranged, anyOf}
+use Rattle.clock_record.specs.Held.{isOne, isHeld, twoAlike, wrong, spoiledBy}
+use Rattle.clock_record.specs.Waiting.{waitingOf, reached, dueOf}
+use Rattle.clock_due.specs.Order.{runOf}
+use Rattle.clock_keep.specs.Keep.{moved, forgotten, keptOf}
 use Rattle.clock.specs.declared.Clock.{Clock}
-use Rattle.clock.specs.declared.Heard.{Heard}
 use Rattle.clock.specs.declared.Offered.{Offered}
 use Rattle.clock.specs.declared.Moved.{Moved}
 use Rattle.clock.specs.declared.Advanced.{Advanced}
 use Rattle.clock.specs.declared.AskedTime.{AskedTime}
 use Rattle.clock.specs.declared.AskedState.{AskedState}
-use Rattle.clock.specs.Book.{Book, bookOf, Same, fresh, spoiled, Answered}
-use Rattle.clock.specs.Offer.{faults, refused, applies, waits, offerIn, OfferSays}
-use Rattle.clock.specs.Move.{moveIn, MoveSays}
+use Rattle.clock_record.specs.Book.{Book, Same, fresh, spoiled}
+use Rattle.clock.specs.Record.{bookOf, clockOf, offerTo, moveTo}
+use Rattle.clock.specs.Offer.{faults, refused, applies, waits, offerIn}
+use Rattle.clock.specs.Move.{moveIn}
 use Rattle.clock.specs.Move as Move
 use Rattle.clock.specs.Ask.{timeIn, stateIn}
 use Rattle.clock.proofs.Exits.{move-35, move-31, move-advances}
@@ -49,9 +49,6 @@ same-sym b c s = record { over = sym (s .over); now = sym (s .now); apps = sym (
 pub same-trans : (b c d : Book) → Same b c → Same c d → Same b d
 same-trans b c d s t =
     record { over = s .over ∙ t .over; now = s .now ∙ t .now; apps = s .apps ∙ t .apps; held = Rearranged.next (s .held) (t .held) }
-
-pub same-of : (b c : Book) → b ≡ c → Same b c
-same-of b c e = rw e (same-refl c)
 
 -- what the order of the held does not change
 around : (a p q t : Bool) → (a || p) || (q || t) ≡ (a || q) || (p || t)
@@ -132,7 +129,7 @@ module _ (b c : Book) (s : Same b c) where
           same-spoiled,
           ap (λ (n : ℕ). past n (a .time)) (s .now),
           any-rearranged (isOne a) (s .held),
-          ap (leb most) (length-rearranged (s .held)),
+          ap (leb mostHeld) (length-rearranged (s .held)),
         )
 
     accepted : AnsweredAlike (if leb (a .time) (b .now) then applies b a else waits b a) (if leb (a .time) (c .now) then applies c a else waits c a)
@@ -202,21 +199,13 @@ module _ (b c : Book) (s : Same b c) where
   unfolding stateIn
   same-state n = rw (same-spoiled, s .apps)
 
--- two answers that satisfy one promise are equal; a refused call's records are the same one
+-- two answers that satisfy one promise are equal
 module _ (c : Clock) where
-  pub one-offer : (a : Activation) (r s : Offered) → OfferSays c a r → OfferSays c a s
-      → (r .answer ≡ s .answer) × Same (bookOf (r .clock)) (bookOf (s .clock)) × ((n : ℕ) → r .answer ≡ Heard.Refused n → r .clock ≡ s .clock)
-  one-offer a r s p q =
-      let e : _≡_ {A = Answered Heard} (record { answer = r .answer; book = bookOf (r .clock) }) (record { answer = s .answer; book = bookOf (s .clock) }) = p .says ∙ sym (q .says) in
-      let f : r .answer ≡ s .answer = ap (λ (x : Answered Heard). x .answer) e in
-      (f, same-of _ _ (ap (λ (x : Answered Heard). x .book) e), λ n t. p .untouched n t ∙ sym (q .untouched n (sym f ∙ t)))
+  pub one-offer : (a : Activation) (r s : Offered) → r ≡ offerTo c a → s ≡ offerTo c a → r ≡ s
+  one-offer a r s p q = p ∙ sym q
 
-  pub one-move : (to : ℕ) (r s : Advanced) → MoveSays c to r → MoveSays c to s
-      → (r .answer ≡ s .answer) × Same (bookOf (r .clock)) (bookOf (s .clock)) × ((n : ℕ) → r .answer ≡ Moved.Refused n → r .clock ≡ s .clock)
-  one-move to r s p q =
-      let e : _≡_ {A = Answered Moved} (record { answer = r .answer; book = bookOf (r .clock) }) (record { answer = s .answer; book = bookOf (s .clock) }) = p .says ∙ sym (q .says) in
-      let f : r .answer ≡ s .answer = ap (λ (x : Answered Moved). x .answer) e in
-      (f, same-of _ _ (ap (λ (x : Answered Moved). x .book) e), λ n t. p .untouched n t ∙ sym (q .untouched n (sym f ∙ t)))
+  pub one-move : (to : ℕ) (r s : Advanced) → r ≡ moveTo c to → s ≡ moveTo c to → r ≡ s
+  one-move to r s p q = p ∙ sym q
 
   pub one-time : (r s : AskedTime) → r ≡ timeIn (bookOf c) → s ≡ timeIn (bookOf c) → r ≡ s
   one-time r s p q = p ∙ sym q
@@ -224,5 +213,5 @@ module _ (c : Clock) where
   pub one-state : (n : ℕ) (r s : AskedState) → r ≡ stateIn (bookOf c) n → s ≡ stateIn (bookOf c) n → r ≡ s
   one-state n r s p q = p ∙ sym q
 
-pub one-fresh : (r s : Clock) → bookOf r ≡ fresh → bookOf s ≡ fresh → Same (bookOf r) (bookOf s)
-one-fresh r s p q = same-of (bookOf r) (bookOf s) (p ∙ sym q)
+pub one-fresh : (r s : Clock) → r ≡ clockOf fresh → s ≡ clockOf fresh → r ≡ s
+one-fresh r s p q = p ∙ sym q

@@ -1,7 +1,14 @@
 pub mod Lists
 pub mod Alike
 pub mod Order
+pub mod Wrong
 pub mod Words
 pub mod Exactly
 pub mod Equal
 pub mod Sets
+pub mod Held
+pub mod Cases
+pub mod Kept
+pub mod Few
+pub mod Says
+pub mod Codes

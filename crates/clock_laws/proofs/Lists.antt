@@ -10,7 +10,7 @@ use Prim.Native.Nat.{ℕ, zero, suc, _<_}
 use native.Mathlib.Omega.{arith}
 use lib.ListN.{length, getD}
 use Rattle.base.proofs.Cases.{by, unlike}
-use Rattle.held.specs.Lists.{anyOf, onlyOf, All, Rearranged}
+use Rattle.clock_record.specs.Lists.{anyOf, onlyOf, All, Rearranged}
 
 module _ {A : Type 0} (p : A → Bool) where
   pub any-append : (l r : List A) → anyOf p l ≡ false → anyOf p r ≡ false → anyOf p (l ++ r) ≡ false

@@ -7,12 +7,12 @@ use mathlib.Core.Path.{_≡_, refl, sym, ap, _∙_}
 use mathlib.Core.Bool.{Bool, true, false}
 use mathlib.Core.List.{List, [], _∷_}
 use Rattle.base.proofs.Cases.{by, unlike}
-use Rattle.activation.specs.declared.Activation.{Activation}
-use Rattle.activation.specs.Activation.{alike, before}
-use Rattle.held.specs.Lists.{All, Rearranged, onlyOf}
-use Rattle.due.specs.Order.{Ordered, insertOf, sortOf}
+use Rattle.clock_activation.specs.declared.Activation.{Activation}
+use Rattle.clock_activation.specs.Activation.{alike, before}
+use Rattle.clock_record.specs.Lists.{All, Rearranged, onlyOf}
+use Rattle.clock_due.specs.Order.{Ordered, insertOf, sortOf}
 use Rattle.clock_laws.specs.Distinct.{Distinct}
-use Rattle.held.proofs.Lists.{all-map}
+use Rattle.clock_record.proofs.Lists.{all-map}
 use Rattle.clock_laws.proofs.Lists.{all-rearranged, rearranged-refl, rearranged-sym}
 use Rattle.clock_laws.proofs.Alike.{alike-comm, before-asym, before-trans, before-total, before-unlike}
 

@@ -5,11 +5,11 @@ use mathlib.Core.Bool.{true, false, _||_}
 use mathlib.Core.Logic.{inl, inr}
 use mathlib.Core.List.{List, [], _∷_}
 use Rattle.base.proofs.Cases.{by, unlike, or-left, or-right}
-use Rattle.activation.specs.declared.Held.{Held}
-use Rattle.activation.specs.Activation.{alike}
-use Rattle.held.specs.Lists.{Rearranged, anyOf}
-use Rattle.held.specs.Held.{isHeld, twoAlike, wrong, spoiledBy}
-use Rattle.clock.specs.Book.{Book, Same, spoiled}
+use Rattle.clock_activation.specs.declared.Held.{Held}
+use Rattle.clock_activation.specs.Activation.{alike}
+use Rattle.clock_record.specs.Lists.{Rearranged, anyOf}
+use Rattle.clock_record.specs.Held.{isHeld, twoAlike, wrong, spoiledBy}
+use Rattle.clock_record.specs.Book.{Book, Same, spoiled}
 use Rattle.clock_laws.specs.Members.{Member, OneSet}
 use Rattle.clock_laws.proofs.Lists.{rearranged-refl, rearranged-sym}
 use Rattle.clock_laws.proofs.Alike.{alike-refl}

@@ -10,15 +10,15 @@ use lib.Dec.{ltb}
 use lib.ListN.{length, getD}
 use borrow.Author.Tests.{le-leb, ltb-true, ltb-false, leb-true}
 use Rattle.base.proofs.Cases.{by, unlike}
-use Rattle.rule.specs.Rule.{above}
-use Rattle.activation.specs.declared.Activation.{Activation}
-use Rattle.activation.specs.declared.Held.{Held}
-use Rattle.activation.specs.Activation.{alike, past, nobody}
-use Rattle.activation.specs.Limits.{memory}
-use Rattle.held.specs.Lists.{anyOf}
-use Rattle.held.specs.Held.{isOne, isHeld, twoAlike, wrong, spoiledBy}
-use Rattle.held.proofs.Wrong.{wrong-above, wrong-waiting, wrong-ahead, wrong-past}
-use Rattle.clock.specs.Book.{Book, spoiled}
+use Rattle.clock_rule.specs.Rule.{above}
+use Rattle.clock_activation.specs.declared.Activation.{Activation}
+use Rattle.clock_activation.specs.declared.Held.{Held}
+use Rattle.clock_activation.specs.Activation.{alike, past, nobody}
+use Rattle.clock_activation.specs.Limits.{memory}
+use Rattle.clock_record.specs.Lists.{anyOf}
+use Rattle.clock_record.specs.Held.{isOne, isHeld, twoAlike, wrong, spoiledBy}
+use Rattle.clock_laws.proofs.Wrong.{wrong-above, wrong-waiting, wrong-ahead, wrong-past}
+use Rattle.clock_record.specs.Book.{Book, spoiled}
 use Rattle.clock.specs.Spoiled.{heldAt, Holds, Spoiled}
 use Rattle.clock_laws.proofs.Lists.{any-which, any-at}
 use Rattle.clock_laws.proofs.Alike.{alike-one, one-alike, past-says, past-true}

@@ -2,9 +2,9 @@
 use mathlib.Core.Path.{_≡_}
 use mathlib.Core.Bool.{false}
 use mathlib.Core.List.{List, [], _∷_}
-use Rattle.activation.specs.declared.Activation.{Activation}
-use Rattle.activation.specs.Activation.{alike}
-use Rattle.held.specs.Lists.{All}
+use Rattle.clock_activation.specs.declared.Activation.{Activation}
+use Rattle.clock_activation.specs.Activation.{alike}
+use Rattle.clock_record.specs.Lists.{All}
 
 abbrev pub Distinct : List Activation → Type 0
 Distinct [] = Unit {0}

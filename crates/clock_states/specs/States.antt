@@ -3,10 +3,11 @@ use Prim.Native.Nat.{ℕ, _+_, _*_, _/_, _%_, _^_}
 use mathlib.Core.List.{List}
 use lib.Dec.{eqb}
 use Rattle.base.specs.Choice.{if_then_else_}
-use Rattle.rule.specs.declared.App.{App}
-use Rattle.rule.specs.declared.State.{State}
-use Rattle.rule.specs.Rule.{columnOf, stateOf, applications}
-use Rattle.clock_states.specs.Numbers.{upTo}
+use Rattle.clock_rule.specs.declared.App.{App}
+use Rattle.clock_rule.specs.declared.State.{State}
+use Rattle.clock_rule.specs.Rule.{stateOf, applications}
+use Rattle.clock_rule.specs.Numbers.{columnOf}
+use Rattle.clock_states.specs.UpTo.{upTo}
 
 -- states have their numbers in document 01's order
 abbrev pub stateNo : ℕ → State
@@ -19,11 +20,11 @@ appAt w i = record { state = stateNo (w / 4 ^ i % 4) }
 unfoldable pub appsIn : ℕ → List App
 appsIn w = upTo applications (appAt w)
 
--- the word that they are
-abbrev pub stateWord : List App → ℕ → ℕ
-stateWord apps i = columnOf (stateOf apps i) * 4 ^ i
+-- the word that they are, a digit to the base 4 for each
+abbrev pub stateDigit : List App → ℕ → ℕ
+stateDigit apps i = columnOf (stateOf apps i) * 4 ^ i
 
 unfoldable pub statesWord : List App → ℕ
 statesWord apps =
-    stateWord apps 0 + stateWord apps 1 + stateWord apps 2 + stateWord apps 3
-    + stateWord apps 4 + stateWord apps 5 + stateWord apps 6 + stateWord apps 7
+    stateDigit apps 0 + stateDigit apps 1 + stateDigit apps 2 + stateDigit apps 3
+    + stateDigit apps 4 + stateDigit apps 5 + stateDigit apps 6 + stateDigit apps 7

@@ -1,14 +1,15 @@
-// The word of the eight applications' states, two bits each. The layout stands in crates/clock_words/specs/Words.antt.
-use rule::APPLICATIONS;
-use rule::App;
-use rule::State;
+// The word of the eight applications' states, two bits each. The layout of a record stands in crates/clock_record/specs/Words.antt.
+use clock_rule::APPLICATIONS;
+use clock_rule::App;
+use clock_rule::State;
+use clock_rule::state_number;
 ghost use mathlib.Core.Path.{_≡_};
 ghost use Prim.Native.Nat.{_<_};
-ghost use Rattle.rule.specs.Rule.{columnOf};
+ghost use Rattle.clock_rule.specs.Numbers.{columnOf};
 ghost use Rattle.clock_states.specs.States.{stateNo, appsIn, statesWord};
 
 // The state with a number; those above 2 are one.
-pub fn state_of(number: u32) -> State
+fn state_of(number: u32) -> State
     ensures { λ r. ⌜ r ≡ stateNo number ⌝ }
 {
     match number {
@@ -16,18 +17,6 @@ pub fn state_of(number: u32) -> State
         1 => State::Ready,
         2 => State::Active,
         _ => State::Suspended,
-    }
-}
-
-// The number of a state.
-pub fn state_number(state: State) -> u32
-    ensures { λ r. ⌜ (r ≡ columnOf state) × (r < 4) ⌝ }
-{
-    match state {
-        State::Released => 0,
-        State::Ready => 1,
-        State::Active => 2,
-        State::Suspended => 3,
     }
 }
 

@@ -9,8 +9,8 @@ use Rattle.base.specs.Octets.{Octets}
 use Rattle.base.specs.Bytes.{part}
 use Rattle.base.proofs.Bytes.{octets-part}
 use Rattle.shelf.specs.declared.Key.{Key}
-use Rattle.ask.specs.Ask.{Copy}
-use Rattle.ask.specs.declared.Copied.{Copied}
+use Rattle.shelf_ask.specs.Ask.{Copy}
+use Rattle.shelf_ask.specs.declared.Copied.{Copied}
 use Rattle.answers.specs.Answers.{sizeIn}
 use Rattle.shelf_laws.specs.State.{copyOut, wholeIn}
 use Rattle.shelf_laws.specs.History.{OfBytes, copy, afterAll}
@@ -21,11 +21,11 @@ use Rattle.writer.specs.declared.Label.{Label}
 use Rattle.writer.proofs.Laws.{last-le}
 use Rattle.writer_laws.specs.Offers as layer
 use Rattle.writer_laws.proofs.AnyOrder as order
-use Rattle.ask.specs.Answer as ask-answer
-use Rattle.ask.specs.Answer.{copiedCode}
-use Rattle.lent_histories.specs.History.{History, copyAfter}
-use Rattle.lent_histories.proofs.Back.{size-in}
-use Rattle.lent_histories.proofs.After.{reply-range, reply-after}
+use Rattle.shelf_ask.specs.Answer as ask-answer
+use Rattle.shelf_ask.specs.Answer.{copiedCode}
+use Rattle.shelf_histories.specs.History.{History, copyAfter}
+use Rattle.shelf_histories.proofs.Back.{size-in}
+use Rattle.shelf_histories.proofs.After.{reply-range, reply-after}
 use Rattle.demands.specs.Bench.{InBytes, CanBeOffered, CompleteTable, HandsOut, bodyOf, bodiesAfter, BodiesBack}
 use Rattle.demands.proofs.Shelf.{by-complete}
 

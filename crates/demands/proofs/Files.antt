@@ -8,9 +8,9 @@ use native.Mathlib.Omega.{arith}
 use lib.ListN.{take}
 use Rattle.shelf.specs.declared.Key.{Key}
 use Rattle.shelf.specs.Record.{keyOf}
-use Rattle.load.specs.declared.Loaded.{Loaded}
-use Rattle.save.specs.Save.{Save}
-use Rattle.save.specs.declared.Saved.{Saved}
+use Rattle.shelf_load.specs.declared.Loaded.{Loaded}
+use Rattle.shelf_save.specs.Save.{Save}
+use Rattle.shelf_save.specs.declared.Saved.{Saved}
 use Rattle.base.specs.Octets.{Octets}
 use Rattle.answers.specs.Answers.{refusalIn, sizeIn}
 use Rattle.shelf_laws.specs.State.{loadOn, saveOut, afterLoad}
@@ -24,13 +24,13 @@ use Rattle.file_round.proofs.Saved.{saved-bytes}
 use Rattle.shelf_laws.proofs.Octets.{octets-after}
 use Rattle.file_round.proofs.Octets.{octets-saved}
 use Rattle.file_round.proofs.Round as round
-use Rattle.save.specs.Answer as save-answer
-use Rattle.save.specs.Answer.{savedCode}
-use Rattle.load.specs.Answer.{loadedCode, loadedIn}
-use Rattle.lent_histories.specs.Numbers.{replied}
-use Rattle.lent_histories.specs.History.{History, logAfter, saveAfter, loadAfter}
-use Rattle.lent_histories.proofs.Back.{size-in, loaded-told}
-use Rattle.lent_histories.proofs.After.{reply-range, reply-after, next-answer, next-reply}
+use Rattle.shelf_save.specs.Answer as save-answer
+use Rattle.shelf_save.specs.Answer.{savedCode}
+use Rattle.shelf_load.specs.Answer.{loadedCode, loadedIn}
+use Rattle.shelf_histories.specs.Numbers.{replied}
+use Rattle.shelf_histories.specs.History.{History, logAfter, saveAfter, loadAfter}
+use Rattle.shelf_histories.proofs.Back.{size-in, loaded-told}
+use Rattle.shelf_histories.proofs.After.{reply-range, reply-after, next-answer, next-reply}
 use Rattle.demands.specs.Files.{fileIn, RestoresAlways, SavedAgain}
 use Rattle.demands.proofs.Shelf.{same-log}
 

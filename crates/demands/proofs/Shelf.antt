@@ -8,8 +8,8 @@ use Prim.Native.Nat.{ℕ, _≤_}
 use native.Mathlib.Omega.{arith}
 use Rattle.section.specs.Section.{sectionNumber}
 use Rattle.shelf.specs.declared.Key.{Key}
-use Rattle.offer.specs.declared.Offered.{Offered}
-use Rattle.ask.specs.declared.Whole.{Whole}
+use Rattle.shelf_offer.specs.declared.Offered.{Offered}
+use Rattle.shelf_ask.specs.declared.Whole.{Whole}
 use Rattle.answers.specs.Answers.{refusalIn}
 use Rattle.shelf_laws.specs.State.{offerTo, wholeIn}
 use Rattle.shelf_laws.specs.Answers.{accepted}
@@ -24,13 +24,13 @@ use Rattle.shelf_laws.proofs.HandedOut as handed
 use Rattle.shelf_laws.proofs.Ranges.{OfferRange, Range, range, ranges-all}
 use Rattle.shelf_laws.proofs.Never.{most-16}
 use Rattle.shelf_laws.proofs.Histories.{holds-all}
-use Rattle.offer.specs.Answer.{offeredCode}
-use Rattle.ask.specs.Answer.{wholeCode, wholeBack, copyOut}
-use Rattle.lent_histories.specs.Numbers.{answered, inNumbers}
-use Rattle.lent_histories.specs.History.{History, logAfter, wholeAfter, EachLine}
-use Rattle.lent_histories.proofs.Back.{whole-told, entry-number}
-use Rattle.lent_histories.proofs.OneHistory.{one-history}
-use Rattle.lent_histories.proofs.After.{reply-range, reply-after, reply-refusal, next-answer, next-reply}
+use Rattle.shelf_offer.specs.Answer.{offeredCode}
+use Rattle.shelf_ask.specs.Answer.{wholeCode, wholeBack, copyOut}
+use Rattle.shelf_histories.specs.Numbers.{answered, inNumbers}
+use Rattle.shelf_histories.specs.History.{History, logAfter, wholeAfter, EachLine}
+use Rattle.shelf_histories.proofs.Back.{whole-told, entry-number}
+use Rattle.shelf_histories.proofs.OneHistory.{one-history}
+use Rattle.shelf_histories.proofs.After.{reply-range, reply-after, reply-refusal, next-answer, next-reply}
 use Rattle.demands.specs.Shelf.{complete, HeldExactly, CompleteExactly, MoreReception, Never17Nor18, HandedOut}
 
 -- an offer that is not refused is accepted

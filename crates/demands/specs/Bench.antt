@@ -11,7 +11,7 @@ use Rattle.writer.specs.Writer.{lastOf, written}
 use Rattle.writer.specs.declared.Label.{Label}
 use Rattle.writer_laws.specs.Offers.{keyOf, offersOf}
 use Rattle.writer_laws.specs.Laws.{InAnyOrder}
-use Rattle.lent_histories.specs.History.{Loan, Sized, History, wholeAfter, copyAfter}
+use Rattle.shelf_histories.specs.History.{Loan, Sized, History, wholeAfter, copyAfter}
 use Rattle.demands.specs.Shelf.{complete}
 
 -- the histories in which the sections with these numbers are offered, one after the other

@@ -10,12 +10,12 @@ use Rattle.section.specs.declared.Header.{Header}
 use Rattle.answers.specs.Answers.{Out, refusalIn, sizeIn, filled}
 use Rattle.shelf.specs.declared.Key.{Key}
 use Rattle.shelf.specs.Record.{keyOf}
-use Rattle.save.specs.Answer.{saveLent}
+use Rattle.shelf_save.specs.Answer.{saveLent}
 use Rattle.file.specs.Scan.{scanOf}
 use Rattle.file.specs.declared.Scan.{Scan}
 use Rattle.shelf_laws.specs.History.{Question, about}
 use Rattle.shelf_laws.specs.Log.{heldBy}
-use Rattle.lent_histories.specs.History.{History, loan, replyTo, logAfter, replyAfter, saveAfter, loadAfter}
+use Rattle.shelf_histories.specs.History.{History, loan, replyTo, logAfter, replyAfter, saveAfter, loadAfter}
 
 -- the file that a save left at the front of its output
 abbrev pub fileIn : Out → List ℕ

@@ -23,13 +23,13 @@ use Rattle.base.specs.Octets.{Octets}
 use Rattle.section.specs.Section.{sectionNumber}
 use Rattle.answers.specs.Answers.{refusalIn, filled}
 use Rattle.shelf.specs.declared.Key.{Key}
-use Rattle.ask.specs.declared.Whole.{Whole}
-use Rattle.ask.specs.Answer.{wholeCode, copyLent}
+use Rattle.shelf_ask.specs.declared.Whole.{Whole}
+use Rattle.shelf_ask.specs.Answer.{wholeCode, copyLent}
 use Rattle.shelf_laws.specs.History.{Question, about, Each}
 use Rattle.shelf_laws.specs.Named.{keyIn}
 use Rattle.shelf_laws.specs.Log.{heldBy, since, lastSince}
 use Rattle.shelf_laws.specs.Reception.{SectionOf, OfferedIn, Undisturbed}
-use Rattle.lent_histories.specs.History.{History, logAfter, linesAfter, replyAfter, wholeAfter, copyAfter, offerAfter, EachLine}
+use Rattle.shelf_histories.specs.History.{History, logAfter, linesAfter, replyAfter, wholeAfter, copyAfter, offerAfter, EachLine}
 
 -- the number that calls a table complete
 abbrev pub complete : ℕ

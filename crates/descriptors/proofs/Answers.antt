@@ -2,7 +2,7 @@
 --   comes-back    each value comes back out of an answer
 --   next-stands   the next place stands in it, in a loop below 2 ^ 40 bytes
 --   accepted      the low 8 bits are 0 exactly when the step is not refused
---   told          two loops with one answer at a place have one step there
+--   step-alike    two loops with one answer at a place have one step there
 use mathlib.Core.Path.{_≡_, refl, sym, ap, subst, _∙_}
 use mathlib.Core.List.{List}
 use Prim.Native.Nat.{ℕ, _+_, _-_, _*_, _/_, _%_, _^_, _<_, _≤_}
@@ -14,7 +14,7 @@ use Rattle.base.specs.Octets.{Octets}
 use Rattle.descriptors.specs.declared.Descriptor.{Descriptor}
 use Rattle.descriptors.specs.declared.Step.{Step}
 use Rattle.descriptors.specs.Loop.{stepOf, descriptorAt}
-use Rattle.descriptors.specs.Answer.{descriptorCode, stepCode, lengthIn, stepIn, StepComesBack, NextStands, StepAccepted, StepTold}
+use Rattle.descriptors.specs.Answer.{descriptorCode, stepCode, lengthIn, stepIn, Comes-Back, Next-Stands, Accepted, Step-Alike}
 use Rattle.descriptors.proofs.Steps.{Tells, step-tells}
 
 -- a descriptor by its fields
@@ -39,17 +39,17 @@ module _ (s : List ℕ) (b : Octets s) (at : ℕ) where
   back Step.Over h = refl
   back (Step.Refused n) h = let e : n ≡ 19 = h .0 in rw (ne-eqb (n % 2 ^ 8) 0 (omega arith))
 
-  pub comes-back : StepComesBack s at
+  pub comes-back : Comes-Back s at
   comes-back = back (stepOf s at) (step-tells s at)
 
-  pub next-stands : NextStands s at
+  pub next-stands : Next-Stands s at
   next-stands near d e =
       let h = subst (Tells s at) e (step-tells s at) in
       let tag = b at in
       let ends = h .ends in
       rw (e, h .here) (omega arith)
 
-  pub accepted : StepAccepted s at
+  pub accepted : Accepted s at
   accepted = (
     λ z e. let y : 19 % 2 ^ 8 ≡ 0 = ap (λ x. stepCode x % 2 ^ 8) (sym e) ∙ z in omega arith,
     to (stepOf s at) (step-tells s at) refl,
@@ -60,5 +60,5 @@ module _ (s : List ℕ) (b : Octets s) (at : ℕ) where
       to Step.Over h e n = rw e (omega arith)
       to (Step.Refused k) h e n = absurd (n (e ∙ ap Step.Refused (h .0)))
 
-pub told : (s t : List ℕ) → Octets s → Octets t → (at : ℕ) → StepTold s t at
-told s t b c at e = sym (comes-back s b at) ∙ (ap (stepIn at) e ∙ comes-back t c at)
+pub step-alike : (s t : List ℕ) → Octets s → Octets t → (at : ℕ) → Step-Alike s t at
+step-alike s t b c at e = sym (comes-back s b at) ∙ (ap (stepIn at) e ∙ comes-back t c at)

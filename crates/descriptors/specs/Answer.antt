@@ -38,17 +38,17 @@ stepIn at code =
 
 -- Of the answer to a step at a place of a loop `s` of bytes:
 -- each value comes back out of it, however long the loop
-abbrev pub StepComesBack : List ℕ → ℕ → Type 0
-StepComesBack s at = stepIn at (stepCode (stepOf s at)) ≡ stepOf s at
+abbrev pub Comes-Back : List ℕ → ℕ → Type 0
+Comes-Back s at = stepIn at (stepCode (stepOf s at)) ≡ stepOf s at
 
 -- in a loop below 2 ^ 40 bytes the next place stands in it as it is
-abbrev pub NextStands : List ℕ → ℕ → Type 0
-NextStands s at = length s < 2 ^ 40 → (d : Descriptor) → stepOf s at ≡ Step.Descriptor d → stepCode (stepOf s at) / 2 ^ 24 ≡ d .next
+abbrev pub Next-Stands : List ℕ → ℕ → Type 0
+Next-Stands s at = length s < 2 ^ 40 → (d : Descriptor) → stepOf s at ≡ Step.Descriptor d → stepCode (stepOf s at) / 2 ^ 24 ≡ d .next
 
 -- its low 8 bits are 0 exactly when the step is not refused
-abbrev pub StepAccepted : List ℕ → ℕ → Type 0
-StepAccepted s at = (stepCode (stepOf s at) % 2 ^ 8 ≡ 0) ↔ (¬ (stepOf s at ≡ Step.Refused 19))
+abbrev pub Accepted : List ℕ → ℕ → Type 0
+Accepted s at = (stepCode (stepOf s at) % 2 ^ 8 ≡ 0) ↔ (¬ (stepOf s at ≡ Step.Refused 19))
 
 -- two loops with one answer at a place have one step there
-abbrev pub StepTold : List ℕ → List ℕ → ℕ → Type 0
-StepTold s t at = stepCode (stepOf s at) ≡ stepCode (stepOf t at) → stepOf s at ≡ stepOf t at
+abbrev pub Step-Alike : List ℕ → List ℕ → ℕ → Type 0
+Step-Alike s t at = stepCode (stepOf s at) ≡ stepCode (stepOf t at) → stepOf s at ≡ stepOf t at

@@ -4,7 +4,7 @@ use Rattle.base.specs.Below.{some}
 use Rattle.section.specs.Section.{readOf as sectionReading}
 use Rattle.trigger.specs.Trigger.{descriptionOf, idOf, targetOf, triggerOf, readOf as triggerReading}
 use Rattle.trigger_faults.specs.Fields.{wrongLength, isUri, someHigh}
-use Rattle.number.specs.Number.{spelling, groups, worth, cutOff, lastIsZero, numberIn}
+use Rattle.file_number.specs.Number.{spelling, groups, worth, cutOff, lastIsZero, numberIn}
 use Rattle.examples.specs.Examples.{AllHold, examples}
 
 pub proved : AllHold examples

@@ -9,8 +9,8 @@ use Rattle.trigger.specs.Trigger.{readOf as triggerReading}
 use Rattle.trigger.specs.declared.Answer.{Answer}
 use Rattle.trigger.specs.declared.Extent.{Extent}
 use Rattle.trigger.specs.declared.Target.{Target}
-use Rattle.number.specs.Number.{spelt, numberAt}
-use Rattle.number.specs.declared.Number.{Number}
+use Rattle.file_number.specs.Number.{spelt, numberAt}
+use Rattle.file_number.specs.declared.Number.{Number}
 
 -- a payload and its reading as a section; a payload, its reading as a trigger and its user data; a number and how it is
 -- written; the bytes of a file and the number that they begin with

@@ -16,8 +16,8 @@ use Rattle.section.specs.Section.{sectionLength, readOf, headerOf}
 use Rattle.section.proofs.ExactlyWhen as section
 use Rattle.section.specs.declared.Header.{Header}
 use Rattle.section.specs.declared.Reading.{Reading}
-use Rattle.number.specs.Number.{numberAt}
-use Rattle.number.specs.declared.Number.{Number}
+use Rattle.file_number.specs.Number.{numberAt}
+use Rattle.file_number.specs.declared.Number.{Number}
 use Rattle.file.specs.Layout.{shortest, longest}
 use Rattle.file.specs.Scan.{readingOf, lengthOf, sectionAt}
 use Rattle.file.specs.declared.Part.{Part}

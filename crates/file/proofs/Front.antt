@@ -5,8 +5,8 @@ use mathlib.Core.Path.{_≡_}
 use mathlib.Core.List.{List}
 use Prim.Native.Nat.{ℕ, _<_, _≤_}
 use borrow.Author.Tests.{lt-ltb, le-ltb, eq-eqb, ne-eqb}
-use Rattle.number.specs.Number.{numberAt}
-use Rattle.number.specs.declared.Number.{Number}
+use Rattle.file_number.specs.Number.{numberAt}
+use Rattle.file_number.specs.declared.Number.{Number}
 use Rattle.file.specs.Layout.{form, fewest, most}
 use Rattle.file.specs.Scan.{refused, nothing, sectionsOf, countOf, scanOf}
 

@@ -10,9 +10,9 @@ use lib.ListN.{length}
 use borrow.Author.Tests.{lt-ltb, le-ltb}
 use Rattle.base.specs.Bytes.{part}
 use Rattle.section.specs.Section.{readOf}
-use Rattle.number.specs.Number.{numberAt}
-use Rattle.number.specs.declared.Number.{Number}
-use Rattle.number.proofs.Bounds.{within}
+use Rattle.file_number.specs.Number.{numberAt}
+use Rattle.file_number.specs.declared.Number.{Number}
+use Rattle.file_number.proofs.Bounds.{within}
 use Rattle.file.specs.Layout.{shortest, longest}
 use Rattle.file.specs.Scan.{readingOf, sectionAt}
 use Rattle.file.specs.declared.Part.{Part}

@@ -1,16 +1,16 @@
 -- Document 01, "The shelf file": the layout. "The file: form number 1; count of sections; then, by rising section number, each
 -- section's byte length and its bytes. All sections share key, version and last number. Largest file: 16,418 bytes."
-use Prim.Native.Nat.{ℕ, zero, suc, _+_, _≤_}
+use Prim.Native.Nat.{ℕ, zero, suc, _+_, _*_, _≤_}
 use mathlib.Core.Path.{_≡_}
 use mathlib.Core.Bool.{Bool, true, _&&_}
 use mathlib.Core.List.{List, [], _∷_, _++_}
 use lib.Dec.{eqb}
 use lib.ListN.{length}
 use Rattle.base.specs.Choice.{if_then_else_}
-use Rattle.section.specs.Section.{readOf, headerOf}
+use Rattle.section.specs.Section.{readOf, headerOf, headerSize, largestSection, mostSections}
 use Rattle.section.specs.declared.Header.{Header}
 use Rattle.section.specs.declared.Reading.the-variants.{Sound}
-use Rattle.number.specs.Number.{spelt}
+use Rattle.file_number.specs.Number.{spelt}
 
 -- the form of every file
 abbrev pub form : ℕ
@@ -21,18 +21,18 @@ abbrev pub fewest : ℕ
 fewest = 1
 
 abbrev pub most : ℕ
-most = 16
+most = mostSections
 
 -- a section has 8 to 1,024 bytes
 abbrev pub shortest : ℕ
-shortest = 8
+shortest = headerSize
 
 abbrev pub longest : ℕ
-longest = 1024
+longest = largestSection
 
--- the largest file
+-- the largest file, 16,418 bytes: one each for form and count, and for each section two for its length
 abbrev pub largestFile : ℕ
-largestFile = 16418
+largestFile = 2 + most * (2 + longest)
 
 -- each section's byte length and its bytes
 unfoldable pub listed : List (List ℕ) → List ℕ

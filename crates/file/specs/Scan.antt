@@ -11,8 +11,8 @@ use Rattle.base.specs.Bytes.{part}
 use Rattle.section.specs.Section.{readOf}
 use Rattle.section.specs.declared.Header.{Header}
 use Rattle.section.specs.declared.Reading.{Reading}
-use Rattle.number.specs.Number.{numberAt}
-use Rattle.number.specs.declared.Number.{Number}
+use Rattle.file_number.specs.Number.{numberAt}
+use Rattle.file_number.specs.declared.Number.{Number}
 use Rattle.file.specs.Layout.{form, fewest, most, shortest, longest, chosen, sameTable}
 use Rattle.file.specs.declared.Part.{Part}
 use Rattle.file.specs.declared.Scan.{Scan}

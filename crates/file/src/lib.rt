@@ -1,11 +1,11 @@
 // Reads a shelf file (document 01, "The shelf file") from left to right: which table it is, and where in the file each of its
 // sections lies. Nothing is copied, and the first fault from the left is the answer.
-use number::Number;
+use file_number::Number;
 use section::Header;
 use section::Reading;
 ghost use mathlib.Core.Path.{_≡_};
 ghost use Rattle.base.specs.Choice.{if_then_else_};
-ghost use Rattle.number.specs.Number.{numberAt};
+ghost use Rattle.file_number.specs.Number.{numberAt};
 ghost use Rattle.file.specs.Layout.{sameTable};
 ghost use Rattle.file.specs.Scan.{
   refused as refusedOf,
@@ -46,23 +46,20 @@ pub const BAD_FILE: u8 = 12;
 
 pub const FORM: u16 = 1;
 
-pub const SECTIONS: u16 = 16;
+pub const SECTIONS: u16 = section::SECTIONS as u16;
 
-pub const SHORTEST: u16 = 8;
+pub const SHORTEST: u16 = section::HEADER as u16;
 
-pub const LONGEST: u16 = 1024;
+pub const LONGEST: u16 = section::LARGEST as u16;
 
-fn wide(x: u16) -> usize
-    ensures { λ r. ⌜ r ≡ x ⌝ }
-{
-    x as usize
-}
+// The largest file: a byte each for the form and the count, and for each section two for its length.
+pub const LARGEST: usize = 2 + section::SECTIONS * (2 + section::LARGEST);
 
 // The section at a place of the file, or its first fault.
 fn section_at(file: &[u8], at: usize) -> Part
     ensures { λ r. ⌜ r ≡ sectionAt (now (file .entry)) at ⌝ }
 {
-    let found = number::read_number(file, at);
+    let found = file_number::read_number(file, at);
     match found {
         Number::Refused(n) => Part::Refused(n),
         Number::Value(length, start) => {
@@ -72,7 +69,7 @@ fn section_at(file: &[u8], at: usize) -> Part
             if LONGEST < length {
                 return Part::Refused(BAD_FILE);
             }
-            let size = wide(length);
+            let size = base::wide(length);
             if file.len() - start < size {
                 return Part::Refused(BAD_FILE);
             }
@@ -164,7 +161,7 @@ fn scan_sections(file: &[u8], count: usize, from: usize) -> Scanned
                 begun = true;
                 first = shared;
                 lowest = header.number + 1;
-                next = start + wide(length);
+                next = start + base::wide(length);
                 left -= 1;
             }
         }
@@ -188,7 +185,7 @@ fn scan_sections(file: &[u8], count: usize, from: usize) -> Scanned
 fn read_count(file: &[u8], at: usize) -> Scanned
     ensures { λ r. ⌜ r ≡ countOf (now (file .entry)) (numberAt (now (file .entry)) at) ⌝ }
 {
-    let found = number::read_number(file, at);
+    let found = file_number::read_number(file, at);
     match found {
         Number::Refused(n) => refused(n),
         Number::Value(count, next) => {
@@ -198,7 +195,7 @@ fn read_count(file: &[u8], at: usize) -> Scanned
             if SECTIONS < count {
                 return refused(BAD_FILE);
             }
-            scan_sections(file, wide(count), next)
+            scan_sections(file, base::wide(count), next)
         }
     }
 }
@@ -207,7 +204,7 @@ fn read_count(file: &[u8], at: usize) -> Scanned
 pub fn read_file(file: &[u8]) -> Scanned
     ensures { λ r. ⌜ r ≡ scanOf (now (file .entry)) ⌝ }
 {
-    let found = number::read_number(file, 0);
+    let found = file_number::read_number(file, 0);
     match found {
         Number::Refused(n) => refused(n),
         Number::Value(form, next) => {

@@ -14,10 +14,10 @@ use Rattle.base.specs.Bytes.{part}
 use Rattle.section.specs.Section.{readOf, headerOf}
 use Rattle.section.specs.declared.Header.{Header}
 use Rattle.section.specs.declared.Reading.{Reading}
-use Rattle.number.specs.Number.{spelling, spelt, numberIn, numberAt}
-use Rattle.number.specs.declared.Number.{Number}
-use Rattle.number.proofs.OneSpelling.{read-spelt}
-use Rattle.number.proofs.Bounds.{spelt-some}
+use Rattle.file_number.specs.Number.{spelling, spelt, numberIn, numberAt}
+use Rattle.file_number.specs.declared.Number.{Number}
+use Rattle.file_number.proofs.OneSpelling.{read-spelt}
+use Rattle.file_number.proofs.Bounds.{spelt-some}
 use Rattle.file.specs.Layout.{form, most, shortest, longest, listed, fileOf, chosen, sameTable, Rising, SoundTable}
 use Rattle.file.specs.Scan.{Seen, accepted, nothing, firstOf, added, readingOf, sectionAt, sectionsOf, scanOf, holds, foundIn, tableIn}
 use Rattle.file.specs.declared.Part.{Part}

@@ -21,12 +21,12 @@ use Rattle.base.proofs.Tables.{words, fails}
 use Rattle.section.specs.Section.{readOf, headerOf}
 use Rattle.section.specs.declared.Header.{Header}
 use Rattle.section.specs.declared.Reading.{Reading}
-use Rattle.number.specs.Number.{largest, spelling, spelt, numberIn, numberAt, Bytes}
-use Rattle.number.specs.Unreadable.{Unreadable}
-use Rattle.number.specs.declared.Number.{Number}
-use Rattle.number.proofs.OneSpelling.{read-spelt}
-use Rattle.number.proofs.Bounds.{within}
-use Rattle.number.proofs.Unreadable.{unreadable-exactly, only-11}
+use Rattle.file_number.specs.Number.{largest, spelling, spelt, numberIn, numberAt, Bytes}
+use Rattle.file_number.specs.Unreadable.{Unreadable}
+use Rattle.file_number.specs.declared.Number.{Number}
+use Rattle.file_number.proofs.OneSpelling.{read-spelt}
+use Rattle.file_number.proofs.Bounds.{within}
+use Rattle.file_number.proofs.Unreadable.{unreadable-exactly, only-11}
 use Rattle.file.specs.Layout.{form, fewest, most, shortest, longest, listed, sameTable, Rising}
 use Rattle.file.specs.Scan.{Seen, refused, nothing, firstOf, added, readingOf, lengthOf, sectionAt, sectionsOf, followOf, countOf, formOf, scanOf}
 use Rattle.file.specs.declared.Part.{Part}

@@ -11,7 +11,7 @@ use native.Mathlib.Omega.{arith}
 use lib.ListN.{length}
 use Rattle.section.specs.Section.{headerOf}
 use Rattle.section.specs.declared.Header.{Header}
-use Rattle.number.specs.Number.{Bytes}
+use Rattle.file_number.specs.Number.{Bytes}
 use Rattle.file.specs.Layout.{largestFile, fileOf, SoundTable}
 use Rattle.file.specs.Scan.{scanOf, tableIn}
 use Rattle.file.specs.declared.Scan.{Scan}

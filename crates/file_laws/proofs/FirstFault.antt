@@ -19,9 +19,9 @@ use Rattle.base.proofs.Cases.{by}
 use Rattle.section.specs.Section.{readOf, headerOf}
 use Rattle.section.specs.declared.Header.{Header}
 use Rattle.section.specs.declared.Reading.{Reading}
-use Rattle.number.specs.Number.{largest, spelling, spelt, groups, worth, cutOff, notShortest, numberIn}
-use Rattle.number.specs.declared.Number.{Number}
-use Rattle.number.proofs.OneSpelling.{read-spelt}
+use Rattle.file_number.specs.Number.{largest, spelling, spelt, groups, worth, cutOff, notShortest, numberIn}
+use Rattle.file_number.specs.declared.Number.{Number}
+use Rattle.file_number.proofs.OneSpelling.{read-spelt}
 use Rattle.file.specs.Layout.{form, fewest, most, shortest, longest, listed, sameTable, Rising}
 use Rattle.file.specs.Scan.{Seen, refused, nothing, firstOf, readingOf, lengthOf, sectionAt, sectionsOf, scanOf}
 use Rattle.file.specs.declared.Part.{Part}

@@ -16,9 +16,9 @@ use Rattle.base.proofs.Cases.{by, same-or, or-right}
 use Rattle.section.specs.Section.{readOf}
 use Rattle.section.specs.declared.Header.{Header}
 use Rattle.section.specs.declared.Reading.{Reading}
-use Rattle.number.specs.Number.{groups, cutOff, numberIn, numberAt}
-use Rattle.number.specs.declared.Number.{Number}
-use Rattle.number.proofs.Reading.{one-in, zero-in, two-in, zero-in-3, three-in, above-in}
+use Rattle.file_number.specs.Number.{groups, cutOff, numberIn, numberAt}
+use Rattle.file_number.specs.declared.Number.{Number}
+use Rattle.file_number.proofs.Reading.{one-in, zero-in, two-in, zero-in-3, three-in, above-in}
 use Rattle.file.specs.Layout.{form, fewest, most, shortest, longest, largestFile, sameTable}
 use Rattle.file.specs.Scan.{Seen, nothing, firstOf, added, readingOf, lengthOf, sectionAt, sectionsOf, followOf, countOf, formOf, scanOf}
 use Rattle.file.specs.declared.Part.{Part}

@@ -10,8 +10,8 @@ use borrow.Author.Tests.{le-ltb}
 use Rattle.section.specs.Section.{readOf, headerOf}
 use Rattle.section.specs.declared.Header.{Header}
 use Rattle.section.specs.declared.Reading.{Reading}
-use Rattle.number.specs.Number.{spelling, spelt}
-use Rattle.number.proofs.Bounds.{spelt-1-long, spelt-2-long}
+use Rattle.file_number.specs.Number.{spelling, spelt}
+use Rattle.file_number.proofs.Bounds.{spelt-1-long, spelt-2-long}
 use Rattle.file.specs.Layout.{form, most, shortest, longest, largestFile, listed, fileOf, sameTable, Rising, SoundTable}
 use Rattle.file.proofs.Found.{sound-size}
 

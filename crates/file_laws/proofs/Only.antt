@@ -15,9 +15,9 @@ use Rattle.base.proofs.Cases.{by, or-left, or-right}
 use Rattle.section.specs.Section.{readOf, headerOf}
 use Rattle.section.specs.declared.Header.{Header}
 use Rattle.section.specs.declared.Reading.{Reading}
-use Rattle.number.specs.Number.{spelt, numberAt, Bytes}
-use Rattle.number.specs.declared.Number.{Number}
-use Rattle.number.proofs.OneSpelling.{only-spelt}
+use Rattle.file_number.specs.Number.{spelt, numberAt, Bytes}
+use Rattle.file_number.specs.declared.Number.{Number}
+use Rattle.file_number.proofs.OneSpelling.{only-spelt}
 use Rattle.file.specs.Layout.{form, fewest, most, listed, fileOf, sameTable, Rising, SoundTable}
 use Rattle.file.specs.Scan.{Seen, refused, nothing, firstOf, added, sectionAt, sectionsOf, followOf, countOf, formOf, scanOf}
 use Rattle.file.specs.declared.Part.{Part}

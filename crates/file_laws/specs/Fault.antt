@@ -7,8 +7,8 @@ use mathlib.Core.Logic.{_⊎_}
 use lib.ListN.{length}
 use Rattle.section.specs.Section.{tableId, tableIdExtension, version, sectionNumber, lastSectionNumber, headerOf, readOf}
 use Rattle.section.specs.declared.Reading.the-variants.{Sound, Refused}
-use Rattle.number.specs.Number.{largest, spelt}
-use Rattle.number.specs.Unreadable.{Unreadable}
+use Rattle.file_number.specs.Number.{largest, spelt}
+use Rattle.file_number.specs.Unreadable.{Unreadable}
 use Rattle.file.specs.Layout.{form, fewest, most, shortest, longest, listed, Rising}
 
 -- sections without a fault: sound, of one table, their numbers rising

@@ -8,13 +8,13 @@ use lib.ListN.{length}
 use Rattle.section.specs.declared.Header.{Header}
 use Rattle.berth.specs.Berth.{sections}
 use Rattle.shelf.specs.Record.{keyOf}
-use Rattle.number.specs.Number.{Bytes}
+use Rattle.file_number.specs.Number.{Bytes}
 use Rattle.file.specs.Layout.{fileOf, chosen}
 use Rattle.file.specs.Scan.{scanOf, foundIn, tableIn}
 use Rattle.file.specs.declared.Scan.{Scan}
 use Rattle.file_laws.proofs.Files.{file-of-the-table}
-use Rattle.load.specs.declared.Loaded.{Loaded}
-use Rattle.save.specs.Save.{written}
+use Rattle.shelf_load.specs.declared.Loaded.{Loaded}
+use Rattle.shelf_save.specs.Save.{written}
 use Rattle.shelf_laws.specs.State.{State, loadOn, saveOut, afterLoad}
 use Rattle.shelf_laws.specs.File.{carries, sectionIn}
 use Rattle.shelf_laws.specs.Answers.{isDone}

@@ -6,11 +6,11 @@ use mathlib.Core.Logic.{_↔_, Iff·trans}
 use Prim.Native.Nat.{ℕ}
 use Rattle.base.specs.Tables.{None}
 use Rattle.shelf.specs.Record.{Shelf}
-use Rattle.number.specs.Number.{Bytes}
+use Rattle.file_number.specs.Number.{Bytes}
 use Rattle.file_laws.specs.Fault.{Fault}
 use Rattle.file_laws.proofs.Faults.{refused-exactly}
-use Rattle.load.proofs.Faults.{FileFault}
-use Rattle.load.proofs.ExactlyWhen.{early, number, refused-file}
+use Rattle.shelf_load.proofs.Faults.{FileFault}
+use Rattle.shelf_load.proofs.ExactlyWhen.{early, number, refused-file}
 
 module _ (shelf : Shelf) (store file : List ℕ) (b : Bytes file) where
   pub load-fault : (n : ℕ) → FileFault n → (number shelf store file ≡ n) ↔ (None (early shelf store file) × Fault file n)

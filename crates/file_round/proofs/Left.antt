@@ -19,7 +19,7 @@ use Rattle.section.specs.declared.Reading.{Reading}
 use Rattle.berth.specs.Berth.{sections, places, standing}
 use Rattle.shelf.specs.Record.{placeAt, holds, sameKey, placeOf}
 use Rattle.shelf.specs.declared.Key.{Key}
-use Rattle.offer.specs.Offer.{After}
+use Rattle.shelf_offer.specs.Offer.{After}
 use Rattle.shelf.specs.Record.{keyOf}
 use Rattle.file.specs.Scan.{scanOf}
 use Rattle.file.specs.declared.Scan.{Scan}

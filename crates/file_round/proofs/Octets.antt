@@ -14,8 +14,8 @@ use Rattle.base.proofs.Cases.{by}
 use Rattle.berth.specs.Berth.{berthSize, beginsAt, sections, places, standing}
 use Rattle.shelf.specs.Record.{placeAt, holds, lengthAt, placeOf}
 use Rattle.shelf.specs.declared.Key.{Key}
-use Rattle.number.specs.Number.{spelt}
-use Rattle.number.proofs.Spelling.{spelt-1, spelt-2, spelt-3}
+use Rattle.file_number.specs.Number.{spelt}
+use Rattle.file_number.proofs.Spelling.{spelt-1, spelt-2, spelt-3}
 use Rattle.file.specs.Layout.{listed, fileOf, chosen}
 use Rattle.shelf_laws.specs.State.{State}
 use Rattle.shelf_laws.proofs.Kept.{Good}

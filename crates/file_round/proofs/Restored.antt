@@ -26,8 +26,8 @@ use Rattle.file.specs.Scan.{scanOf, foundIn, tableIn}
 use Rattle.file.specs.declared.Scan.{Scan}
 use Rattle.file_laws.proofs.Accepts.{in-one-way}
 use Rattle.file_laws.proofs.Files.{sound-accepted}
-use Rattle.load.specs.Load.{After, loadedPlace, storedBelow, tableOf, loadOf}
-use Rattle.load.specs.declared.Loaded.{Loaded}
+use Rattle.shelf_load.specs.Load.{After, loadedPlace, storedBelow, tableOf, loadOf}
+use Rattle.shelf_load.specs.declared.Loaded.{Loaded}
 use Rattle.shelf_laws.specs.State.{State, loadOn, afterLoad}
 use Rattle.shelf_laws.specs.File.{lengthIn, carries, sectionIn}
 use Rattle.shelf_laws.proofs.Places.{key-itself, its-key, is-taken, at-same, held-at}

@@ -14,15 +14,15 @@ use Rattle.berth.specs.Berth.{sections, places, storeSize}
 use Rattle.shelf.specs.Record.{placeAt, lengthAt, holds, placeOf, freeOf}
 use Rattle.shelf.specs.declared.Key.{Key}
 use Rattle.shelf.specs.Record.{Place}
-use Rattle.ask.specs.Ask.{holdingOf, uncopied, copy, Copy, complete, lowestMissing}
-use Rattle.ask.specs.declared.Copied.{Copied}
-use Rattle.ask.specs.declared.Holding.{Holding}
-use Rattle.ask.specs.declared.Whole.{Whole}
-use Rattle.ask.specs.declared.Missing.{Missing}
-use Rattle.ask.proofs.Held.{in-place, copy-held, whole-held, missing-held}
+use Rattle.shelf_ask.specs.Ask.{holdingOf, uncopied, copy, Copy, complete, lowestMissing}
+use Rattle.shelf_ask.specs.declared.Copied.{Copied}
+use Rattle.shelf_ask.specs.declared.Holding.{Holding}
+use Rattle.shelf_ask.specs.declared.Whole.{Whole}
+use Rattle.shelf_ask.specs.declared.Missing.{Missing}
+use Rattle.shelf_ask.proofs.Held.{in-place, copy-held, whole-held, missing-held}
 use Rattle.file.specs.Layout.{fileOf, chosen}
-use Rattle.save.specs.Save.{Save, refuse, unsaved, written, savedFile, saveOf}
-use Rattle.save.specs.declared.Saved.{Saved}
+use Rattle.shelf_save.specs.Save.{Save, refuse, unsaved, written, savedFile, saveOf}
+use Rattle.shelf_save.specs.declared.Saved.{Saved}
 use Rattle.shelf_laws.specs.State.{State, loadOn, saveOut, copyOut, wholeIn, missingIn}
 use Rattle.shelf_laws.specs.History.{Question, copied, wholly, lacking, saved, about, reply, afterAll}
 use Rattle.shelf_laws.proofs.Places.{free-le}

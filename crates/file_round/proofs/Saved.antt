@@ -16,8 +16,8 @@ use Rattle.shelf.specs.Record.{placeAt, holds, placeOf}
 use Rattle.shelf.specs.declared.Key.{Key}
 use Rattle.shelf.proofs.Find.{place-le}
 use Rattle.file.specs.Layout.{fileOf, chosen}
-use Rattle.save.specs.Save.{written, heldBelow, placeFile, savedFile, saveOf}
-use Rattle.save.specs.declared.Saved.{Saved}
+use Rattle.shelf_save.specs.Save.{written, heldBelow, placeFile, savedFile, saveOf}
+use Rattle.shelf_save.specs.declared.Saved.{Saved}
 use Rattle.shelf_laws.specs.State.{State, saveOut}
 use Rattle.shelf_laws.proofs.Kept.{Good, Table, Kept}
 use Rattle.file_round.specs.Round.{bytesAt}

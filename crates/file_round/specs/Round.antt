@@ -11,12 +11,12 @@ use Rattle.berth.specs.Berth.{sections, places, standing}
 use Rattle.shelf.specs.Record.{placeAt, lengthAt, holds, placeOf}
 use Rattle.shelf.specs.declared.Key.{Key}
 use Rattle.shelf.specs.Record.{keyOf}
-use Rattle.number.specs.Number.{Bytes}
+use Rattle.file_number.specs.Number.{Bytes}
 use Rattle.file.specs.Scan.{scanOf}
 use Rattle.file.specs.declared.Scan.{Scan}
-use Rattle.load.specs.declared.Loaded.{Loaded}
-use Rattle.save.specs.Save.{written}
-use Rattle.save.specs.declared.Saved.{Saved}
+use Rattle.shelf_load.specs.declared.Loaded.{Loaded}
+use Rattle.shelf_save.specs.Save.{written}
+use Rattle.shelf_save.specs.declared.Saved.{Saved}
 use Rattle.shelf_laws.specs.State.{State, loadOn, saveOut, afterLoad}
 use Rattle.shelf_laws.specs.History.{Question, about, reply, Call, afterAll, logOf}
 use Rattle.shelf_laws.specs.Log.{heldBy}

@@ -1,7 +1,6 @@
 // The clock and the applications. The host lends the record in 67 words and gets the next one back in them.
 ghost use mathlib.Core.Path.{_≡_};
-ghost use Rattle.clock_answers.specs.Clock.{freshCall, offerCall, moveCall};
-ghost use Rattle.clock_questions.specs.Clock.{timeCall, stateCall};
+ghost use Rattle.clock_answers.specs.Calls.{freshCall, offerCall, moveCall, timeCall, stateCall};
 
 // Makes the words a fresh clock.
 #[no_mangle]
@@ -41,7 +40,7 @@ pub extern "C" fn khumsafil_clock_move(words: &mut [u32], to: u32) -> u16
 pub extern "C" fn khumsafil_clock_time(words: &[u32]) -> u64
     ensures { λ r. ⌜ r ≡ timeCall (now (words .entry)) ⌝ }
 {
-    clock_questions::clock_time(words)
+    clock_answers::clock_time(words)
 }
 
 // The state of an application.
@@ -49,5 +48,5 @@ pub extern "C" fn khumsafil_clock_time(words: &[u32]) -> u64
 pub extern "C" fn khumsafil_application_state(words: &[u32], application: u8) -> u16
     ensures { λ r. ⌜ r ≡ stateCall (now (words .entry)) application ⌝ }
 {
-    clock_questions::application_state(words, application)
+    clock_answers::application_state(words, application)
 }

@@ -1,9 +1,9 @@
 // Files that need no shelf: the listing of one, and the file of the table that carries a body.
 ghost use mathlib.Core.Path.{_≡_};
 ghost use Rattle.answers.specs.Answers.{out as outOf};
-ghost use Rattle.listing.specs.Answer.{listLent};
+ghost use Rattle.file_listing.specs.Answer.{listLent};
 ghost use Rattle.writer.specs.Answer.{label};
-ghost use Rattle.feeding.specs.Answer.{fileLent};
+ghost use Rattle.writer_file.specs.Answer.{fileLent};
 use writer::Label;
 
 // Lists a file.
@@ -11,7 +11,7 @@ use writer::Label;
 pub extern "C" fn khumsafil_file_list(file: &[u8], out: &mut [u8]) -> u32
     ensures { λ r. ⌜ outOf r (now (out .exit)) ≡ listLent (now (file .entry)) (now (out .entry)) ⌝ }
 {
-    listing::list_code(file, out)
+    file_listing::list_code(file, out)
 }
 
 // Writes the file of the table that carries the body.
@@ -30,5 +30,5 @@ pub extern "C" fn khumsafil_writer_file(
         extension,
         version,
     };
-    feeding::file_code(given, body, out)
+    writer_file::file_code(given, body, out)
 }

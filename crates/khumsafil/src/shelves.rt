@@ -1,12 +1,12 @@
 // The shelf and its files. The record is 84 numbers that the host lends.
 ghost use mathlib.Core.Path.{_≡_};
 ghost use Rattle.answers.specs.Answers.{lent, out as outOf};
-ghost use Rattle.begin.specs.Answer.{beginLent};
-ghost use Rattle.offer.specs.Answer.{offerLent};
-ghost use Rattle.ask.specs.Answer.{wholeLent, missingLent, copyLent};
-ghost use Rattle.release.specs.Answer.{releaseLent};
-ghost use Rattle.save.specs.Answer.{saveLent};
-ghost use Rattle.load.specs.Answer.{loadLent};
+ghost use Rattle.shelf_begin.specs.Answer.{beginLent};
+ghost use Rattle.shelf_offer.specs.Answer.{offerLent};
+ghost use Rattle.shelf_ask.specs.Answer.{wholeLent, missingLent, copyLent};
+ghost use Rattle.shelf_release.specs.Answer.{releaseLent};
+ghost use Rattle.shelf_save.specs.Answer.{saveLent};
+ghost use Rattle.shelf_load.specs.Answer.{loadLent};
 ghost use Rattle.khumsafil.specs.Shelf.{givenKey};
 use shelf::Key;
 
@@ -15,7 +15,7 @@ use shelf::Key;
 pub extern "C" fn khumsafil_shelf_begin(words: &mut [u16], store: &mut [u8]) -> u8
     ensures { λ r. ⌜ lent r (now (words .exit)) (now (store .exit)) ≡ beginLent (now (words .entry)) (now (store .entry)) ⌝ }
 {
-    begin::begin_code(words, store)
+    shelf_begin::begin_code(words, store)
 }
 
 // Offers a payload.
@@ -23,7 +23,7 @@ pub extern "C" fn khumsafil_shelf_begin(words: &mut [u16], store: &mut [u8]) -> 
 pub extern "C" fn khumsafil_shelf_offer(words: &mut [u16], store: &mut [u8], payload: &[u8]) -> u16
     ensures { λ r. ⌜ lent r (now (words .exit)) (now (store .exit)) ≡ offerLent (now (words .entry)) (now (store .entry)) (now (payload .entry)) ⌝ }
 {
-    offer::offer_code(words, store, payload)
+    shelf_offer::offer_code(words, store, payload)
 }
 
 // Whether a table is complete.
@@ -36,7 +36,7 @@ pub extern "C" fn khumsafil_shelf_complete(
 ) -> u16
     ensures { λ r. ⌜ r ≡ wholeLent (now (words .entry)) (now (store .entry)) (givenKey table extension) ⌝ }
 {
-    ask::complete_code(words, store, Key { table, extension })
+    shelf_ask::complete_code(words, store, Key { table, extension })
 }
 
 // The lowest missing number of a table.
@@ -49,7 +49,7 @@ pub extern "C" fn khumsafil_shelf_lowest_missing(
 ) -> u32
     ensures { λ r. ⌜ r ≡ missingLent (now (words .entry)) (now (store .entry)) (givenKey table extension) ⌝ }
 {
-    ask::missing_code(words, store, Key { table, extension })
+    shelf_ask::missing_code(words, store, Key { table, extension })
 }
 
 // Copies a section out.
@@ -64,7 +64,7 @@ pub extern "C" fn khumsafil_shelf_copy_section(
 ) -> u32
     ensures { λ r. ⌜ outOf r (now (out .exit)) ≡ copyLent (now (words .entry)) (now (store .entry)) (givenKey table extension) number (now (out .entry)) ⌝ }
 {
-    ask::copy_code(words, store, Key { table, extension }, number, out)
+    shelf_ask::copy_code(words, store, Key { table, extension }, number, out)
 }
 
 // Releases a table.
@@ -77,7 +77,7 @@ pub extern "C" fn khumsafil_shelf_release(
 ) -> u8
     ensures { λ r. ⌜ lent r (now (words .exit)) (now (store .exit)) ≡ releaseLent (now (words .entry)) (now (store .entry)) (givenKey table extension) ⌝ }
 {
-    release::release_code(words, store, Key { table, extension })
+    shelf_release::release_code(words, store, Key { table, extension })
 }
 
 // Saves a table as a file.
@@ -91,7 +91,7 @@ pub extern "C" fn khumsafil_shelf_save(
 ) -> u32
     ensures { λ r. ⌜ outOf r (now (out .exit)) ≡ saveLent (now (words .entry)) (now (store .entry)) (givenKey table extension) (now (out .entry)) ⌝ }
 {
-    save::save_code(words, store, Key { table, extension }, out)
+    shelf_save::save_code(words, store, Key { table, extension }, out)
 }
 
 // Loads a file.
@@ -99,5 +99,5 @@ pub extern "C" fn khumsafil_shelf_save(
 pub extern "C" fn khumsafil_shelf_load(words: &mut [u16], store: &mut [u8], file: &[u8]) -> u8
     ensures { λ r. ⌜ lent r (now (words .exit)) (now (store .exit)) ≡ loadLent (now (words .entry)) (now (store .entry)) (now (file .entry)) ⌝ }
 {
-    load::load_code(words, store, file)
+    shelf_load::load_code(words, store, file)
 }

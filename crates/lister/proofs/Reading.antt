@@ -3,9 +3,9 @@ use mathlib.Core.Path.{_≡_, sym, ap, subst, _∙_}
 use mathlib.Core.List.{List}
 use Prim.Native.Nat.{ℕ, _≤_}
 use lib.ListN.{length}
-use Rattle.listing.specs.Listing.{listing, listOf}
-use Rattle.listing.specs.declared.Listed.{Listed}
-use Rattle.listing.proofs.Short.{listed-within}
+use Rattle.file_listing.specs.Listing.{listing, listOf}
+use Rattle.file_listing.specs.declared.Listed.{Listed}
+use Rattle.file_listing.proofs.Short.{listed-within}
 use Rattle.lister.specs.Input.{Within}
 use Rattle.lister.specs.declared.Input.{Input}
 

@@ -1,9 +1,9 @@
-// Lists a shelf file that stands on the standard input (document 01, "The lister"). The text is `listing::list_file`'s; here
+// Lists a shelf file that stands on the standard input (document 01, "The lister"). The text is `file_listing::list_file`'s; here
 // it is only read and written.
 use libc::STDERR_FILENO;
 use libc::STDIN_FILENO;
 use libc::STDOUT_FILENO;
-use listing::Listed;
+use file_listing::Listed;
 ghost use lib.ListN.{length};
 ghost use Rattle.lister.specs.Input.{Within};
 
@@ -32,18 +32,20 @@ fn read_input(buffer: &mut [u8]) -> Input
     Input::Bytes(n)
 }
 
-// The buffer has one byte more than the largest file: an input that fills it is no file, and is refused as one that has bytes
-// left over.
+// One byte more than the largest file, so 16,419: an input that fills the buffer is no file, and is refused as one that has
+// bytes left over.
+const BUFFER: usize = file::LARGEST + 1;
+
 fn main() {
-    let mut buffer = [0u8; 16419];
+    let mut buffer = [0u8; BUFFER];
     let input = read_input(&mut buffer);
     match input {
         Input::Failed => {
             io::write_all(STDERR_FILENO, b"lister: read failed\n");
         }
         Input::Bytes(n) => {
-            let mut text = [0u8; 1024];
-            let listed = listing::list_file(&buffer[..n], &mut text);
+            let mut text = [0u8; file_listing::LARGEST];
+            let listed = file_listing::list_file(&buffer[..n], &mut text);
             match listed {
                 Listed::Bytes(size) => {
                     io::write_all(STDOUT_FILENO, &text[..size]);

@@ -1,7 +1,8 @@
 -- A host loses nothing by an answer in one number (`specs/Answer.antt` has the words).
---   comes-back   each value comes back out of an answer
---   accepted     the low 8 bits are 0 exactly when the section is sound
---   told         payloads of one length that have one answer are read alike
+--   comes-back       each value comes back out of an answer
+--   reading-number   the low 8 bits are the number of the reading
+--   accepted         they are 0 exactly when the section is sound
+--   read-alike       payloads of one length that have one answer are read alike
 use mathlib.Core.Path.{_≡_, refl, sym, ap, _∙_}
 use mathlib.Core.List.{List}
 use Prim.Native.Nat.{ℕ, _+_, _-_, _*_, _/_, _%_, _^_, _<_, _≤_}
@@ -12,8 +13,8 @@ use Rattle.base.specs.Octets.{Octets}
 use Rattle.section.specs.declared.Header.{Header}
 use Rattle.section.specs.declared.Reading.{Reading}
 use Rattle.section.specs.declared.Reading.the-variants.{Sound, Refused}
-use Rattle.section.specs.Section.{readOf}
-use Rattle.section.specs.Answer.{readingCode, readingIn, ReadingComesBack, ReadingAccepted, ReadingTold}
+use Rattle.section.specs.Section.{readOf, numberOf}
+use Rattle.section.specs.Answer.{readingCode, readingIn, Comes-Back, Reading-Number, Accepted, Read-Alike}
 use Rattle.section.proofs.ExactlyWhen.{refused-range}
 use Rattle.section.proofs.Laws.{sound-facts, sound-fits}
 
@@ -60,10 +61,21 @@ module _ (s : List ℕ) (b : Octets s) where
       let high : n ≤ 8 = r .1 in
       rw (ne-eqb (n % 2 ^ 8) 0 (omega arith))
 
-  pub comes-back : ReadingComesBack s
+  pub comes-back : Comes-Back s
   comes-back = back (readOf s) refl
 
-  pub accepted : ReadingAccepted s
+  pub reading-number : Reading-Number s
+  reading-number = of (readOf s) refl
+    where
+      of : (r : Reading) → readOf s ≡ r → readingCode r % 2 ^ 8 ≡ numberOf r
+      of (Sound h) e = omega arith
+      of (Refused n) e =
+          let r = refused-range s n e in
+          let low : 1 ≤ n = r .0 in
+          let high : n ≤ 8 = r .1 in
+          omega arith
+
+  pub accepted : Accepted s
   accepted = (to (readOf s) refl, λ w. rw (w .1) (omega arith))
     where
       to : (r : Reading) → readOf s ≡ r → readingCode (readOf s) % 2 ^ 8 ≡ 0 → (h : Header) × (readOf s ≡ Sound h)
@@ -75,5 +87,5 @@ module _ (s : List ℕ) (b : Octets s) where
           let y : n % 2 ^ 8 ≡ 0 = rw e at z in
           absurd (omega arith)
 
-pub told : (s t : List ℕ) → Octets s → Octets t → ReadingTold s t
-told s t b c l e = sym (comes-back s b) ∙ (ap (λ n. readingIn n (readingCode (readOf s))) l ∙ (ap (readingIn (length t)) e ∙ comes-back t c))
+pub read-alike : (s t : List ℕ) → Octets s → Octets t → Read-Alike s t
+read-alike s t b c l e = sym (comes-back s b) ∙ (ap (λ n. readingIn n (readingCode (readOf s))) l ∙ (ap (readingIn (length t)) e ∙ comes-back t c))

@@ -1,7 +1,7 @@
 -- What later layers cite of a reading.
---   SoundFacts, sound-facts   what a sound reading says of its header and its payload
---   sound-fits                and of a payload of bytes: the table id is a byte, the extension a 16-bit number
---   unique                    two answers that keep `section::read`'s promise are equal
+--   sound-facts   what a sound reading says of its header and its payload
+--   sound-fits    and of a payload of bytes: the table id is a byte, the extension a 16-bit number
+--   unique        two answers that keep `section::read`'s promise are equal
 use mathlib.Core.Path.{_≡_, refl, sym, _∙_}
 use mathlib.Core.List.{List}
 use mathlib.Core.Logic.{inl, inr}
@@ -11,23 +11,13 @@ use lib.ListN.{length}
 use Rattle.base.specs.Octets.{Octets}
 use Rattle.base.specs.Tables.{None}
 use Rattle.base.proofs.Bytes.{word-fits}
-use Rattle.section.specs.Section.{readOf, headerOf, numberOf, sectionSize, sectionLength, sectionNumber, lastSectionNumber}
+use Rattle.section.specs.Section.{readOf, headerOf, sectionSize, sectionLength, sectionNumber, lastSectionNumber}
+pub use Rattle.section.specs.Theorems.{SoundFacts}
+use Rattle.section.specs.Theorems.{Sound-Fits, Unique}
 use Rattle.section.specs.declared.Header.{Header}
 use Rattle.section.specs.declared.Reading.{Reading}
 use Rattle.section.specs.declared.Reading.the-variants.{Sound}
 use Rattle.section.proofs.ExactlyWhen.{table, sound, not-refused}
-
-pub record SoundFacts (s : List ℕ) (h : Header) : Type 0 where
-  pub header : h ≡ headerOf s
-  pub size : sectionSize s ≡ length s
-  pub least : 8 ≤ length s
-  pub most : length s ≤ 1024
-  pub start : h .start ≡ 8
-  pub body : h .length ≡ length s - 8
-  pub number : h .number ≤ h .last
-  pub last : h .last ≤ 15
-  pub version : h .version < 32
-  pub none : numberOf (readOf s) ≡ 0
 
 module _ (s : List ℕ) where
   of-header : None (table s) → SoundFacts s (headerOf s)
@@ -54,8 +44,8 @@ module _ (s : List ℕ) where
   pub sound-facts : (h : Header) → readOf s ≡ Sound h → SoundFacts s h
   sound-facts h e = let w = sound s h .0 e in rw (w .1) (of-header (w .0))
 
-  pub sound-fits : (h : Header) → readOf s ≡ Sound h → Octets s → (h .table < 256) × (h .extension < 65536)
+  pub sound-fits : Sound-Fits s
   sound-fits h e b = rw (sound s h .0 e .1) (b 0, word-fits s b 3)
 
-  pub unique : (x y : Reading) → x ≡ readOf s → y ≡ readOf s → x ≡ y
+  pub unique : Unique s
   unique x y p q = p ∙ sym q

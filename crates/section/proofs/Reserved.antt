@@ -1,7 +1,6 @@
 -- Reserved bits are disregarded (document 01, "A section").
---   SameButReserved   two payloads that differ at most in reserved bits
---   disregarded       their readings are equal
---   for-example       there are such payloads that do differ
+--   disregarded   two payloads that differ at most in them (`SameButReserved`) have one reading
+--   for-example   there are such payloads that do differ
 use mathlib.Core.Path.{_≡_, refl}
 use mathlib.Core.List.{List, [], _∷_}
 use mathlib.Core.Bool.{false, _||_}
@@ -13,15 +12,7 @@ use borrow.Author.Tests.{eqb-false}
 use Rattle.base.specs.Bytes.{byte}
 use Rattle.base.proofs.Cases.{or-left, or-right}
 use Rattle.section.specs.Section.{syntaxIndicator, version, currentNext, readOf}
-
--- Byte 1 has two indicators above its reserved bits and four bits of the section length below them. Byte 5 has its reserved
--- bits on top and six bits below: version and current/next.
-pub record SameButReserved (s t : List ℕ) : Type 0 where
-  pub size : length s ≡ length t
-  pub elsewhere : (k : ℕ) → ¬ (k ≡ 1) → ¬ (k ≡ 5) → byte s k ≡ byte t k
-  pub above-reserved : byte s 1 / 64 ≡ byte t 1 / 64
-  pub below-reserved : byte s 1 % 16 ≡ byte t 1 % 16
-  pub version-and-current : byte s 5 % 64 ≡ byte t 5 % 64
+use Rattle.section.specs.Theorems.{SameButReserved, Disregarded}
 
 module _ (s t : List ℕ) (same : SameButReserved s t) where
   byte-same : (k : ℕ) → eqb k 1 || eqb k 5 ≡ false → byte s k ≡ byte t k
@@ -36,9 +27,9 @@ module _ (s t : List ℕ) (same : SameButReserved s t) where
   current-same : currentNext s ≡ currentNext t
   current-same = omega (arith, same .version-and-current)
 
-  pub disregarded : readOf s ≡ readOf t
+  read-alike : readOf s ≡ readOf t
   unfolding readOf
-  disregarded =
+  read-alike =
       rw (
         same .size,
         byte-same 0 refl,
@@ -53,6 +44,9 @@ module _ (s t : List ℕ) (same : SameButReserved s t) where
         byte-same 6 refl,
         byte-same 7 refl,
       )
+
+pub disregarded : (s t : List ℕ) → Disregarded s t
+disregarded s t same = read-alike s t same
 
 -- document 01's P1, and the same with its four reserved bits cleared
 abbrev p1 : List ℕ

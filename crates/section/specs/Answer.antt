@@ -6,7 +6,7 @@ use mathlib.Core.Logic.{_↔_}
 use lib.ListN.{length}
 use lib.Dec.{eqb}
 use Rattle.base.specs.Choice.{if_then_else_}
-use Rattle.section.specs.Section.{readOf}
+use Rattle.section.specs.Section.{readOf, numberOf}
 use Rattle.section.specs.declared.Header.{Header}
 use Rattle.section.specs.declared.Reading.{Reading}
 use Rattle.section.specs.declared.Reading.the-variants.{Sound, Refused}
@@ -39,13 +39,17 @@ readingIn size code =
 
 -- Of the answer to a payload `s` of bytes:
 -- each value comes back out of it
-abbrev pub ReadingComesBack : List ℕ → Type 0
-ReadingComesBack s = readingIn (length s) (readingCode (readOf s)) ≡ readOf s
+abbrev pub Comes-Back : List ℕ → Type 0
+Comes-Back s = readingIn (length s) (readingCode (readOf s)) ≡ readOf s
 
--- its low 8 bits are 0 exactly when the section is sound
-abbrev pub ReadingAccepted : List ℕ → Type 0
-ReadingAccepted s = (readingCode (readOf s) % 2 ^ 8 ≡ 0) ↔ ((h : Header) × (readOf s ≡ Sound h))
+-- its low 8 bits are the number of the reading, 0 for none
+abbrev pub Reading-Number : List ℕ → Type 0
+Reading-Number s = readingCode (readOf s) % 2 ^ 8 ≡ numberOf (readOf s)
+
+-- so they are 0 exactly when the section is sound
+abbrev pub Accepted : List ℕ → Type 0
+Accepted s = (readingCode (readOf s) % 2 ^ 8 ≡ 0) ↔ ((h : Header) × (readOf s ≡ Sound h))
 
 -- a payload of the same length that has the same answer is read alike
-abbrev pub ReadingTold : List ℕ → List ℕ → Type 0
-ReadingTold s t = length s ≡ length t → readingCode (readOf s) ≡ readingCode (readOf t) → readOf s ≡ readOf t
+abbrev pub Read-Alike : List ℕ → List ℕ → Type 0
+Read-Alike s t = length s ≡ length t → readingCode (readOf s) ≡ readingCode (readOf t) → readOf s ≡ readOf t

@@ -10,6 +10,23 @@ use Rattle.section.specs.declared.Header.{Header}
 use Rattle.section.specs.declared.Reading.{Reading}
 use Rattle.section.specs.declared.Reading.the-variants.{Sound, Refused}
 
+-- the bytes of the header, the highest section length, and the highest last section number
+abbrev pub headerSize : ℕ
+headerSize = 8
+
+abbrev pub highestLength : ℕ
+highestLength = 1021
+
+abbrev pub highestLast : ℕ
+highestLast = 15
+
+-- so a section has at most 1,024 bytes, and a table 16 sections
+abbrev pub largestSection : ℕ
+largestSection = 3 + highestLength
+
+abbrev pub mostSections : ℕ
+mostSections = highestLast + 1
+
 -- table id 8
 abbrev pub tableId : List ℕ → ℕ
 tableId s = byte s 0
@@ -53,13 +70,13 @@ lastSectionNumber s = byte s 7
 -- "Numbers of refusal", 1 to 8
 abbrev pub faults : List ℕ → List Row
 faults s =
-    1 if ltb (length s) 8
+    1 if ltb (length s) headerSize
     ∷ 2 if (eqb (syntaxIndicator s) 1 || eqb (privateIndicator s) 0)
-    ∷ 3 if (ltb (sectionLength s) 5 || ltb 1021 (sectionLength s))
+    ∷ 3 if (ltb (sectionLength s) 5 || ltb highestLength (sectionLength s))
     ∷ 4 if ltb (length s) (sectionSize s)
     ∷ 5 if ltb (sectionSize s) (length s)
     ∷ 6 if ltb (lastSectionNumber s) (sectionNumber s)
-    ∷ 7 if ltb 15 (lastSectionNumber s)
+    ∷ 7 if ltb highestLast (lastSectionNumber s)
     ∷ 8 if eqb (currentNext s) 0
     ∷ []
 

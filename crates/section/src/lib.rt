@@ -42,11 +42,21 @@ pub const HEADER: usize = 8;
 
 const BEFORE_LENGTH_COUNTS: usize = 3;
 
-const SHORTEST: usize = 5;
+// What the section length counts: the rest of the header at least.
+pub const SHORTEST: usize = HEADER - BEFORE_LENGTH_COUNTS;
 
 const LONGEST: usize = 1021;
 
+// The most bytes of a section.
+pub const LARGEST: usize = BEFORE_LENGTH_COUNTS + LONGEST;
+
 const HIGHEST_LAST: u8 = 15;
+
+// The most sections of a table.
+pub const SECTIONS: usize = HIGHEST_LAST as usize + 1;
+
+// The highest version: it has five bits.
+pub const HIGHEST_VERSION: u8 = 31;
 
 // The section that the payload is, or the first number of refusal that applies.
 pub fn read(payload: &[u8]) -> Reading

@@ -21,15 +21,15 @@ use Rattle.berth.specs.Berth.{sections, places, storeSize, berthSize}
 use Rattle.shelf.specs.Record.{placeAt, lengthAt, holds, placeOf}
 use Rattle.shelf.specs.declared.Key.{Key}
 use Rattle.shelf.proofs.Words.{sound-place}
-use Rattle.ask.specs.Ask.{complete, lowestMissing, copy, wholeNo, asked, uncopied, copyFrom, copyOf, wholeOf, missingOf}
-use Rattle.ask.specs.declared.Copied.{Copied}
-use Rattle.ask.specs.declared.Whole.{Whole}
-use Rattle.ask.specs.declared.Missing.{Missing}
-use Rattle.ask.proofs.ExactlyWhen.{whole-none}
+use Rattle.shelf_ask.specs.Ask.{complete, lowestMissing, copy, wholeNo, asked, uncopied, copyFrom, copyOf, wholeOf, missingOf}
+use Rattle.shelf_ask.specs.declared.Copied.{Copied}
+use Rattle.shelf_ask.specs.declared.Whole.{Whole}
+use Rattle.shelf_ask.specs.declared.Missing.{Missing}
+use Rattle.shelf_ask.proofs.ExactlyWhen.{whole-none}
 use Rattle.file.specs.Layout.{largestFile}
-use Rattle.save.specs.Save.{save, savedFile, saveOf}
-use Rattle.save.specs.declared.Saved.{Saved}
-use Rattle.save.proofs.ExactlyWhen.{saved-largest}
+use Rattle.shelf_save.specs.Save.{save, savedFile, saveOf}
+use Rattle.shelf_save.specs.declared.Saved.{Saved}
+use Rattle.shelf_save.proofs.ExactlyWhen.{saved-largest}
 use Rattle.shelf_laws.specs.State.{State, copyOut, wholeIn}
 use Rattle.shelf_laws.specs.History.{Question, Reply, copied, wholly, lacking, saved, about, reply}
 use Rattle.shelf_laws.proofs.Truth.{every-same}

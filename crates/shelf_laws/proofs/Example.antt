@@ -11,9 +11,9 @@ use Rattle.section.specs.Section.{readOf}
 use Rattle.berth.specs.Berth.{storeSize}
 use Rattle.berth.proofs.Laid.{zeros-length}
 use Rattle.shelf.specs.Record.{fresh, freeOf}
-use Rattle.offer.specs.Offer.{newOf, soundOf, offerOf}
-use Rattle.offer.specs.declared.Offered.{Offered}
-use Rattle.ask.specs.declared.Whole.{Whole}
+use Rattle.shelf_offer.specs.Offer.{newOf, soundOf, offerOf}
+use Rattle.shelf_offer.specs.declared.Offered.{Offered}
+use Rattle.shelf_ask.specs.declared.Whole.{Whole}
 use Rattle.shelf_laws.specs.State.{offerTo, afterOffer}
 use Rattle.shelf_laws.specs.Named.{keyIn}
 use Rattle.shelf_laws.specs.Answers.{begins}

@@ -12,8 +12,8 @@ use Rattle.base.proofs.Tables.{among}
 use Rattle.section.specs.Section.{readOf}
 use Rattle.section.specs.declared.Reading.{Reading}
 use Rattle.section.proofs.ExactlyWhen.{refused-range}
-use Rattle.number.specs.Number as Number
-use Rattle.number.specs.declared.Number.{Number as Read}
+use Rattle.file_number.specs.Number as Number
+use Rattle.file_number.specs.declared.Number.{Number as Read}
 use Rattle.file.specs.Layout.{form, fewest, most, shortest, longest, sameTable}
 use Rattle.file.specs.Scan.{nothing, firstOf, added, readingOf, lengthOf, sectionAt, sectionsOf, followOf, countOf, formOf, scanOf}
 use Rattle.file.specs.declared.Scan.{Scan}

@@ -11,9 +11,9 @@ use Rattle.base.proofs.Cases.{by, unlike}
 use Rattle.section.specs.Section.{sectionNumber}
 use Rattle.berth.specs.Berth.{sections}
 use Rattle.shelf.specs.Record.{placeOf}
-use Rattle.offer.specs.declared.Offered.{Offered}
-use Rattle.ask.specs.Ask.{copy}
-use Rattle.ask.specs.declared.Copied.{Copied}
+use Rattle.shelf_offer.specs.declared.Offered.{Offered}
+use Rattle.shelf_ask.specs.Ask.{copy}
+use Rattle.shelf_ask.specs.declared.Copied.{Copied}
 use Rattle.shelf_laws.specs.State.{State, Formed, offerTo, afterOffer, copyOut}
 use Rattle.shelf_laws.specs.Named.{keyIn}
 use Rattle.shelf_laws.specs.Answers.{begins, joins, accepted}

@@ -12,8 +12,8 @@ use Rattle.base.proofs.Cases.{by, unlike}
 use Rattle.berth.specs.Berth.{places}
 use Rattle.shelf.specs.Record.{placeOf}
 use Rattle.shelf.specs.declared.Key.{Key}
-use Rattle.release.specs.Release.{After}
-use Rattle.release.specs.declared.Released.{Released}
+use Rattle.shelf_release.specs.Release.{After}
+use Rattle.shelf_release.specs.declared.Released.{Released}
 use Rattle.shelf_laws.specs.State.{State}
 use Rattle.shelf_laws.specs.History.{Question, about, replyNo, Call, afterAll, logOf}
 use Rattle.shelf_laws.specs.Log.{heldBy}

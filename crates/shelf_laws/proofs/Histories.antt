@@ -19,7 +19,7 @@ use Rattle.berth.specs.Berth.{places, storeSize}
 use Rattle.berth.proofs.Laid.{zeros-length}
 use Rattle.shelf.specs.Record.{fresh, freePlace, placeAt, sameKey, spoiledPlace, spoiledOf, alike, hasKey, placeOf}
 use Rattle.shelf.specs.declared.Key.{Key}
-use Rattle.offer.specs.declared.Offered.{Offered}
+use Rattle.shelf_offer.specs.declared.Offered.{Offered}
 use Rattle.shelf_laws.specs.State.{State, offerTo, loadOn, releaseFrom}
 use Rattle.shelf_laws.specs.File.{carries}
 use Rattle.shelf_laws.specs.Named.{keyIn}

@@ -32,8 +32,8 @@ use Rattle.file.specs.Layout.{sameTable}
 use Rattle.file.specs.Scan.{scanOf}
 use Rattle.file.specs.declared.Scan.{Scan}
 use Rattle.file.proofs.Held.{Lies, Holds, held}
-use Rattle.load.specs.Load.{After, loadedPlace, storedBelow, no, tableOf, answered, loadOf}
-use Rattle.load.specs.declared.Loaded.{Loaded}
+use Rattle.shelf_load.specs.Load.{After, loadedPlace, storedBelow, no, tableOf, answered, loadOf}
+use Rattle.shelf_load.specs.declared.Loaded.{Loaded}
 use Rattle.shelf_laws.specs.File.{lengthIn, carries, sectionIn}
 use Rattle.shelf_laws.specs.State.{State, loadOn, afterLoad}
 use Rattle.shelf_laws.specs.Named.{loadNames}

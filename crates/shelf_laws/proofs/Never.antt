@@ -4,18 +4,18 @@ use mathlib.Core.Path.{_≡_}
 use Prim.Native.Nat.{_≤_}
 use native.Mathlib.Omega.{arith}
 use Rattle.shelf.specs.Record.{fresh}
-use Rattle.offer.specs.Offer as Offer
-use Rattle.offer.specs.declared.Offered.{Offered}
-use Rattle.release.specs.Release as Release
-use Rattle.release.specs.declared.Released.{Released}
-use Rattle.ask.specs.Ask.{copiedNo, wholeNo, missingNo}
-use Rattle.ask.specs.declared.Copied.{Copied}
-use Rattle.ask.specs.declared.Whole.{Whole}
-use Rattle.ask.specs.declared.Missing.{Missing}
-use Rattle.load.specs.Load as Load
-use Rattle.load.specs.declared.Loaded.{Loaded}
-use Rattle.save.specs.Save as Save
-use Rattle.save.specs.declared.Saved.{Saved}
+use Rattle.shelf_offer.specs.Offer as Offer
+use Rattle.shelf_offer.specs.declared.Offered.{Offered}
+use Rattle.shelf_release.specs.Release as Release
+use Rattle.shelf_release.specs.declared.Released.{Released}
+use Rattle.shelf_ask.specs.Ask.{copiedNo, wholeNo, missingNo}
+use Rattle.shelf_ask.specs.declared.Copied.{Copied}
+use Rattle.shelf_ask.specs.declared.Whole.{Whole}
+use Rattle.shelf_ask.specs.declared.Missing.{Missing}
+use Rattle.shelf_load.specs.Load as Load
+use Rattle.shelf_load.specs.declared.Loaded.{Loaded}
+use Rattle.shelf_save.specs.Save as Save
+use Rattle.shelf_save.specs.declared.Saved.{Saved}
 use Rattle.shelf_laws.specs.History.{Reply, copied, wholly, lacking, saved, replyNo, Entry, offered, loaded, released, asked, logged, numberIn, Each}
 use Rattle.shelf_laws.specs.Laws.{Never17Nor18}
 use Rattle.shelf_laws.proofs.Ranges.{OfferRange, LoadRange, ReleaseRange, CopyRange, WholeRange, MissingRange, SaveRange, ReplyRange, Range, ranges-from}

@@ -18,10 +18,10 @@ use Rattle.shelf.specs.Record.{placeAt, holds, placeOf, freeOf}
 use Rattle.shelf.specs.declared.Key.{Key}
 use Rattle.file.specs.Scan.{scanOf}
 use Rattle.file.specs.declared.Scan.{Scan}
-use Rattle.offer.specs.Offer as Offer
-use Rattle.release.specs.Release as Release
-use Rattle.load.specs.Load as Load
-use Rattle.load.specs.Load.{storedBelow}
+use Rattle.shelf_offer.specs.Offer as Offer
+use Rattle.shelf_release.specs.Release as Release
+use Rattle.shelf_load.specs.Load as Load
+use Rattle.shelf_load.specs.Load.{storedBelow}
 use Rattle.shelf_laws.specs.State.{State}
 use Rattle.shelf_laws.specs.History.{OfBytes, Call, step, after, start, afterAll}
 use Rattle.shelf_laws.proofs.Offering as Offering

@@ -17,8 +17,8 @@ use Rattle.berth.specs.Berth.{sections, places, berthSize, put, wipedWhere, sta
 use Rattle.berth.proofs.Berths.{where-length, where-spared}
 use Rattle.shelf.specs.Record.{placeAt, holds, sameKey, hasKey, placeOf, freeOf}
 use Rattle.shelf.specs.declared.Key.{Key}
-use Rattle.offer.specs.Offer.{After}
-use Rattle.offer.specs.declared.Offered.{Offered}
+use Rattle.shelf_offer.specs.Offer.{After}
+use Rattle.shelf_offer.specs.declared.Offered.{Offered}
 use Rattle.shelf_laws.specs.State.{State, offerTo, afterOffer}
 use Rattle.shelf_laws.specs.Named.{keyIn, ownPlace}
 use Rattle.shelf_laws.specs.Answers.{begins, joins, stores, accepted}

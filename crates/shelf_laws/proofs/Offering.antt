@@ -18,8 +18,8 @@ use Rattle.section.specs.declared.Reading.{Reading}
 use Rattle.section.specs.declared.Reading.the-variants.{Sound, Refused}
 use Rattle.berth.specs.Berth.{sections, places, storeSize, berthSize, put, wipedWhere, standing}
 use Rattle.shelf.specs.Record.{placeAt, withPlace, lengthAt, holds, spoiledOf, placeOf, freeOf}
-use Rattle.offer.specs.Offer.{After, begunPlace, addedPlace, no, newOf, heldOf, soundOf, readingOf, offerOf}
-use Rattle.offer.specs.declared.Offered.{Offered}
+use Rattle.shelf_offer.specs.Offer.{After, begunPlace, addedPlace, no, newOf, heldOf, soundOf, readingOf, offerOf}
+use Rattle.shelf_offer.specs.declared.Offered.{Offered}
 use Rattle.section.proofs.Laws.{SoundFacts, sound-facts}
 use Rattle.shelf_laws.specs.State.{State, offerTo}
 use Rattle.shelf_laws.specs.Named.{keyIn}

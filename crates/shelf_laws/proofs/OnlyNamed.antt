@@ -19,8 +19,8 @@ use Rattle.section.specs.declared.Reading.the-variants.{Refused}
 use Rattle.berth.specs.Berth.{sections, berthSize, padded, wipedWhere, standing}
 use Rattle.berth.proofs.Berths.{Elsewhere, where-length, where-spared, where-picked}
 use Rattle.shelf.specs.Record.{placeAt, holds, placeOf, freeOf}
-use Rattle.offer.specs.Offer.{After}
-use Rattle.offer.specs.declared.Offered.{Offered}
+use Rattle.shelf_offer.specs.Offer.{After}
+use Rattle.shelf_offer.specs.declared.Offered.{Offered}
 use Rattle.shelf_laws.specs.State.{State, offerTo}
 use Rattle.shelf_laws.specs.Named.{keyIn, ownPlace, offerNames}
 use Rattle.shelf_laws.specs.Answers.{stores}

@@ -12,17 +12,17 @@ use Rattle.section.proofs.ExactlyWhen.{refused-range}
 use Rattle.berth.specs.Berth.{places}
 use Rattle.shelf.specs.Record.{placeOf}
 use Rattle.shelf.specs.declared.Key.{Key}
-use Rattle.offer.specs.Offer as Offer
-use Rattle.offer.specs.declared.Offered.{Offered}
-use Rattle.release.specs.Release as Release
-use Rattle.release.specs.declared.Released.{Released}
-use Rattle.ask.specs.declared.Copied.{Copied}
-use Rattle.ask.specs.declared.Whole.{Whole}
-use Rattle.ask.specs.declared.Missing.{Missing}
+use Rattle.shelf_offer.specs.Offer as Offer
+use Rattle.shelf_offer.specs.declared.Offered.{Offered}
+use Rattle.shelf_release.specs.Release as Release
+use Rattle.shelf_release.specs.declared.Released.{Released}
+use Rattle.shelf_ask.specs.declared.Copied.{Copied}
+use Rattle.shelf_ask.specs.declared.Whole.{Whole}
+use Rattle.shelf_ask.specs.declared.Missing.{Missing}
 use Rattle.file.specs.declared.Scan.{Scan}
-use Rattle.load.specs.Load as Load
-use Rattle.load.specs.declared.Loaded.{Loaded}
-use Rattle.save.specs.declared.Saved.{Saved}
+use Rattle.shelf_load.specs.Load as Load
+use Rattle.shelf_load.specs.declared.Loaded.{Loaded}
+use Rattle.shelf_save.specs.declared.Saved.{Saved}
 use Rattle.shelf_laws.specs.State.{State}
 use Rattle.shelf_laws.specs.History.{Question, Reply, copied, wholly, lacking, saved, about, reply, Call, Entry, offered, loaded, released, asked, entry, step, logged, logOf, start, Each}
 use Rattle.shelf_laws.proofs.Places.{placed}

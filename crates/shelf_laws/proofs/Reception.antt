@@ -26,14 +26,14 @@ use Rattle.section.proofs.ExactlyWhen.{refused-range}
 use Rattle.berth.specs.Berth.{sections, places, standing}
 use Rattle.shelf.specs.Record.{placeAt, sameKey, placeOf}
 use Rattle.shelf.specs.declared.Key.{Key}
-use Rattle.offer.specs.Offer as Offer
-use Rattle.offer.specs.declared.Offered.{Offered}
-use Rattle.release.specs.declared.Released.{Released}
-use Rattle.ask.specs.Ask.{copy, copiedNo}
-use Rattle.ask.specs.declared.Copied.{Copied}
-use Rattle.ask.specs.declared.Whole.{Whole}
+use Rattle.shelf_offer.specs.Offer as Offer
+use Rattle.shelf_offer.specs.declared.Offered.{Offered}
+use Rattle.shelf_release.specs.declared.Released.{Released}
+use Rattle.shelf_ask.specs.Ask.{copy, copiedNo}
+use Rattle.shelf_ask.specs.declared.Copied.{Copied}
+use Rattle.shelf_ask.specs.declared.Whole.{Whole}
 use Rattle.shelf_laws.specs.State.{State, offerTo, loadOn, releaseFrom}
-use Rattle.load.specs.declared.Loaded.{Loaded}
+use Rattle.shelf_load.specs.declared.Loaded.{Loaded}
 use Rattle.shelf_laws.specs.Named.{keyIn}
 use Rattle.shelf_laws.specs.Answers.{begins, joins, accepted, isDone, frees}
 use Rattle.shelf_laws.specs.History.{Call, Entry, offered, loaded, released, asked, entry, step, after, logged, start, afterAll, logOf, copyAfter, wholeAfter, Each}

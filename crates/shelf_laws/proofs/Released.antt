@@ -18,8 +18,8 @@ use Rattle.berth.specs.Berth.{sections, places, storeSize, berthSize, wipedWher
 use Rattle.berth.proofs.Berths.{where-length, where-spared}
 use Rattle.shelf.specs.Record.{freePlace, placeAt, withPlace, sameKey, hasKey, spoiledOf, placeOf}
 use Rattle.shelf.specs.declared.Key.{Key}
-use Rattle.release.specs.Release.{After, releaseOf}
-use Rattle.release.specs.declared.Released.{Released}
+use Rattle.shelf_release.specs.Release.{After, releaseOf}
+use Rattle.shelf_release.specs.declared.Released.{Released}
 use Rattle.shelf_laws.specs.State.{State, releaseFrom, afterRelease}
 use Rattle.shelf_laws.specs.Named.{releaseNames}
 use Rattle.shelf_laws.specs.Answers.{frees}

@@ -20,7 +20,7 @@ use Rattle.berth.specs.Berth.{sections, places, storeSize, put, standing}
 use Rattle.shelf.specs.Record.{placeAt, withPlace, lengthAt, holds, hasKey, placeOf}
 use Rattle.shelf.specs.Record.{Place}
 use Rattle.shelf.proofs.Words.{Wrong, SoundPlace, sound-place}
-use Rattle.offer.specs.Offer.{begunPlace, addedPlace}
+use Rattle.shelf_offer.specs.Offer.{begunPlace, addedPlace}
 use Rattle.shelf_laws.specs.State.{State}
 use Rattle.shelf_laws.specs.Named.{keyIn}
 use Rattle.shelf_laws.proofs.Berths.{Berth, put-here, put-elsewhere, put-length}

@@ -1,8 +1,8 @@
 -- What an answer says of the table.
 use mathlib.Core.Bool.{Bool, true, false}
-use Rattle.offer.specs.declared.Offered.{Offered}
-use Rattle.release.specs.declared.Released.{Released}
-use Rattle.load.specs.declared.Loaded.{Loaded}
+use Rattle.shelf_offer.specs.declared.Offered.{Offered}
+use Rattle.shelf_release.specs.declared.Released.{Released}
+use Rattle.shelf_load.specs.declared.Loaded.{Loaded}
 
 -- the section begins the table: its key was not held, or its version is another
 abbrev pub begins : Offered → Bool

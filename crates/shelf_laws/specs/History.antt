@@ -7,16 +7,16 @@ use Rattle.base.specs.Octets.{Octets}
 use Rattle.berth.specs.Berth.{storeSize}
 use Rattle.shelf.specs.Record.{fresh}
 use Rattle.shelf.specs.declared.Key.{Key}
-use Rattle.offer.specs.Offer as Offer
-use Rattle.offer.specs.declared.Offered.{Offered}
-use Rattle.release.specs.Release as Release
-use Rattle.release.specs.declared.Released.{Released}
-use Rattle.ask.specs.Ask as Ask
-use Rattle.ask.specs.declared.Whole.{Whole}
-use Rattle.ask.specs.declared.Missing.{Missing}
-use Rattle.load.specs.Load as Load
-use Rattle.load.specs.declared.Loaded.{Loaded}
-use Rattle.save.specs.Save as Save
+use Rattle.shelf_offer.specs.Offer as Offer
+use Rattle.shelf_offer.specs.declared.Offered.{Offered}
+use Rattle.shelf_release.specs.Release as Release
+use Rattle.shelf_release.specs.declared.Released.{Released}
+use Rattle.shelf_ask.specs.Ask as Ask
+use Rattle.shelf_ask.specs.declared.Whole.{Whole}
+use Rattle.shelf_ask.specs.declared.Missing.{Missing}
+use Rattle.shelf_load.specs.Load as Load
+use Rattle.shelf_load.specs.declared.Loaded.{Loaded}
+use Rattle.shelf_save.specs.Save as Save
 use Rattle.shelf_laws.specs.State.{State, offerTo, loadOn, releaseFrom, copyOut, wholeIn, missingIn, saveOut, afterOffer, afterLoad, afterRelease}
 
 pub data Question : Type 0 where

@@ -9,12 +9,12 @@ use Rattle.section.specs.Section.{sectionNumber}
 use Rattle.berth.specs.Berth.{sections, storeSize, berthSize, standing}
 use Rattle.shelf.specs.Record.{fresh}
 use Rattle.shelf.specs.declared.Key.{Key}
-use Rattle.offer.specs.declared.Offered.{Offered}
-use Rattle.release.specs.declared.Released.{Released}
-use Rattle.load.specs.declared.Loaded.{Loaded}
-use Rattle.ask.specs.Ask.{copy, copiedNo}
-use Rattle.ask.specs.declared.Copied.{Copied}
-use Rattle.ask.specs.declared.Whole.{Whole}
+use Rattle.shelf_offer.specs.declared.Offered.{Offered}
+use Rattle.shelf_release.specs.declared.Released.{Released}
+use Rattle.shelf_load.specs.declared.Loaded.{Loaded}
+use Rattle.shelf_ask.specs.Ask.{copy, copiedNo}
+use Rattle.shelf_ask.specs.declared.Copied.{Copied}
+use Rattle.shelf_ask.specs.declared.Whole.{Whole}
 use Rattle.shelf_laws.specs.State.{State, Formed, offerTo, loadOn, releaseFrom, copyOut, afterOffer, afterLoad}
 use Rattle.shelf_laws.specs.Named.{keyIn, offerNames, loadNames, releaseNames}
 use Rattle.shelf_laws.specs.Answers.{accepted}

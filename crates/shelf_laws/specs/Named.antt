@@ -10,9 +10,9 @@ use Rattle.shelf.specs.Record.{placeAt, holds, placeOf, freeOf}
 use Rattle.shelf.specs.declared.Key.{Key}
 use Rattle.shelf.specs.Record.{Shelf}
 use Rattle.shelf.specs.Record.{keyOf}
-use Rattle.offer.specs.declared.Offered.{Offered}
-use Rattle.release.specs.declared.Released.{Released}
-use Rattle.load.specs.declared.Loaded.{Loaded}
+use Rattle.shelf_offer.specs.declared.Offered.{Offered}
+use Rattle.shelf_release.specs.declared.Released.{Released}
+use Rattle.shelf_load.specs.declared.Loaded.{Loaded}
 use Rattle.shelf_laws.specs.File.{carries}
 
 -- the key in a payload's header

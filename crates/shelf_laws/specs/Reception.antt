@@ -6,9 +6,9 @@ use mathlib.Core.Bool.{true}
 use Rattle.section.specs.Section.{readOf, headerOf, version, sectionNumber, lastSectionNumber}
 use Rattle.section.specs.declared.Reading.the-variants.{Sound}
 use Rattle.shelf.specs.declared.Key.{Key}
-use Rattle.offer.specs.declared.Offered.{Offered}
-use Rattle.release.specs.declared.Released.{Released}
-use Rattle.load.specs.declared.Loaded.{Loaded}
+use Rattle.shelf_offer.specs.declared.Offered.{Offered}
+use Rattle.shelf_release.specs.declared.Released.{Released}
+use Rattle.shelf_load.specs.declared.Loaded.{Loaded}
 use Rattle.shelf_laws.specs.Named.{keyIn}
 use Rattle.shelf_laws.specs.History.{Call, Entry, offer, offered, loaded, released, asked}
 use Rattle.shelf_laws.specs.Log.{loads}

@@ -7,13 +7,13 @@ use Rattle.berth.specs.Berth.{places, sections}
 use Rattle.shelf.specs.Record.{placeAt}
 use Rattle.shelf.specs.declared.Key.{Key}
 use Rattle.shelf.specs.Record.{Shelf}
-use Rattle.offer.specs.Offer as Offer
-use Rattle.release.specs.Release as Release
-use Rattle.ask.specs.Ask as Ask
-use Rattle.ask.specs.declared.Whole.{Whole}
-use Rattle.ask.specs.declared.Missing.{Missing}
-use Rattle.load.specs.Load as Load
-use Rattle.save.specs.Save as Save
+use Rattle.shelf_offer.specs.Offer as Offer
+use Rattle.shelf_release.specs.Release as Release
+use Rattle.shelf_ask.specs.Ask as Ask
+use Rattle.shelf_ask.specs.declared.Whole.{Whole}
+use Rattle.shelf_ask.specs.declared.Missing.{Missing}
+use Rattle.shelf_load.specs.Load as Load
+use Rattle.shelf_save.specs.Save as Save
 
 pub record State : Type 0 where
   pub shelf : Shelf

@@ -64,12 +64,6 @@ pub enum Answer {
     Refused(u8),
 }
 
-fn wide(x: u16) -> usize
-    ensures { λ r. ⌜ r ≡ x ⌝ }
-{
-    x as usize
-}
-
 // The 16-bit number at a place.
 fn word_at(payload: &[u8], at: usize) -> u16
     requires { ⌜ at + 2 ≤ length (now payload) ⌝ }
@@ -100,7 +94,7 @@ fn id_of(given: u16) -> Extent
             length: 0,
         };
     }
-    let length = wide(given) - LENGTH;
+    let length = base::wide(given) - LENGTH;
     Extent {
         place: ID_AT,
         length,
@@ -128,7 +122,7 @@ fn target_of(payload: &[u8], at: usize) -> Target
     ensures { λ r. ⌜ r ≡ targetOf (now (payload .entry)) at ⌝ }
 {
     let kind = payload[at];
-    let length = wide(word_at(payload, at + 1));
+    let length = base::wide(word_at(payload, at + 1));
     let place = at + TARGET_HEAD;
     if length == 0 {
         return Target::None;
@@ -153,7 +147,7 @@ fn trigger_of(payload: &[u8], at: usize, tail: usize) -> Trigger
     let description = description_of(payload, idlength);
     let id = id_of(idlength);
     let target = target_of(payload, at);
-    let length = wide(word_at(payload, tail));
+    let length = base::wide(word_at(payload, tail));
     let place = tail + LENGTH;
     let user = Extent { place, length };
     Trigger {

@@ -59,12 +59,6 @@ pub enum Parts {
     Placed(usize, usize),
 }
 
-fn wide(x: u16) -> usize
-    ensures { λ r. ⌜ r ≡ x ⌝ }
-{
-    x as usize
-}
-
 // The 16-bit number at a place.
 fn word_at(payload: &[u8], at: usize) -> u16
     requires { ⌜ at + 2 ≤ length (now payload) ⌝ }
@@ -128,7 +122,7 @@ fn head_fault(payload: &[u8]) -> u8
     if size < NAME_AT {
         return CUT_OFF;
     }
-    let length = wide(word_at(payload, 1));
+    let length = base::wide(word_at(payload, 1));
     if length == 1 {
         return FORBIDDEN_ID_LENGTH;
     }
@@ -148,7 +142,7 @@ fn target_fault(payload: &[u8], at: usize) -> u8
         return CUT_OFF;
     }
     let kind = payload[at];
-    let length = wide(word_at(payload, at + 1));
+    let length = base::wide(word_at(payload, at + 1));
     let after = at + TARGET_HEAD + length;
     let wrong = is_wrong_length(kind, length);
     if wrong {
@@ -174,7 +168,7 @@ fn user_fault(payload: &[u8], at: usize) -> u8
     if size < at + LENGTH {
         return CUT_OFF;
     }
-    let length = wide(word_at(payload, at));
+    let length = base::wide(word_at(payload, at));
     let end = at + LENGTH + length;
     if size < end {
         return CUT_OFF;
@@ -193,12 +187,12 @@ pub fn parts_of(payload: &[u8]) -> Parts
     if head != 0 {
         return Parts::Faulty(head);
     }
-    let at = NAME_AT + wide(word_at(payload, 1));
+    let at = NAME_AT + base::wide(word_at(payload, 1));
     let aim = target_fault(payload, at);
     if aim != 0 {
         return Parts::Faulty(aim);
     }
-    let tail = at + TARGET_HEAD + wide(word_at(payload, at + 1));
+    let tail = at + TARGET_HEAD + base::wide(word_at(payload, at + 1));
     let left = user_fault(payload, tail);
     if left != 0 {
         return Parts::Faulty(left);

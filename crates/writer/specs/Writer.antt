@@ -5,17 +5,18 @@ use lib.Dec.{ltb}
 use lib.ListN.{length, drop}
 use Rattle.base.specs.Choice.{Row, _if_, first, if_then_else_}
 use Rattle.base.specs.Bytes.{part}
+use Rattle.section.specs.Section.{headerSize, largestSection, mostSections}
 use Rattle.writer.specs.declared.Counted.{Counted}
 use Rattle.writer.specs.declared.Label.{Label}
 use Rattle.writer.specs.declared.Written.{Written}
 
--- the bytes of a full body
+-- the bytes of a full body, 1,016
 abbrev pub full : ℕ
-full = 1016
+full = largestSection - headerSize
 
 -- a body of up to 16,256 bytes: 16 bodies of 1,016
 abbrev pub most : ℕ
-most = 16 * full
+most = mostSections * full
 
 -- the last section number, with as few sections as will do: each body full but the last. An empty body gives one section,
 -- since 0 - 1 is 0 here; that no fewer will do is a law (proofs/Fewest.antt)

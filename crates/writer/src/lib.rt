@@ -33,17 +33,11 @@ pub const VERSION_ABOVE_31: u8 = 41;
 
 pub const K_ABOVE_LAST: u8 = 42;
 
-pub const OUTPUT_TOO_SMALL: u8 = 15;
-
 // The longest body of one section, and of a table.
-pub const FULL: usize = 1016;
+pub const FULL: usize = section::LARGEST - section::HEADER;
 
-pub const MOST: usize = 16256;
+pub const MOST: usize = section::SECTIONS * FULL;
 
-pub const HIGHEST_VERSION: u8 = 31;
-
-// The bytes that the section length counts before the body.
-const COUNTED: usize = 5;
 // Private indicator 1 with both reserved bits 1, and the two reserved bits before the version.
 const INDICATORS: usize = 112;
 
@@ -89,7 +83,7 @@ fn header(label: Label, k: u8, last: u8, length: usize) -> [u8; 8]
     requires { ⌜ (length ≤ 1016) × (label .version ≤ 31) ⌝ }
     ensures { λ r. ⌜ r ≡ headerOf label k last length ⌝ }
 {
-    let counted = COUNTED + length;
+    let counted = section::SHORTEST + length;
     let high = (INDICATORS + counted / 256) as u8;
     let low = (counted % 256) as u8;
     let upper = (label.extension / 256) as u8;
@@ -115,7 +109,7 @@ pub fn write_section(label: Label, body: &[u8], k: u8, out: &mut [u8]) -> Writte
     if MOST < body.len() {
         return Written::Refused(BODY_TOO_LONG);
     }
-    if HIGHEST_VERSION < label.version {
+    if section::HIGHEST_VERSION < label.version {
         return Written::Refused(VERSION_ABOVE_31);
     }
     let last = last_of(body.len());
@@ -127,7 +121,7 @@ pub fn write_section(label: Label, body: &[u8], k: u8, out: &mut [u8]) -> Writte
     let end = end_of(body.len(), start);
     let size = section::HEADER + (end - start);
     if out.len() < size {
-        return Written::Refused(OUTPUT_TOO_SMALL);
+        return Written::Refused(answers::OUTPUT_TOO_SMALL);
     }
     let last_number = last as u8;
     fill(label, k, last_number, &body[start..end], &mut out[..size]);

@@ -24,14 +24,14 @@ use Rattle.file.specs.declared.Scan.{Scan}
 use Rattle.file.proofs.Found.{sound-header}
 use Rattle.file.proofs.Held.{Lies, held}
 use Rattle.file_laws.proofs.Accepts.{accepted-as, in-one-way}
-use Rattle.listing.specs.Words.{lines}
-use Rattle.listing.specs.Listing.{headLine, sectionLine, completeLine, sectionOf, endOf, tableText, textOf}
+use Rattle.file_listing.specs.Words.{lines}
+use Rattle.file_listing.specs.Listing.{headLine, sectionLine, completeLine, sectionOf, endOf, tableText, textOf}
 use Rattle.writer.specs.Writer.{most, lastOf, bodyAt, written}
 use Rattle.writer.specs.declared.Label.{Label}
 use Rattle.writer.proofs.Laws.{last-le, length-section}
 use Rattle.writer.proofs.Agree.{found}
-use Rattle.feeding.specs.Feeding.{sectionsBelow, sectionsOf, feedFile}
-use Rattle.feeding.proofs.Sizes.{sections-count}
+use Rattle.writer_file.specs.Feeding.{sectionsBelow, sectionsOf, feedFile}
+use Rattle.writer_file.proofs.Sizes.{sections-count}
 use Rattle.writer_laws.specs.Laws.{SoundSections, FileAccepted, FileHolds, FileListed}
 use Rattle.writer_laws.proofs.Sections.{its-header, is-section, its-number}
 use Rattle.writer_laws.proofs.Among.{mem-front, mem-last, mem-chosen}

@@ -4,3 +4,4 @@ pub mod AnyOrder
 pub mod Example
 pub mod Among
 pub mod Files
+pub mod Longest

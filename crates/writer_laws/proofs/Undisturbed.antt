@@ -14,8 +14,8 @@ use Rattle.section.specs.declared.Reading.the-variants.{Sound, Refused}
 use Rattle.berth.specs.Berth.{places}
 use Rattle.shelf.specs.Record.{fresh, placeOf, freeOf}
 use Rattle.shelf.specs.declared.Key.{Key}
-use Rattle.offer.specs.Offer as Offer
-use Rattle.offer.specs.declared.Offered.{Offered}
+use Rattle.shelf_offer.specs.Offer as Offer
+use Rattle.shelf_offer.specs.declared.Offered.{Offered}
 use Rattle.shelf_laws.specs.State.{State}
 use Rattle.shelf_laws.specs.Named.{keyIn}
 use Rattle.shelf_laws.specs.History.{Call, Entry, entry, step, logged, start, logOf, Each}

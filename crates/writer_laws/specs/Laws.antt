@@ -5,19 +5,19 @@ use mathlib.Core.Path.{_≡_}
 use mathlib.Core.List.{List, _++_}
 use lib.ListN.{length, drop}
 use Rattle.section.specs.declared.Header.{Header}
-use Rattle.ask.specs.Ask.{copy}
-use Rattle.ask.specs.declared.Copied.{Copied}
-use Rattle.ask.specs.declared.Whole.{Whole}
+use Rattle.shelf_ask.specs.Ask.{copy}
+use Rattle.shelf_ask.specs.declared.Copied.{Copied}
+use Rattle.shelf_ask.specs.declared.Whole.{Whole}
 use Rattle.file.specs.Layout.{SoundTable}
 use Rattle.file.specs.Scan.{scanOf, tableIn}
 use Rattle.file.specs.declared.Scan.{Scan}
-use Rattle.listing.specs.Words.{lines}
-use Rattle.listing.specs.Listing.{headLine, sectionLine, completeLine, textOf}
+use Rattle.file_listing.specs.Words.{lines}
+use Rattle.file_listing.specs.Listing.{headLine, sectionLine, completeLine, textOf}
 use Rattle.shelf_laws.specs.History.{Call, logOf, copyAfter, wholeAfter, Each}
 use Rattle.shelf_laws.specs.Reception.{OfferedIn, Undisturbed}
 use Rattle.writer.specs.Writer.{most, lastOf, bodyAt, written}
 use Rattle.writer.specs.Theorems.{found}
-use Rattle.feeding.specs.Feeding.{sectionsOf, feedFile}
+use Rattle.writer_file.specs.Feeding.{sectionsOf, feedFile}
 use Rattle.writer.specs.declared.Label.{Label}
 use Rattle.writer_laws.specs.Offers.{keyOf, offersOf, AnyOrder, bodiesAfter}
 

@@ -4,8 +4,8 @@ use Prim.Native.Nat.{ℕ, zero, suc, _≤_}
 use mathlib.Core.List.{List, [], _∷_, _++_, List·Memᴰ}
 use lib.ListN.{take, drop}
 use Rattle.shelf.specs.declared.Key.{Key}
-use Rattle.ask.specs.Ask.{Copy}
-use Rattle.ask.specs.declared.Copied.{Copied}
+use Rattle.shelf_ask.specs.Ask.{Copy}
+use Rattle.shelf_ask.specs.declared.Copied.{Copied}
 use Rattle.shelf_laws.specs.History.{Call, copyAfter}
 use Rattle.writer.specs.Writer.{written}
 use Rattle.writer.specs.declared.Label.{Label}

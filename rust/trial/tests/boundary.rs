@@ -68,16 +68,25 @@ fn no_exported_function_asks() {
     }
 }
 
-/// The boundary's crate and those that it may call. A crate beside them may have a name of theirs for a number of its own.
+/// The boundary's crate and all that it reaches. A crate beside them may have a name of theirs for a number of its own.
 fn reached() -> Vec<String> {
     let list = text(top("crates.txt"));
-    let line = list
+    let calls: BTreeMap<&str, &str> = list
         .lines()
-        .find_map(|line| line.strip_prefix("khumsafil:"));
-    let called = line.expect("the boundary's crate").split_whitespace();
-    let all = called.map(str::to_string).chain(["khumsafil".to_string()]);
-    all.filter(|name| top("crates").join(name).is_dir())
-        .collect()
+        .filter_map(|line| line.split_once(':'))
+        .collect();
+    let mut found = vec!["khumsafil".to_string()];
+    let mut next = 0;
+    while next < found.len() {
+        let line = calls.get(found[next].as_str()).copied().unwrap_or("");
+        for name in line.split_whitespace() {
+            if top("crates").join(name).is_dir() && !found.iter().any(|known| known == name) {
+                found.push(name.to_string());
+            }
+        }
+        next += 1;
+    }
+    found
 }
 
 /// Each number of refusal has one name and one number, in the header, the wrapper and the Rattle source. There it

@@ -1,13 +1,13 @@
--- `clock_fresh` meets its promise.
-use mathlib.Core.Path.{_≡_, ap, _∙_}
-use Rattle.clock_answers.specs.Clock.{Called, unchanged, freshCall}
-use Rattle.clock_answers.proofs.Calls.{put, fresh-35, fresh-put}
+-- `clock_fresh` leaves by the ways of its meaning.
+use mathlib.Core.Path.{ap, _∙_}
+use Rattle.clock_answers.specs.Calls.{Called}
+use Rattle.clock_answers.proofs.Calls.{fresh-35, fresh-put}
 use borrow.Author.Needs.{needs}
 use Rattle.clock_answers.proofs.clock_fresh.Statement.{statement}
 use Rattle.clock_answers.proofs.clock_fresh.Tie as tie
 
 returns : tie.Need-returns
-returns c = let w = c .before .before .args .words .now in let e : unchanged w 35 ≡ freshCall w = fresh-35 w (c .if1 .taken) in (ap (λ (x : Called). x .answer) e, ap (λ (x : Called). x .words) e)
+returns c = let e = fresh-35 (c .before .before .args .words .now) (c .if1 .taken) in (ap (λ (x : Called). x .answer) e, ap (λ (x : Called). x .words) e)
 
 fresh-requires : tie.Need-fresh-requires
 fresh-requires c κs = search needs
@@ -20,9 +20,8 @@ same-length c = search needs
 
 returns-2 : tie.Need-returns-2
 returns-2 c = let w = c .before .before .before .before .before .before .before .args .words .now in
-    let e : put w 0 (c .before .before .before .before .fresh .result) ≡ freshCall w = fresh-put w (c .before .before .before .before .fresh .result) (c .before .before .before .before .before .if1 .left) (c .before .before .before .before .fresh .ensures) in
+    let e = fresh-put w (c .before .before .before .before .fresh .result) (c .before .before .before .before .before .if1 .left) (c .before .before .before .before .fresh .ensures) in
     (ap (λ (x : Called). x .answer) e, c .before .before .put .ensures ∙ ap (λ (x : Called). x .words) e)
 
 pub clock-fresh-spec : {M : Type 1} → statement M
-clock-fresh-spec =
-    tie.close (tie.spec returns fresh-requires put-requires same-length returns-2)
+clock-fresh-spec = tie.close (tie.spec returns fresh-requires put-requires same-length returns-2)

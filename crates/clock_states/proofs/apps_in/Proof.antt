@@ -1,6 +1,6 @@
 -- `apps_in` meets its promise: eight parts of the word.
 use native.Mathlib.Nat.{div-one}
-use Rattle.clock_states.specs.Numbers.{upTo}
+use Rattle.clock_states.specs.UpTo.{upTo}
 use Rattle.clock_states.specs.States.{appsIn}
 use borrow.Author.Needs.{needs}
 use Rattle.clock_states.proofs.apps_in.Statement.{statement}

@@ -1,8 +1,8 @@
 -- `file::read_count` meets its promise: each way is a law of `Front`.
 use mathlib.Core.Path.{_≡_, sym, ap, _∙_}
 use borrow.Author.Needs.{needs}
-use Rattle.number.specs.Number.{numberAt}
-use Rattle.number.specs.declared.Number.{Number}
+use Rattle.file_number.specs.Number.{numberAt}
+use Rattle.file_number.specs.declared.Number.{Number}
 use Rattle.file.specs.Scan.{nothing, sectionsOf}
 use Rattle.file.proofs.Front.{no-count, few, many, counted}
 use Rattle.file.proofs.read_count.Statement.{statement}

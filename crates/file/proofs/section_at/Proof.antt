@@ -3,13 +3,13 @@ use mathlib.Core.Path.{_≡_, sym, ap, _∙_}
 use Prim.Native.Nat.{_+_, _-_}
 use native.Mathlib.Omega.{arith}
 use borrow.Author.Needs.{needs}
-use Rattle.number.specs.Number.{numberAt}
-use Rattle.number.specs.declared.Number.{Number}
+use Rattle.file_number.specs.Number.{numberAt}
+use Rattle.file_number.specs.declared.Number.{Number}
 use Rattle.file.specs.Scan.{readingOf, sectionAt}
 use Rattle.file.proofs.Parts.{no-number, short, long, past, read-as}
 use Rattle.file.proofs.section_at.Statement.{statement}
 use Rattle.file.proofs.section_at.Tie as tie
-use Rattle.number.proofs.Bounds.{within}
+use Rattle.file_number.proofs.Bounds.{within}
 
 read-number-requires : tie.Need-read-number-requires
 read-number-requires c κs = search needs

@@ -6,7 +6,7 @@ use Rattle.trigger.proofs.id_of.Statement.{statement}
 use Rattle.trigger.proofs.id_of.Tie as tie
 use Rattle.trigger.proofs.id_of.Reads as reads
 use Rattle.trigger.proofs.id_of.Lts as lts
-use Rattle.trigger.proofs.wide.Reads as wide-reads
+use Rattle.base.proofs.wide.Reads as wide-reads
 
 returns : tie.Need-returns
 unfolding idOf

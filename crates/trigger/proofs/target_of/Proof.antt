@@ -14,7 +14,7 @@ use Rattle.trigger.proofs.target_of.Tie as tie
 use Rattle.trigger.proofs.target_of.Reads as reads
 use Rattle.trigger.proofs.target_of.Lts as lts
 use Rattle.trigger.proofs.module_at.Reads as module-at-reads
-use Rattle.trigger.proofs.wide.Reads as wide-reads
+use Rattle.base.proofs.wide.Reads as wide-reads
 use Rattle.trigger.proofs.word_at.Reads as word-at-reads
 
 -- the target has no fault

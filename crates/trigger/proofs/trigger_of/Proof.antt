@@ -15,7 +15,7 @@ use Rattle.trigger.proofs.trigger_of.Lts as lts
 use Rattle.trigger.proofs.description_of.Reads as description-of-reads
 use Rattle.trigger.proofs.id_of.Reads as id-of-reads
 use Rattle.trigger.proofs.target_of.Reads as target-of-reads
-use Rattle.trigger.proofs.wide.Reads as wide-reads
+use Rattle.base.proofs.wide.Reads as wide-reads
 use Rattle.trigger.proofs.word_at.Reads as word-at-reads
 
 word-at-requires : tie.Need-word-at-requires

@@ -9,7 +9,7 @@ use Rattle.trigger_faults.proofs.head_fault.Statement.{statement}
 use Rattle.trigger_faults.proofs.head_fault.Tie as tie
 use Rattle.trigger_faults.proofs.head_fault.Reads as reads
 use Rattle.trigger_faults.proofs.head_fault.Lts as lts
-use Rattle.trigger_faults.proofs.wide.Reads as wide-reads
+use Rattle.base.proofs.wide.Reads as wide-reads
 use Rattle.trigger_faults.proofs.word_at.Reads as word-at-reads
 
 returns : tie.Need-returns

@@ -16,7 +16,7 @@ use Rattle.trigger_faults.proofs.parts_of.Lts as lts
 use Rattle.trigger_faults.proofs.head_fault.Reads as head-fault-reads
 use Rattle.trigger_faults.proofs.target_fault.Reads as target-fault-reads
 use Rattle.trigger_faults.proofs.user_fault.Reads as user-fault-reads
-use Rattle.trigger_faults.proofs.wide.Reads as wide-reads
+use Rattle.base.proofs.wide.Reads as wide-reads
 use Rattle.trigger_faults.proofs.word_at.Reads as word-at-reads
 
 -- the head has no fault

@@ -13,7 +13,7 @@ use Rattle.trigger_faults.proofs.target_fault.Lts as lts
 use Rattle.trigger_faults.proofs.is_high.Reads as is-high-reads
 use Rattle.trigger_faults.proofs.is_uri.Reads as is-uri-reads
 use Rattle.trigger_faults.proofs.is_wrong_length.Reads as is-wrong-length-reads
-use Rattle.trigger_faults.proofs.wide.Reads as wide-reads
+use Rattle.base.proofs.wide.Reads as wide-reads
 use Rattle.trigger_faults.proofs.word_at.Reads as word-at-reads
 
 add-if1 : tie.Need-add-if1

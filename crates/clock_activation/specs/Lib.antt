@@ -1,0 +1,4 @@
+pub mod Limits
+pub mod Activation
+pub mod Code
+pub mod Places

@@ -1,0 +1,78 @@
+-- What is demanded of the clock, of the exported functions' own promises.
+--   demands   `ClockDemands`: the history, kept, never-35 and accepted-33
+use mathlib.Core.Path.{_≡_, sym, ap, subst, _∙_}
+use mathlib.Core.Bool.{false}
+use mathlib.Core.List.{List}
+use Prim.Native.Nat.{ℕ, _+_, _≤_}
+use native.Mathlib.Omega.{arith}
+use lib.Dec.{ltb}
+use lib.ListN.{length}
+use borrow.Author.Tests.{eq-eqb, le-ltb}
+use Rattle.base.proofs.Cases.{by, unlike}
+use Rattle.clock_activation.specs.declared.Activation.{Activation}
+use Rattle.clock_record.specs.Lists.{All}
+use Rattle.clock_record.specs.Book.{Book, spoiled}
+use Rattle.clock_record.specs.Words.{bookIn}
+use Rattle.clock_record.proofs.Lists.{all-map}
+use Rattle.clock.specs.Offer.{offerIn, refused}
+use Rattle.clock.specs.Codes.{refusalOf}
+use Rattle.clock_laws.specs.History.{Account, after}
+use Rattle.clock_laws.specs.Promise.{Kept, Again}
+use Rattle.clock_laws.proofs.Words.{spoiled-true}
+use Rattle.clock_laws.proofs.Exactly.{offer-when, move-when, time-when, state-when}
+use Rattle.clock_laws.proofs.Kept.{kept, accepted-33}
+use Rattle.clock_answers.specs.Calls.{activation, heardIn, offerCall}
+use Rattle.clock_demands.specs.Host.{HostCall, layerCalls, codeIn, hostAfter}
+use Rattle.clock_demands.specs.Demands.{HostHistory, HostKept, Never35, HostAgain, Accepted33, ClockDemands}
+use Rattle.clock_demands.proofs.Boundary.{answered-code}
+use Rattle.clock_demands.proofs.History.{host-history}
+
+module _ (w : List ℕ) (h : List HostCall) (r : HostHistory w h) where
+  -- the layer's moment is the host's
+  same-book : after (layerCalls h) .book ≡ bookIn (hostAfter w h .words)
+  same-book = sym (r .book) ∙ ap bookIn (sym (r .words))
+
+  same-account : after (layerCalls h) .account ≡ hostAfter w h .account
+  same-account = sym (r .account)
+
+  host-kept : HostKept w h
+  host-kept =
+      subst (λ (b : Book). Kept (record { book = b; account = hostAfter w h .account })) same-book
+      (subst (λ (k : Account). Kept (record { book = after (layerCalls h) .book; account = k })) same-account (kept (layerCalls h)))
+
+  long : length (hostAfter w h .words) ≡ 67
+  long = ap length (r .words) ∙ r .long
+
+  sound : spoiled (bookIn (hostAfter w h .words)) ≡ false
+  sound = host-kept .sound
+
+  code-35 : (x : HostCall) → refusalOf (codeIn (bookIn (hostAfter w h .words)) x) ≡ 35 → ⊥
+  code-35 (HostCall.offer p e x t) q =
+      by (ltb 3 x)
+      (λ u. absurd (let n : _≡_ {A = ℕ} 255 35 = rw u at q in omega arith))
+      (λ u. unlike (sym (spoiled-true _ (offer-when (bookIn (hostAfter w h .words)) (activation p e x t) .no35 .0 (rw u at q))) ∙ sound))
+  code-35 (HostCall.move to) q = unlike (sym (spoiled-true _ (move-when (bookIn (hostAfter w h .words)) to .no35 .0 q)) ∙ sound)
+  code-35 HostCall.askTime q = unlike (sym (spoiled-true _ (time-when (bookIn (hostAfter w h .words)) .0 q)) ∙ sound)
+  code-35 (HostCall.askState n) q = unlike (sym (spoiled-true _ (state-when (bookIn (hostAfter w h .words)) n .no35 .0 q)) ∙ sound)
+
+  host-35 : Never35 w h
+  host-35 x q = code-35 x (ap refusalOf (sym (answered-code (hostAfter w h .words) long x)) ∙ q)
+
+  again : (a : Activation) → Again (after (layerCalls h) .book) a → HostAgain (hostAfter w h .words) a
+  unfolding offerCall
+  again a g application event action time small one young =
+      let v : List ℕ = hostAfter w h .words in
+      let o : offerIn (bookIn v) (activation application event action time) ≡ refused (bookIn v) 33 =
+      subst (λ (b : Book). offerIn b (activation application event action time) ≡ refused b 33) same-book
+      (g (activation application event action time) one (subst (λ (b : Book). b .now ≤ time + 60000) (sym same-book) young)) in
+      rw (le-ltb _ _ small, eq-eqb _ _ long) (ap (heardIn v) o)
+
+  host-33 : Accepted33 w h
+  host-33 =
+      subst (λ (k : Account). All (HostAgain (hostAfter w h .words)) (k .accepted)) same-account
+      (all-map (Again (after (layerCalls h) .book)) (HostAgain (hostAfter w h .words)) again (after (layerCalls h) .account .accepted) (accepted-33 (layerCalls h)))
+
+pub demands : ClockDemands
+demands w z h f =
+    let r = host-history w z h f in
+    record { history = r; kept = host-kept w h r; never-35 = host-35 w h r; accepted-33 = host-33 w h r }

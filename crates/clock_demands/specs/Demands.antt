@@ -1,0 +1,53 @@
+-- What is demanded of the clock over any history of the host's calls, from 67 words that were made fresh.
+use Prim.Native.Nat.{ℕ, _+_, _≤_}
+use mathlib.Core.Path.{_≡_}
+use mathlib.Core.List.{List}
+use lib.ListN.{length}
+use Rattle.clock_activation.specs.declared.Activation.{Activation}
+use Rattle.clock_activation.specs.Limits.{memory}
+use Rattle.clock_record.specs.Lists.{All}
+use Rattle.clock_record.specs.Book.{fresh}
+use Rattle.clock_record.specs.Words.{recordSize, bookIn}
+use Rattle.clock.specs.Spoiled.{One}
+use Rattle.clock.specs.Codes.{refusalOf}
+use Rattle.clock_laws.specs.History.{after}
+use Rattle.clock_laws.specs.Promise.{Kept}
+use Rattle.clock_answers.specs.Calls.{activation, unchanged, freshCall, offerCall}
+use Rattle.clock_demands.specs.Host.{HostCall, Typed, answered, leftBy, answeredBy, layerCalls, codesBy, hostAfter}
+
+-- the words are the record of the layer's history of the same calls, every answer is the number for that history's answer, and
+-- the host's account is that history's
+pub record HostHistory (w : List ℕ) (h : List HostCall) : Type 0 where
+  pub long : length (leftBy (freshCall w .words) h) ≡ recordSize
+  pub book : bookIn (leftBy (freshCall w .words) h) ≡ after (layerCalls h) .book
+  pub answers : answeredBy (freshCall w .words) h ≡ codesBy fresh h
+  pub words : hostAfter w h .words ≡ leftBy (freshCall w .words) h
+  pub account : hostAfter w h .account ≡ after (layerCalls h) .account
+
+-- each accepted activation is applied exactly once or still waits, and it waits only while its time is ahead of the clock; this
+-- and more, of the host's account and of what the words say
+abbrev pub HostKept : List ℕ → List HostCall → Type 0
+HostKept w h = Kept (record { book = bookIn (hostAfter w h .words); account = hostAfter w h .account })
+
+-- no call of a history is answered 35
+abbrev pub Never35 : List ℕ → List HostCall → Type 0
+Never35 w h = (x : HostCall) → refusalOf (answered (hostAfter w h .words) x) ≡ 35 → ⊥
+
+-- an accepted activation that is offered again within its memory, with whatever action, is answered 33 and changes nothing
+abbrev pub HostAgain : List ℕ → Activation → Type 0
+HostAgain w a =
+    (application event action time : ℕ) → action ≤ 3 → One (activation application event action time) a → bookIn w .now ≤ time + memory
+    → offerCall w application event action time ≡ unchanged w 33
+
+abbrev pub Accepted33 : List ℕ → List HostCall → Type 0
+Accepted33 w h = All (HostAgain (hostAfter w h .words)) (hostAfter w h .account .accepted)
+
+-- all of it
+pub record Demanded (w : List ℕ) (h : List HostCall) : Type 0 where
+  pub history : HostHistory w h
+  pub kept : HostKept w h
+  pub never-35 : Never35 w h
+  pub accepted-33 : Accepted33 w h
+
+abbrev pub ClockDemands : Type 0
+ClockDemands = (w : List ℕ) → length w ≡ recordSize → (h : List HostCall) → All Typed h → Demanded w h

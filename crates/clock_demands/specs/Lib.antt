@@ -1,0 +1,3 @@
+pub mod Host
+pub mod Boundary
+pub mod Demands

@@ -1,0 +1,1 @@
+// What is demanded of the clock, stated about the exported functions' own promises. There is no code here.

@@ -1,4 +1,0 @@
-pub mod Held
-pub mod Cases
-pub mod Kept
-pub mod Few

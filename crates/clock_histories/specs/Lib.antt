@@ -1,2 +1,0 @@
-pub mod History
-pub mod Promise

@@ -1,1 +1,0 @@
-// What holds over every history of a clock from fresh. There is no code here.

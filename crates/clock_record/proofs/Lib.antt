@@ -1,0 +1,5 @@
+pub mod Lists
+pub mod Waiting
+pub mod Scan
+pub mod Back
+pub mod Places

@@ -1,3 +1,0 @@
--- What is proved of a record's words beside the functions' promises.
-pub mod Laws
-pub mod Back

@@ -1,0 +1,71 @@
+-- Offering in two parts: the step that an offer comes to, and what is then done. `Offer` has the whole; a law says that it is these two.
+use Prim.Native.Nat.{ℕ}
+use mathlib.Core.List.{List}
+use mathlib.Core.Bool.{Bool, not}
+use lib.Dec.{eqb}
+use lib.ListN.{length}
+use Rattle.base.specs.Choice.{if_then_else_}
+use Rattle.base.specs.Bytes.{same}
+use Rattle.section.specs.Section.{readOf}
+use Rattle.section.specs.declared.Header.{Header}
+use Rattle.section.specs.declared.Reading.{Reading}
+use Rattle.section.specs.declared.Reading.the-variants as reading
+use Rattle.berth.specs.Berth.{sections, places, storeSize, put, wipedWhere, standing}
+use Rattle.shelf.specs.Record.{placeAt, withPlace, lengthAt, holds, spoiledOf, placeOf, freeOf}
+use Rattle.shelf.specs.Record.{Place}
+use Rattle.shelf.specs.Record.{Shelf}
+use Rattle.shelf_offer.specs.declared.Offered.{Offered}
+use Rattle.shelf_offer.specs.declared.Step.{Step}
+use Rattle.shelf_offer.specs.declared.Step.the-variants.{Refuse, Repeats, Begins, BeginsAgain, Adds}
+use Rattle.shelf_offer.specs.Offer.{After, begunPlace, addedPlace, no}
+use Rattle.shelf.specs.Record.{keyOf}
+
+-- key held in place p
+unfoldable pub heldStep : Place → List ℕ → List ℕ → ℕ → Header → Step
+heldStep place store payload p h =
+    if not (eqb (place .version) (h .version)) then BeginsAgain p h
+    else if not (eqb (place .last) (h .last)) then Refuse 10
+    else if not (holds place (h .number)) then Adds p h
+    else if same (standing store p (h .number) (lengthAt place (h .number))) payload then Repeats else Refuse 10
+
+module _ (shelf : Shelf) (store payload : List ℕ) where
+  -- key not held
+  unfoldable pub newStep : Header → Step
+  newStep h = if eqb (freeOf shelf) places then Refuse 9 else Begins (freeOf shelf) h
+
+  unfoldable pub soundStep : Header → Step
+  soundStep h =
+      if eqb (placeOf shelf (keyOf h)) places then newStep h
+      else heldStep (placeAt shelf (placeOf shelf (keyOf h))) store payload (placeOf shelf (keyOf h)) h
+
+  abbrev pub readingStep : Reading → Step
+  readingStep (reading.Sound h) = soundStep h
+  readingStep (reading.Refused n) = Refuse n
+
+  unfoldable pub stepOf : Step
+  stepOf =
+      if not (eqb (length store) storeSize) then Refuse 17
+      else if spoiledOf shelf then Refuse 18 else readingStep (readOf payload)
+
+  -- what is done at each step
+  unfoldable pub done : Step → After
+  done (Refuse n) = no shelf store payload n
+  done Repeats = record { said = Offered.Repeat; shelf = shelf; store = store }
+  done (Begins p h) =
+      record {
+        said = Offered.Began;
+        shelf = withPlace shelf p (begunPlace h (length payload));
+        store = put store p (h .number) payload;
+      }
+  done (BeginsAgain p h) =
+      record {
+        said = Offered.BeganAgain;
+        shelf = withPlace shelf p (begunPlace h (length payload));
+        store = put (wipedWhere (holds (placeAt shelf p)) sections store p) p (h .number) payload;
+      }
+  done (Adds p h) =
+      record {
+        said = Offered.Added;
+        shelf = withPlace shelf p (addedPlace (placeAt shelf p) h (length payload));
+        store = put store p (h .number) payload;
+      }
