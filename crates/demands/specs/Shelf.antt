@@ -11,7 +11,7 @@
 --   MoreReception
 --
 -- A `History` is any list of calls, refused ones too, after a beginning on whatever was lent, each call lent what the last one left
--- (lent_histories, specs/History). `logAfter` is the log that its numbers tell; `heldBy`, `since` and `lastSince` (shelf_laws,
+-- (shelf_histories, specs/History). `logAfter` is the log that its numbers tell; `heldBy`, `since` and `lastSince` (shelf_laws,
 -- specs/Log) read that log alone, and never the record. `Undisturbed` and `SectionOf` are in shelf_laws, specs/Reception.
 use Prim.Native.Nat.{ℕ, _≤_}
 use mathlib.Core.Path.{_≡_}

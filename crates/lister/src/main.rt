@@ -1,9 +1,9 @@
 // Lists a shelf file that stands on the standard input (document 01, "The lister"). The text is `file_listing::list_file`'s; here
 // it is only read and written.
+use file_listing::Listed;
 use libc::STDERR_FILENO;
 use libc::STDIN_FILENO;
 use libc::STDOUT_FILENO;
-use file_listing::Listed;
 ghost use lib.ListN.{length};
 ghost use Rattle.lister.specs.Input.{Within};
 

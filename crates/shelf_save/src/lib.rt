@@ -1,8 +1,8 @@
 // Saves a table of the shelf as a file (document 01, "The shelf file").
-use shelf_ask::Holding;
 use berth::SECTIONS;
 use file_number::Written;
 use shelf::Key;
+use shelf_ask::Holding;
 ghost use mathlib.Core.Path.{_≡_};
 ghost use Prim.Native.Nat.{_+_, _*_, _<_, _≤_};
 ghost use lib.ListN.{length};
