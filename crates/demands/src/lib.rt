@@ -1,1 +1,2 @@
-// The buyer's conditions, as statements over the definitions. No code: proofs/Demands.antt has the statements.
+// The buyer's third condition and what stands beside it, of the functions that a host calls. No code: specs/ has the statements,
+// proofs/ that each is so.
