@@ -8,7 +8,7 @@ use Prim.Native.Nat.{ℕ, _*_, _/_, _%_, _^_, _<_, _≤_}
 use native.Mathlib.Omega.{arith}
 use lib.Dec.{ltb, leb, eqb}
 use lib.ListN.{length}
-use borrow.Author.Tests.{eq-eqb, ne-eqb, le-ltb, ltb-false, eqb-true, eqb-false, leb-true, leb-false, lt-leb}
+use borrow.Author.Tests.{lt-ltb, eq-eqb, ne-eqb, le-ltb, ltb-false, eqb-true, eqb-false, leb-true, leb-false, lt-leb}
 use Rattle.base.specs.Choice.{if_then_else_, _if_}
 use Rattle.base.proofs.Cases.{by}
 use Rattle.clock_rule.specs.declared.State.{State}
@@ -190,6 +190,7 @@ module _ (w : List ℕ) (p e x t : ℕ) where
   pub offer-laws : OfferLaws w p e x t
   offer-laws =
       record {
+        no-action = λ h. offer-no w p e x t (lt-ltb _ _ h);
         untouched = offer-untouched;
         accepted = (
           offer-only,

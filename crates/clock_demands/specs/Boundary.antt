@@ -14,7 +14,7 @@ use Rattle.clock_record.specs.Words.{recordSize, bookIn}
 use Rattle.clock.specs.Spoiled.{Spoiled}
 use Rattle.clock.specs.Codes.{refusalOf}
 use Rattle.clock_laws.specs.When.{NoneOffered}
-use Rattle.clock_answers.specs.Calls.{Called, activation, freshCall, offerCall, moveCall, timeCall, stateCall}
+use Rattle.clock_answers.specs.Calls.{Called, unchanged, activation, freshCall, offerCall, moveCall, timeCall, stateCall}
 
 -- refused, the words are as they were
 abbrev pub Untouched : List ℕ → Called → Type 0
@@ -25,6 +25,8 @@ pub record FreshLaws (w : List ℕ) : Type 0 where
   pub accepted : (refusalOf (freshCall w .answer) ≡ 0) ↔ (length w ≡ recordSize)
 
 pub record OfferLaws (w : List ℕ) (application event action time : ℕ) : Type 0 where
+  -- a number above 3 is no action: 255, whatever else is so
+  pub no-action : 3 < action → offerCall w application event action time ≡ unchanged w 255
   pub untouched : Untouched w (offerCall w application event action time)
   pub accepted : (refusalOf (offerCall w application event action time .answer) ≡ 0)
       ↔ ((length w ≡ recordSize) × (action ≤ 3) × NoneOffered (bookIn w) (activation application event action time))
