@@ -11,7 +11,7 @@ use borrow.Author.Tests.{ltb-true, ltb-false}
 use Rattle.base.specs.Choice.{first}
 use Rattle.base.proofs.Cases.{by, either}
 use Rattle.base.proofs.Tables.{among}
-use Rattle.answers.specs.Answers.{Out, out, refusalIn, sizeCode, filled, Fills}
+use Rattle.answers.specs.Answers.{sizeCode, filled}
 use Rattle.answers.proofs.Fills.{Refusal, size-back, refusal-back, through, refused-fills, fills}
 use Rattle.berth.specs.Berth.{sections, berthSize, standing}
 use Rattle.berth.proofs.Berths.{standing-length}
@@ -23,8 +23,8 @@ use Rattle.ask.specs.declared.Whole.{Whole}
 use Rattle.ask.specs.declared.Missing.{Missing}
 use Rattle.ask.specs.declared.Copied.{Copied}
 use Rattle.ask.specs.Ask as Ask
-use Rattle.ask.specs.Ask.{Copy, copy, copyFrom, uncopied, unasked, unaskedBy, asked, holdingOf, wholeOf, missingOf, copyOf, complete, lowestMissing}
-use Rattle.ask.specs.Answer.{wholeBack, missingBack, copiedIn, wholeCode, missingCode, copiedCode, copyOut, wholeLent, missingLent, copyLent}
+use Rattle.ask.specs.Ask.{Copy, copy, copyFrom, uncopied, unasked, asked, holdingOf, wholeOf, missingOf, complete, lowestMissing}
+use Rattle.ask.specs.Answer.{wholeBack, missingBack, copiedIn, wholeCode, missingCode, copyOut, wholeLent, missingLent, copyLent}
 use Rattle.ask.proofs.Told.{whole-back, missing-back}
 use Rattle.ask.proofs.Held.{held, asked-held, copy-refused, copy-held}
 use Rattle.ask.proofs.Alike.{by-holding}
@@ -32,7 +32,7 @@ use Rattle.ask.proofs.Numbers.{length-read, length-past}
 use Rattle.save.specs.declared.Saved.{Saved}
 use Rattle.save.specs.Save as Save
 use Rattle.save.specs.Save.{refuse, unsaved, written, savedFile, saveOf}
-use Rattle.save.specs.Answer.{savedIn, savedCode, saveOut, saveLent}
+use Rattle.save.specs.Answer.{savedIn, saveOut, saveLent}
 use Rattle.save.proofs.Saving.{file-in, file-most, held-stands, save-refused}
 use Rattle.shelf_answers.specs.Laws.{Tells, Whole-Tells, Missing-Tells, Copy-Tells, Copy-Fills, Save-Tells, Save-Fills}
 use Rattle.shelf_answers.proofs.Tells.{tells-no, tells-yes}
@@ -40,7 +40,7 @@ use Rattle.shelf_answers.proofs.Tells.{tells-no, tells-yes}
 -- an answer that is a size of fewer than 65,536 bytes, or a refusal
 copied-no : (n : ℕ) → Refusal n → Tells Copied.Refused copiedIn (Copied.Refused n) n
 copied-no n r =
-    tells-no Copied.Refused copiedIn n r (λ m e. ap Ask.copiedNo e) (refusal-back Copied.Bytes Copied.Refused n (r .0) (r .1))
+    tells-no Copied.Refused copiedIn n r (λ m e. ap Ask.copiedNo e) (λ _. refusal-back Copied.Bytes Copied.Refused n (r .0) (r .1))
 
 copied-yes : (n : ℕ) → n < 2 ^ 16 → Tells Copied.Refused copiedIn (Copied.Bytes n) (sizeCode n)
 copied-yes n h =
@@ -49,7 +49,7 @@ copied-yes n h =
 
 saved-no : (n : ℕ) → Refusal n → Tells Saved.Refused savedIn (Saved.Refused n) n
 saved-no n r =
-    tells-no Saved.Refused savedIn n r (λ m e. ap Save.numberOf e) (refusal-back Saved.Bytes Saved.Refused n (r .0) (r .1))
+    tells-no Saved.Refused savedIn n r (λ m e. ap Save.numberOf e) (λ _. refusal-back Saved.Bytes Saved.Refused n (r .0) (r .1))
 
 saved-yes : (n : ℕ) → n < 2 ^ 16 → Tells Saved.Refused savedIn (Saved.Bytes n) (sizeCode n)
 saved-yes n h =
@@ -70,7 +70,7 @@ module _ (words store : List ℕ) (key : Key) where
   unwhole-so : (n : ℕ) → Refusal n → Wholes-So (Whole.Refused n)
   unwhole-so n r =
       tells-no Whole.Refused wholeBack n r (λ m e. ap Ask.wholeNo e)
-      (whole-back (Whole.Refused n) (λ m e. let q : n ≡ m = ap Ask.wholeNo e in subst Refusal q r .1))
+      (λ w. whole-back (Whole.Refused n) (λ m e. w m e .1))
 
   pub whole-tells : Whole-Tells words store key
   unfolding wholeLent wholeOf
@@ -87,7 +87,7 @@ module _ (words store : List ℕ) (key : Key) where
   unmissing-so : (n : ℕ) → Refusal n → Missings-So (Missing.Refused n)
   unmissing-so n r =
       tells-no Missing.Refused missingBack n r (λ m e. ap Ask.missingNo e)
-      (missing-back (Missing.Refused n) (λ m e. let q : n ≡ m = ap Ask.missingNo e in subst Refusal q r .1))
+      (λ w. missing-back (Missing.Refused n) (λ m e. w m e .1))
 
   lacking-so : (n : ℕ) → Missings-So (Missing.Number n)
   lacking-so n =

@@ -1,6 +1,6 @@
 -- The calls that may change a lent shelf keep their laws.
 --   begin-keeps, offer-keeps, load-keeps, release-keeps
-use mathlib.Core.Path.{_≡_, refl, ap, subst}
+use mathlib.Core.Path.{_≡_, refl, ap}
 use mathlib.Core.Bool.{not}
 use mathlib.Core.List.{List, [], _∷_}
 use Prim.Native.Nat.{ℕ, _≤_}
@@ -31,7 +31,7 @@ use Rattle.offer.specs.Offer as Offer
 use Rattle.offer.specs.declared.Offered.{Offered}
 use Rattle.offer.specs.Steps.{heldStep, newStep, soundStep, readingStep, stepOf}
 use Rattle.offer.specs.On as OfferOn
-use Rattle.offer.specs.Answer.{offeredIn, offeredCode, offerOut, offerLent}
+use Rattle.offer.specs.Answer.{offeredIn, offerOut, offerLent}
 use Rattle.offer.proofs.Told.{offered-back}
 use Rattle.ask.specs.Ask.{unasked}
 use Rattle.release.specs.Release as Release
@@ -61,7 +61,7 @@ module _ (words store : List ℕ) where
 
   unbegun-so : (n : ℕ) → Refusal n → Begins-So (BeginOn.leaving (Begun.Refused n) words store)
   unbegun-so n r =
-      keeps-no Begun.Refused begunIn n r (λ m e. ap Begin.numberOf e) (begun-back (Begun.Refused n) (λ m e. let q : n ≡ m = ap Begin.numberOf e in subst (λ k. Refusal k) q r .0)) words store
+      keeps-no Begun.Refused begunIn n r (λ m e. ap Begin.numberOf e) (λ w. begun-back (Begun.Refused n) (λ m e. w m e .0)) words store
 
   pub begin-keeps : Begin-Keeps words store
   unfolding beginLent BeginOn.beginOn
@@ -79,7 +79,7 @@ module _ (words store : List ℕ) where
     unoffered-so : (n : ℕ) → Refusal n → Offers-So (Offered.Refused n) words store
     unoffered-so n r =
         keeps-no Offered.Refused offeredIn n r (λ m e. ap Offer.numberOf e)
-        (offered-back (Offered.Refused n) (λ m e. let q : n ≡ m = ap Offer.numberOf e in subst Refusal q r .1)) words store
+        (λ w. offered-back (Offered.Refused n) (λ m e. w m e .1)) words store
 
     began-so : (kept left : List ℕ) → Offers-So Offered.Began kept left
     began-so = keeps-yes Offered.Refused offeredIn Offered.Began 256 (λ n e. let z : _≡_ {A = ℕ} 0 1 = cc in omega arith) refl refl words store
@@ -154,7 +154,7 @@ module _ (words store : List ℕ) where
     unreleased-so : (n : ℕ) → Refusal n → Releases-So (Releasing.refuse shelf store key n)
     unreleased-so n r =
         keeps-no Released.Refused releasedIn n r (λ m e. ap Release.numberOf e)
-        (released-back (Released.Refused n) (λ m e. let q : n ≡ m = ap Release.numberOf e in subst Refusal q r .0)) words store
+        (λ w. released-back (Released.Refused n) (λ m e. w m e .0)) words store
 
     pub release-keeps : Release-Keeps words store key
     unfolding releaseLent ReleaseOn.releaseOn Release.releaseOf
@@ -175,7 +175,7 @@ module _ (words store : List ℕ) where
     unloaded-so s n r =
         go s
         (keeps-no Loaded.Refused loadedIn n r (λ m e. ap Load.numberOf e)
-        (loaded-back (Loaded.Refused n) (λ m e. let q : n ≡ m = ap Load.numberOf e in subst Refusal q r .0)) words store)
+        (λ w. loaded-back (Loaded.Refused n) (λ m e. w m e .0)) words store)
       where
         go : (s : Scan) → Loads-So (Scan.Refused 0) (Load.no shelf store file n) → Loads-So s (Load.no shelf store file n)
         go (Scan.Table h) k = k

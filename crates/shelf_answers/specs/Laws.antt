@@ -35,8 +35,8 @@ use Rattle.save.specs.Answer.{savedIn, saveLent}
 pub record Tells {A : Type 0} (refused back : ℕ → A) (said : A) (code : ℕ) : Type 0 where
   -- the low 8 bits are 0 exactly when the call is accepted
   pub accepted : (refusalIn code ≡ 0) ↔ ((n : ℕ) → ¬ (said ≡ refused n))
-  -- and else the number of the refusal
-  pub number : (n : ℕ) → said ≡ refused n → refusalIn code ≡ n
+  -- a refused call answers its number alone, which the low 8 bits have room for
+  pub number : (n : ℕ) → said ≡ refused n → (code ≡ n) × (refusalIn code ≡ n)
   -- the answer comes back, with each value of it
   pub comes-back : back code ≡ said
 
