@@ -1,6 +1,7 @@
 -- What the header promises of every call on a lent shelf, on any numbers, store, key, payload, file and output.
---   Tells     of an answer that is told in a number
---   Keeps     of a call that may change the record's numbers and the store
+--   Tells                         of an answer that is told in a number
+--   Keeps                         of a call that may change the record's numbers and the store
+--   Begin-Keeps .. Save-Fills     of each call; `Fills` of the answers has the laws of an output
 use Prim.Native.Nat.{ℕ}
 use mathlib.Core.Path.{_≡_}
 use mathlib.Core.List.{List}
