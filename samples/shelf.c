@@ -18,7 +18,7 @@ int main(void) {
     if (khumsafil_shelf_load(record, KHUMSAFIL_SHELF_RECORD, store, sizeof store, file, length) == 0) {
         /* The table's key stands in the first place of a shelf that held nothing. */
         uint32_t answer = khumsafil_shelf_save(record, KHUMSAFIL_SHELF_RECORD, store, sizeof store,
-                                               (uint8_t)record[0], record[1], saved, sizeof saved);
+                                               (uint8_t)record[64], record[65], saved, sizeof saved);
         if (KHUMSAFIL_SHELF_REFUSAL(answer) != 0 || KHUMSAFIL_SHELF_SIZE(answer) != length ||
             memcmp(saved, file, length) != 0)
             return 1;

@@ -44,7 +44,7 @@ static void offer_again(void) {
     answer = khumsafil_shelf_offer(SHELF, section, sizeof section);
 }
 static void offer_added(void) {
-    record[3 + 15] = 0;
+    record[80] &= 0x7FFF;
     answer = khumsafil_shelf_offer(SHELF, section, sizeof section);
 }
 static void complete(void) { answer = khumsafil_shelf_complete(SHELF, KEY); }
@@ -53,7 +53,7 @@ static void copy_section(void) { answer = khumsafil_shelf_copy_section(SHELF, KE
 static void release(void) { answer = khumsafil_shelf_release(SHELF, KEY); }
 static void save(void) { answer = khumsafil_shelf_save(SHELF, KEY, out, sizeof out); }
 static void load(void) {
-    record[2] = 0;
+    record[64] = 0;
     answer = khumsafil_shelf_load(SHELF, file, sizeof file);
 }
 static void list(void) { answer = khumsafil_file_list(file, sizeof file, out, sizeof out); }

@@ -256,7 +256,7 @@ static int written_on(void) {
            KHUMSAFIL_SHELF_COMPLETE);
     EXPECT(KHUMSAFIL_SHELF_SIZE(khumsafil_shelf_copy_section(record, n, store, s, 0xC9, 0x1234, 0, out, 8)) == 8);
     EXPECT(out[7] == 9);
-    record[3] = 7;
+    record[0] = 7;
     EXPECT(khumsafil_shelf_complete(record, n, store, s, 0xC9, 0x1234) == KHUMSAFIL_REFUSED_SHELF_SPOILED);
     EXPECT(khumsafil_shelf_release(record, n, store, s, 0xC9, 0x1234) == KHUMSAFIL_REFUSED_SHELF_SPOILED);
     EXPECT(khumsafil_clock_fresh(words, KHUMSAFIL_CLOCK_WORDS) == 0);
