@@ -29,7 +29,7 @@ pub record HostHistory (w : List ℕ) (h : List HostCall) : Type 0 where
 abbrev pub HostKept : List ℕ → List HostCall → Type 0
 HostKept w h = Kept (record { book = bookIn (hostAfter w h .words); account = hostAfter w h .account })
 
--- no call of a history is answered 35
+-- no call after a history, and so none in one, is answered 35
 abbrev pub Never35 : List ℕ → List HostCall → Type 0
 Never35 w h = (x : HostCall) → refusalOf (answered (hostAfter w h .words) x) ≡ 35 → ⊥
 

@@ -22,7 +22,7 @@ pub data HostCall : Type 0 where
   askTime : HostCall
   askState : ℕ → HostCall
 
--- the numbers have the widths of the boundary's types
+-- an offer's application and event have the widths of the boundary's types
 abbrev pub Typed : HostCall → Type 0
 Typed (HostCall.offer application event action time) = (application < 2 ^ 8) × (event < 2 ^ 16)
 Typed (HostCall.move to) = Unit {0}

@@ -22,7 +22,8 @@ pub record Kept (t : Moment) : Type 0 where
   -- the record is not spoiled
   pub sound : spoiled (t .book) ≡ false
   -- each accepted activation is applied exactly once or still waits: no two accepted are alike, and those applied
-  -- with those that wait are the accepted in some order
+  -- with those that wait are the accepted in some order. The account keeps these by itself; that the record goes with it is
+  -- `sound`, `waits` and `states`
   pub distinct : Distinct (t .account .accepted)
   pub once : Rearranged (t .account .accepted) (t .account .applied ++ t .account .waiting)
   -- it waits only while its time is ahead of the clock

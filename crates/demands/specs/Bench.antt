@@ -1,5 +1,6 @@
 -- Document 02, request 1, of the functions that a host calls: "Offered to a fresh shelf in any order, the sections make a complete table
--- whose joined bodies are the given body." The theorems are in proofs/Bench.
+-- whose joined bodies are the given body." The sections are those that `khumsafil_writer_section` leaves in an output
+-- (`Section-Fills` of writer). The theorems are in proofs/Bench.
 use Prim.Native.Nat.{ℕ, zero, suc, _+_, _<_, _≤_}
 use mathlib.Core.Path.{_≡_}
 use mathlib.Core.List.{List, [], _++_}

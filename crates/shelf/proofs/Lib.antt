@@ -3,5 +3,3 @@ pub mod Find
 pub mod Words
 pub mod Equal
 pub mod Numbers
-pub mod Writes
-pub mod Lent

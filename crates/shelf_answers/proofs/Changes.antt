@@ -21,7 +21,7 @@ use Rattle.berth.specs.Berth.{places, storeSize, standing}
 use Rattle.shelf.specs.Record.{Shelf, keyOf, placeAt, lengthAt, holds, spoiledOf, placeOf, freeOf}
 use Rattle.shelf.specs.declared.Key.{Key}
 use Rattle.shelf.specs.Layout.{shelfAt}
-use Rattle.shelf.specs.Writes.{freshWords}
+use Rattle.shelf_write.specs.Writes.{freshWords}
 use Rattle.shelf_begin.specs.Begin as Begin
 use Rattle.shelf_begin.specs.declared.Begun.{Begun}
 use Rattle.shelf_begin.specs.On as BeginOn

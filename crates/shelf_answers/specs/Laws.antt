@@ -65,7 +65,7 @@ module _ (words store : List ℕ) where
     abbrev pub Release-Keeps : Type 0
     Release-Keeps = Keeps Released.Refused releasedIn (releaseOf shelf store key .said) words store (releaseLent words store key)
 
-    -- a question is lent nothing that it may change
+    -- a question is lent no record and no store that it may change
     abbrev pub Whole-Tells : Type 0
     Whole-Tells = Tells Whole.Refused wholeBack (wholeOf shelf store key) (wholeLent words store key)
 

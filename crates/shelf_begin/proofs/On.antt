@@ -11,8 +11,8 @@ use Rattle.base.specs.Bytes.{zeros}
 use Rattle.berth.specs.Berth.{storeSize}
 use Rattle.shelf.specs.Record.{fresh}
 use Rattle.shelf.specs.Layout.{count, shelfAt}
-use Rattle.shelf.specs.Writes.{freshWords, freshPut}
-use Rattle.shelf.proofs.Lent.{fresh-put, fresh-lent}
+use Rattle.shelf_write.specs.Writes.{freshWords, freshPut}
+use Rattle.shelf_write.proofs.Lent.{fresh-put, fresh-lent}
 use Rattle.shelf_begin.specs.declared.Begun.{Begun}
 use Rattle.shelf_begin.specs.On.{Leaving, leaving, beginOn}
 

@@ -8,7 +8,7 @@ use Rattle.base.specs.Choice.{Row, _if_, first}
 use Rattle.base.specs.Bytes.{zeros}
 use Rattle.berth.specs.Berth.{storeSize}
 use Rattle.shelf.specs.Layout.{count}
-use Rattle.shelf.specs.Writes.{freshWords}
+use Rattle.shelf_write.specs.Writes.{freshWords}
 use Rattle.shelf_begin.specs.declared.Begun.{Begun}
 
 -- what a call leaves: the answer, the numbers, the store

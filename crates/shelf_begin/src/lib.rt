@@ -37,7 +37,7 @@ pub fn begin_shelf(words: &mut [u16], store: &mut [u8]) -> Begun
         return Begun::Refused(shelf::SHELF_SPOILED);
     }
     wipe_store(store);
-    shelf::put_fresh(words);
+    shelf_write::put_fresh(words);
     Begun::Done
 }
 

@@ -4,7 +4,7 @@ use Rattle.shelf_offer.specs.declared.Offered.{Offered}
 use Rattle.shelf_release.specs.declared.Released.{Released}
 use Rattle.shelf_load.specs.declared.Loaded.{Loaded}
 
--- the section begins the table: its key was not held, or its version is another
+-- the answer says that the section begins the table: began, for a key that was not held, or began again, for another version
 abbrev pub begins : Offered → Bool
 begins Offered.Began = true
 begins Offered.BeganAgain = true

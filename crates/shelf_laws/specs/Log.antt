@@ -46,7 +46,8 @@ bytesOf (released k said) n = []
 bytesOf (asked question said) n = []
 
 module _ (key : Key) where
-  -- the entry begins the table: by a hearing while unheld, change of version or load
+  -- the entry was answered as one that begins the table: a hearing while unheld, change of version or load; `offerOf` and `loadOf` say
+  -- when that is answered
   abbrev pub beginning : Entry → Bool
   beginning (offered payload said) = sameKey (keyIn payload) key && begins said
   beginning (loaded file said) = loads key file && isDone said

@@ -18,9 +18,9 @@ use Rattle.berth.specs.Berth.{sections, places, storeSize}
 use Rattle.shelf.specs.Record.{spoiledOf, placeOf, freeOf}
 use Rattle.shelf.specs.declared.Key.{Key}
 use Rattle.shelf.specs.Layout.{count, shelfAt, placeAmong, freeAmong}
-use Rattle.shelf.specs.Writes.{headPut}
+use Rattle.shelf_write.specs.Writes.{headPut}
 use Rattle.shelf.proofs.Numbers.{at-count, among-place, among-free}
-use Rattle.shelf.proofs.Lent.{head-put}
+use Rattle.shelf_write.proofs.Lent.{head-put}
 use Rattle.shelf.specs.Record.{keyOf}
 use Rattle.file.specs.Scan.{scanOf}
 use Rattle.file.specs.declared.Scan.{Scan}

@@ -9,9 +9,9 @@ use lib.Dec.{eqb}
 use lib.ListN.{length, getD}
 use borrow.Author.Tests.{eq-eqb, ne-eqb}
 use Rattle.base.proofs.Cases.{by}
-use Rattle.shelf.specs.Writes.{heldIn, heldPut}
-use Rattle.shelf.proofs.Writes.{held-length}
-use Rattle.shelf.proofs.Lent.{held-put}
+use Rattle.shelf_write.specs.Writes.{heldIn, heldPut}
+use Rattle.shelf_write.proofs.Writes.{held-length}
+use Rattle.shelf_write.proofs.Lent.{held-put}
 use Rattle.shelf_load.specs.On.{heldBelow}
 
 module _ (old : List ℕ) (p : ℕ) (lengths : List ℕ) where

@@ -23,11 +23,11 @@ use Rattle.berth.specs.Berth.{places, sections, storeSize}
 use Rattle.shelf.specs.Record.{Place, Shelf, keyOf, placeAt, withPlace, spoiledOf, placeOf, freeOf}
 use Rattle.shelf.specs.declared.Key.{Key}
 use Rattle.shelf.specs.Layout.{listed, takenIn, shelfIn, shelfAt}
-use Rattle.shelf.specs.Writes.{heldIn, headIn, emptyTable, withLength}
+use Rattle.shelf_write.specs.Writes.{heldIn, headIn, emptyTable, withLength}
 use Rattle.shelf.proofs.Find.{free-le}
 use Rattle.shelf.proofs.Lists.{length-listed, getD-listed}
 use Rattle.shelf.proofs.Numbers.{at-count, spoiled-count, taken-at}
-use Rattle.shelf.proofs.Lent.{four, with-at, with-with, head-lent, head-fits, held-lent}
+use Rattle.shelf_write.proofs.Lent.{four, with-at, with-with, head-lent, head-fits, held-lent}
 use Rattle.file.specs.Scan.{scanOf}
 use Rattle.file.specs.Layout.{sameTable}
 use Rattle.file.specs.declared.Scan.{Scan}

@@ -8,7 +8,7 @@ use Rattle.section.specs.declared.Header.{Header}
 use Rattle.berth.specs.Berth.{sections}
 use Rattle.shelf.specs.Record.{keyOf, freeOf}
 use Rattle.shelf.specs.Layout.{shelfAt}
-use Rattle.shelf.specs.Writes.{heldIn, headIn}
+use Rattle.shelf_write.specs.Writes.{heldIn, headIn}
 use Rattle.file.specs.Scan.{scanOf}
 use Rattle.file.specs.declared.Scan.{Scan}
 use Rattle.shelf_load.specs.declared.Loaded.{Loaded}

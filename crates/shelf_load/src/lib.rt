@@ -78,7 +78,7 @@ fn hold_each(words: &mut [u16], p: usize, lengths: [u16; 16])
     while n < SECTIONS {
         let size = lengths[n];
         if size != 0 {
-            shelf::put_held(words, p, n, size);
+            shelf_write::put_held(words, p, n, size);
         }
         n += 1;
     }
@@ -109,7 +109,7 @@ fn load_table(
     let lengths = scanned.lengths;
     let sections = header.last as usize + 1;
     store_each(store, p, file, starts, lengths, sections);
-    shelf::put_head(words, p, key, header.version, header.last);
+    shelf_write::put_head(words, p, key, header.version, header.last);
     hold_each(words, p, lengths);
     Loaded::Done
 }

@@ -6,7 +6,7 @@ use lib.ListN.{length}
 use Rattle.section.specs.declared.Header.{Header}
 use Rattle.shelf.specs.Record.{keyOf}
 use Rattle.shelf.specs.Layout.{shelfAt}
-use Rattle.shelf.specs.Writes.{heldIn, headIn}
+use Rattle.shelf_write.specs.Writes.{heldIn, headIn}
 use Rattle.shelf_offer.specs.declared.Offered.{Offered}
 use Rattle.shelf_offer.specs.declared.Step.{Step}
 use Rattle.shelf_offer.specs.declared.Step.the-variants.{Refuse, Repeats, Begins, BeginsAgain, Adds}

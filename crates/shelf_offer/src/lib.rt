@@ -9,7 +9,7 @@ ghost use Rattle.berth.specs.Berth.{berthSize, places, sections, storeSize};
 ghost use Rattle.berth.specs.Calls.{putIn};
 ghost use Rattle.shelf.specs.Record.{placeAt, spoiledOf};
 ghost use Rattle.shelf.specs.Layout.{count, takenIn, shelfIn, shelfAt};
-ghost use Rattle.shelf.specs.Writes.{heldPut};
+ghost use Rattle.shelf_write.specs.Writes.{heldPut};
 ghost use Rattle.shelf_offer.specs.Steps.{heldStep, soundStep, stepOf};
 ghost use Rattle.shelf_offer.specs.On.{leaving, offerOn};
 ghost use Rattle.answers.specs.Answers.{lent};
@@ -125,7 +125,7 @@ fn add(words: &mut [u16], store: &mut [u8], payload: &[u8], p: usize, n: usize)
 {
     let size = payload.len() as u16;
     berth::put(store, p, n, payload);
-    shelf::put_held(words, p, n, size);
+    shelf_write::put_held(words, p, n, size);
 }
 
 // Offers a payload to the record that the numbers are. A refused call and a repeat leave numbers and store as they were; the
@@ -142,13 +142,13 @@ pub fn offer(words: &mut [u16], store: &mut [u8], payload: &[u8]) -> Offered
             Offered::Added
         }
         Step::Begins(p, header) => {
-            shelf::put_head(words, p, shelf::key_of(header), header.version, header.last);
+            shelf_write::put_head(words, p, shelf::key_of(header), header.version, header.last);
             add(words, store, payload, p, wide8(header.number));
             Offered::Began
         }
         Step::BeginsAgain(p, header) => {
             berth::wipe_where(store, p, shelf::mask_of(words, p));
-            shelf::put_head(words, p, shelf::key_of(header), header.version, header.last);
+            shelf_write::put_head(words, p, shelf::key_of(header), header.version, header.last);
             add(words, store, payload, p, wide8(header.number));
             Offered::BeganAgain
         }

@@ -13,9 +13,9 @@ use Rattle.berth.proofs.Steps.{is-place, wiped-where}
 use Rattle.shelf.specs.Record.{placeOf}
 use Rattle.shelf.specs.declared.Key.{Key}
 use Rattle.shelf.specs.Layout.{shelfAt}
-use Rattle.shelf.specs.Writes.{freedIn, freedPut}
+use Rattle.shelf_write.specs.Writes.{freedIn, freedPut}
 use Rattle.shelf.proofs.Numbers.{spoiled-count}
-use Rattle.shelf.proofs.Lent.{freed-put, freed-lent}
+use Rattle.shelf_write.proofs.Lent.{freed-put, freed-lent}
 use Rattle.shelf_ask.specs.Ask.{holdingOf}
 use Rattle.shelf_ask.specs.declared.Holding.{Holding}
 use Rattle.shelf_ask.proofs.Held.{held}

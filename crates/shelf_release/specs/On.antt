@@ -4,7 +4,7 @@ use mathlib.Core.List.{List}
 use Rattle.shelf.specs.Record.{placeOf}
 use Rattle.shelf.specs.declared.Key.{Key}
 use Rattle.shelf.specs.Layout.{shelfAt}
-use Rattle.shelf.specs.Writes.{freedIn}
+use Rattle.shelf_write.specs.Writes.{freedIn}
 use Rattle.shelf_release.specs.declared.Released.{Released}
 use Rattle.shelf_release.specs.Release.{releaseOf}
 

@@ -20,7 +20,7 @@ pub fn release_table(words: &mut [u16], store: &mut [u8], key: Key) -> Released
         Holding::Refused(no) => Released::Refused(no),
         Holding::In(p) => {
             berth::wipe_all(store, p);
-            shelf::put_free(words, p);
+            shelf_write::put_free(words, p);
             Released::Done
         }
     }

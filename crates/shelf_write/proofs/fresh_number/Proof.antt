@@ -1,10 +1,10 @@
--- `shelf::fresh_number` meets its promise: a length, a head or a mask.
+-- `shelf_write::fresh_number` meets its promise: a length, a head or a mask.
 use Rattle.base.proofs.Tests.{tests}
 use borrow.Author.Needs.{needs}
-use Rattle.shelf.proofs.fresh_number.Statement.{statement}
-use Rattle.shelf.proofs.fresh_number.Tie as tie
-use Rattle.shelf.proofs.fresh_number.Reads as reads
-use Rattle.shelf.proofs.fresh_number.Lts as lts
+use Rattle.shelf_write.proofs.fresh_number.Statement.{statement}
+use Rattle.shelf_write.proofs.fresh_number.Tie as tie
+use Rattle.shelf_write.proofs.fresh_number.Reads as reads
+use Rattle.shelf_write.proofs.fresh_number.Lts as lts
 
 returns : tie.Need-returns
 returns c = search (tests, needs)

@@ -1,4 +1,4 @@
--- `shelf::put_fresh` meets its promise: number by number.
+-- `shelf_write::put_fresh` meets its promise: number by number.
 use borrow.Author.Needs.{needs}
 use Rattle.base.proofs.Tests.{tests}
 use mathlib.Core.Path.{_≡_, sym, _∙_}
@@ -6,14 +6,14 @@ use Prim.Native.Nat.{_≤_, _-_}
 use native.Mathlib.Omega.{arith}
 use lib.ListN.{length, length-set}
 use borrow.Author.Tests.{eq-eqb}
 use Rattle.shelf.specs.Layout.{listed}
-use Rattle.shelf.specs.Writes.{freshNumber, freshWords, freshPut}
+use Rattle.shelf_write.specs.Writes.{freshNumber, freshWords, freshPut}
 use Rattle.shelf.proofs.Lists.{Filled, filled-more, filled-all}
-use Rattle.shelf.proofs.put_fresh.Statement.{statement}
-use Rattle.shelf.proofs.put_fresh.Tie as tie
-use Rattle.shelf.proofs.put_fresh.Reads as reads
-use Rattle.shelf.proofs.put_fresh.Lts as lts
-use Rattle.shelf.proofs.fresh_number.Reads as fresh-number-reads
+use Rattle.shelf_write.proofs.put_fresh.Statement.{statement}
+use Rattle.shelf_write.proofs.put_fresh.Tie as tie
+use Rattle.shelf_write.proofs.put_fresh.Reads as reads
+use Rattle.shelf_write.proofs.put_fresh.Lts as lts
+use Rattle.shelf_write.proofs.fresh_number.Reads as fresh-number-reads
 
 abbrev Inv-loop : tie.InvT-loop
 Inv-loop words₀ i₀ words i = (i ≤ 84) × (length words ≡ 84) × (length words₀ ≡ 84) × Filled words i freshNumber

@@ -1,14 +1,14 @@
--- `shelf::put_head` meets its promise: nothing is written where there is no such place.
+-- `shelf_write::put_head` meets its promise: nothing is written where there is no such place.
 use Rattle.base.proofs.Tests.{tests}
-use Rattle.shelf.specs.Writes.{headPut}
-use Rattle.shelf.proofs.Writes.{head-put-row}
+use Rattle.shelf_write.specs.Writes.{headPut}
+use Rattle.shelf_write.proofs.Writes.{head-put-row}
 use borrow.Author.Needs.{needs}
-use Rattle.shelf.proofs.put_head.Statement.{statement}
-use Rattle.shelf.proofs.put_head.Tie as tie
-use Rattle.shelf.proofs.put_head.Reads as reads
-use Rattle.shelf.proofs.put_head.Lts as lts
-use Rattle.shelf.proofs.half.Reads as half-reads
-use Rattle.shelf.proofs.put_row.Reads as put-row-reads
+use Rattle.shelf_write.proofs.put_head.Statement.{statement}
+use Rattle.shelf_write.proofs.put_head.Tie as tie
+use Rattle.shelf_write.proofs.put_head.Reads as reads
+use Rattle.shelf_write.proofs.put_head.Lts as lts
+use Rattle.shelf_write.proofs.half.Reads as half-reads
+use Rattle.shelf_write.proofs.put_row.Reads as put-row-reads
 
 returns : tie.Need-returns
 unfolding headPut

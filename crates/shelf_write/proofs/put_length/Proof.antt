@@ -1,11 +1,11 @@
 use lib.ListN.{length-set}
-use Rattle.shelf.specs.Writes.{heldIn}
+use Rattle.shelf_write.specs.Writes.{heldIn}
 use borrow.Author.Needs.{needs}
-use Rattle.shelf.proofs.put_length.Statement.{statement}
-use Rattle.shelf.proofs.put_length.Tie as tie
-use Rattle.shelf.proofs.put_length.Reads as reads
-use Rattle.shelf.proofs.put_length.Lts as lts
-use Rattle.shelf.proofs.with_bit.Reads as with-bit-reads
+use Rattle.shelf_write.proofs.put_length.Statement.{statement}
+use Rattle.shelf_write.proofs.put_length.Tie as tie
+use Rattle.shelf_write.proofs.put_length.Reads as reads
+use Rattle.shelf_write.proofs.put_length.Lts as lts
+use Rattle.shelf_write.proofs.with_bit.Reads as with-bit-reads
 
 add-with-bit : tie.Need-add-with-bit
 add-with-bit c = search needs

@@ -17,13 +17,13 @@ use lib.Seq.{ext-getD, getD-set-same, getD-set-other}
 use borrow.Author.Tests.{eq-eqb, ne-eqb, le-ltb, lt-ltb}
 use Rattle.base.specs.Choice.{if_then_else_}
 use Rattle.base.proofs.Cases.{same-or}
 use Rattle.shelf.specs.Record.{Place, freePlace, fresh, withPlace}
 use Rattle.shelf.specs.declared.Key.{Key}
 use Rattle.base.specs.Bits.{bit}
 use Rattle.shelf.specs.Layout.{heldLength, capped, listed, lengthsIn, tableIn, takenIn, placeIn, shelfIn}
-use Rattle.shelf.specs.Writes.{heldIn, rowIn, freedIn, headIn, headPut, freshNumber, freshWords, emptyTable, withLength}
+use Rattle.shelf_write.specs.Writes.{heldIn, rowIn, freedIn, headIn, headPut, freshNumber, freshWords, emptyTable, withLength}
 use Rattle.base.proofs.Bits.{bit-set, bit-kept}
 use Rattle.shelf.proofs.Lists.{length-listed, getD-listed, listed-same}
 
 -- the numbers of a place are alike in v and w
 pub record Alike (v w : List ℕ) (p : ℕ) : Type 0 where

@@ -1,11 +1,11 @@
--- `shelf::put_row` meets its promise: five numbers are set.
-use Rattle.shelf.specs.Writes.{rowIn}
+-- `shelf_write::put_row` meets its promise: five numbers are set.
+use Rattle.shelf_write.specs.Writes.{rowIn}
 use lib.ListN.{length-set}
 use borrow.Author.Needs.{needs}
-use Rattle.shelf.proofs.put_row.Statement.{statement}
-use Rattle.shelf.proofs.put_row.Tie as tie
-use Rattle.shelf.proofs.put_row.Reads as reads
-use Rattle.shelf.proofs.put_row.Lts as lts
+use Rattle.shelf_write.proofs.put_row.Statement.{statement}
+use Rattle.shelf_write.proofs.put_row.Tie as tie
+use Rattle.shelf_write.proofs.put_row.Reads as reads
+use Rattle.shelf_write.proofs.put_row.Lts as lts
 
 mul-words : tie.Need-mul-words
 mul-words c = search needs

@@ -1,12 +1,12 @@
--- `shelf::put_free` meets its promise: nothing is written where there is no such place.
+-- `shelf_write::put_free` meets its promise: nothing is written where there is no such place.
 use Rattle.base.proofs.Tests.{tests}
-use Rattle.shelf.specs.Writes.{freedPut}
+use Rattle.shelf_write.specs.Writes.{freedPut}
 use borrow.Author.Needs.{needs}
-use Rattle.shelf.proofs.put_free.Statement.{statement}
-use Rattle.shelf.proofs.put_free.Tie as tie
-use Rattle.shelf.proofs.put_free.Reads as reads
-use Rattle.shelf.proofs.put_free.Lts as lts
-use Rattle.shelf.proofs.put_row.Reads as put-row-reads
+use Rattle.shelf_write.proofs.put_free.Statement.{statement}
+use Rattle.shelf_write.proofs.put_free.Tie as tie
+use Rattle.shelf_write.proofs.put_free.Reads as reads
+use Rattle.shelf_write.proofs.put_free.Lts as lts
+use Rattle.shelf_write.proofs.put_row.Reads as put-row-reads
 
 returns : tie.Need-returns
 unfolding freedPut

@@ -2,10 +2,10 @@ use mathlib.Core.Path.{ap}
 use lib.Bits.{bitOr}
 use Rattle.base.proofs.Bits.{one-up}
 use borrow.Author.Needs.{needs}
-use Rattle.shelf.proofs.with_bit.Statement.{statement}
-use Rattle.shelf.proofs.with_bit.Tie as tie
-use Rattle.shelf.proofs.with_bit.Reads as reads
-use Rattle.shelf.proofs.with_bit.Lts as lts
+use Rattle.shelf_write.proofs.with_bit.Statement.{statement}
+use Rattle.shelf_write.proofs.with_bit.Tie as tie
+use Rattle.shelf_write.proofs.with_bit.Reads as reads
+use Rattle.shelf_write.proofs.with_bit.Lts as lts
 
 cast-result : tie.Need-cast-result
 cast-result c = search needs

@@ -1,12 +1,12 @@
--- `shelf::put_held` meets its promise: nothing is written where there is no such section.
+-- `shelf_write::put_held` meets its promise: nothing is written where there is no such section.
 use Rattle.base.proofs.Tests.{tests}
-use Rattle.shelf.specs.Writes.{heldPut}
+use Rattle.shelf_write.specs.Writes.{heldPut}
 use borrow.Author.Needs.{needs}
-use Rattle.shelf.proofs.put_held.Statement.{statement}
-use Rattle.shelf.proofs.put_held.Tie as tie
-use Rattle.shelf.proofs.put_held.Reads as reads
-use Rattle.shelf.proofs.put_held.Lts as lts
-use Rattle.shelf.proofs.put_length.Reads as put-length-reads
+use Rattle.shelf_write.proofs.put_held.Statement.{statement}
+use Rattle.shelf_write.proofs.put_held.Tie as tie
+use Rattle.shelf_write.proofs.put_held.Reads as reads
+use Rattle.shelf_write.proofs.put_held.Lts as lts
+use Rattle.shelf_write.proofs.put_length.Reads as put-length-reads
 
 returns : tie.Need-returns
 unfolding heldPut
