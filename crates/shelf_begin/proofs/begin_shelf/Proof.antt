@@ -6,7 +6,7 @@ use Rattle.shelf_begin.proofs.begin_shelf.Tie as tie
 use Rattle.shelf_begin.proofs.begin_shelf.Reads as reads
 use Rattle.shelf_begin.proofs.begin_shelf.Lts as lts
 use Rattle.shelf_begin.proofs.wipe_store.Reads as wipe-store-reads
-use Rattle.shelf.proofs.put_fresh.Reads as put-fresh-reads
+use Rattle.shelf_write.proofs.put_fresh.Reads as put-fresh-reads
 
 returns : tie.Need-returns
 returns c = begin-17 _ _ (c .if1 .taken)

@@ -11,7 +11,7 @@ use Rattle.shelf_load.proofs.hold_each.Statement.{statement}
 use Rattle.shelf_load.proofs.hold_each.Tie as tie
 use Rattle.shelf_load.proofs.hold_each.Reads as reads
 use Rattle.shelf_load.proofs.hold_each.Lts as lts
-use Rattle.shelf.proofs.put_held.Reads as put-held-reads
+use Rattle.shelf_write.proofs.put_held.Reads as put-held-reads
 
 abbrev Inv-loop : tie.InvT-loop
 Inv-loop words₀ p lengths n₀ words n = (n ≤ 16) × (length words ≡ 84) × (length lengths ≡ 16) × (words ≡ heldBelow n words₀ p lengths)

@@ -14,7 +14,7 @@ use Rattle.shelf_load.proofs.store_each.Reads as store-each-reads
 use Rattle.shelf.proofs.free_of.Reads as free-of-reads
 use Rattle.shelf.proofs.key_of.Reads as key-of-reads
 use Rattle.shelf.proofs.place_of.Reads as place-of-reads
-use Rattle.shelf.proofs.put_head.Reads as put-head-reads
+use Rattle.shelf_write.proofs.put_head.Reads as put-head-reads
 
 key-of-requires : tie.Need-key-of-requires
 key-of-requires c κs = search needs

@@ -13,7 +13,7 @@ use Rattle.shelf_offer.proofs.step_of.Reads as step-of-reads
 use Rattle.shelf_offer.proofs.wide8.Reads as wide8-reads
 use Rattle.shelf.proofs.key_of.Reads as key-of-reads
 use Rattle.shelf.proofs.mask_of.Reads as mask-of-reads
-use Rattle.shelf.proofs.put_head.Reads as put-head-reads
+use Rattle.shelf_write.proofs.put_head.Reads as put-head-reads
 
 step-of-requires : tie.Need-step-of-requires
 step-of-requires c κs = search needs

@@ -8,7 +8,7 @@ use Rattle.shelf_release.proofs.release_table.Reads as reads
 use Rattle.shelf_release.proofs.release_table.Lts as lts
 use Rattle.shelf_ask.proofs.held_in.Reads as held-in-reads
 use Rattle.berth.proofs.wipe_all.Reads as wipe-all-reads
-use Rattle.shelf.proofs.put_free.Reads as put-free-reads
+use Rattle.shelf_write.proofs.put_free.Reads as put-free-reads
 
 held-in-requires : tie.Need-held-in-requires
 held-in-requires c κs = search needs
