@@ -4,7 +4,7 @@
 --   has-place, has-berth, is-place, is-berth      what the tests for a place and for a berth say
 --   wiped-done, put-done, stands-done, copied-done, seen-length      a call that names a berth
 --   put-long, put-nowhere, wiped-nowhere, stands-long, stands-nowhere, copied-long, copied-narrow, copied-nowhere    one that does not
---   wiped-none, wiped-one, wiped-skipped, wiped-end, wiped-where, wiped-nothing, wiped-whole    the berths of a place
+--   wiped-none, wiped-one, wiped-skipped, wiped-end, wiped-where, wiped-nothing, wiped-whole, wiped-each    the berths of a place
 use mathlib.Core.Path.{_≡_, refl, sym, ap, _∙_}
 use mathlib.Core.Bool.{Bool, true, false, _&&_}
 use mathlib.Core.List.{List, _++_, append-nil}
@@ -17,14 +17,15 @@ use borrow.Rule.Slice.PartMut.{midOf, putMid, mid-len}
 use lib.Seq.{drop-drop}
 use Rattle.berth.specs.Berth.{berthSize, storeSize, places, sections, beginsAt, laid, padded, put, wiped, wipedWhere, standing}
 use Rattle.berth.specs.Calls.{isPlace, isBerth, goesIn, putIn, wipedIn, wipedWhereIn, standsIn, copiedIn}
-use Rattle.berth.proofs.Berths.{standing-length}
+use Rattle.berth.proofs.Berths.{standing-length, where-same}
 use Rattle.berth.proofs.Laid.{zeros-length, zeros-add, laid-length, laid-none, laid-beside}
 use lib.ListN.{length, take, drop, replicate, drop-of-length-le}
 use borrow.Author.Tests.{eq-eqb, ne-eqb, eqb-true, eqb-false, ltb-true, lt-ltb, le-leb, lt-leb}
 use Rattle.base.specs.Bytes.{byte, part, same, zeros}
 use Rattle.base.specs.Below.{every}
+use Rattle.base.specs.Bits.{bit}
 use Rattle.base.proofs.Cases.{by, and-left, and-right}
-use Rattle.base.proofs.Below.{every-next}
+use Rattle.base.proofs.Below.{every-next, every-each}
 
 pub xor-none : (x y : ℕ) → bitXor x y ≡ 0 → x ≡ y
 xor-none x y e = omega (arith, xor-add-and x y, and-le-l x y, and-le-r x y, e)
@@ -265,3 +266,15 @@ wiped-whole store p from at e =
     ap (λ t. laid store t (zeros (berthSize * sections))) at
     ∙ sym (wiped-all store p sections (b .whole) (b .place) (omega arith))
     ∙ wiped-where (λ _. true) store p e
+
+each-set : every sections (bit 65535) ≡ true
+unfolding every
+each-set = refl
+
+-- a mask that picks each of them
+pub wiped-each : (mask : ℕ) (store : List ℕ) (p : ℕ) → mask ≡ 65535 → wipedWhereIn (λ _. true) store p ≡ wipedWhereIn (bit mask) store p
+unfolding wipedWhereIn
+wiped-each mask store p e =
+    by (isPlace (length store) p)
+    (λ t. rw (t, e) (where-same (λ _. true) (bit 65535) sections store p (λ m h. sym (every-each (bit 65535) sections m h each-set))))
+    (λ t. rw t)

@@ -194,15 +194,6 @@ fn wipe_each(store: &mut [u8], p: usize, mask: u16)
     }
 }
 
-// Zeroes of the berths of place p those whose bit is 1.
-pub fn wipe_where(store: &mut [u8], p: usize, mask: u16)
-    ensures { λ _. ⌜ now (store .exit) ≡ wipedWhereIn (bit mask) (now (store .entry)) p ⌝ }
-{
-    if is_place(store.len(), p) {
-        wipe_each(store, p, mask);
-    }
-}
-
 // Zeroes all berths of place p.
 pub fn wipe_all(store: &mut [u8], p: usize)
     ensures { λ _. ⌜ now (store .exit) ≡ wipedWhereIn (λ _. true) (now (store .entry)) p ⌝ }
@@ -210,6 +201,22 @@ pub fn wipe_all(store: &mut [u8], p: usize)
     if is_place(store.len(), p) {
         let from = begins_at(p, 0);
         wipe_from(store, from, SECTIONS * BERTH);
+    }
+}
+
+// The mask that has a bit for each section.
+const EACH: u16 = 65535;
+
+// Zeroes of the berths of place p those whose bit is 1. Where it is 1 for each, as when a whole table gives way, they go as one.
+pub fn wipe_where(store: &mut [u8], p: usize, mask: u16)
+    ensures { λ _. ⌜ now (store .exit) ≡ wipedWhereIn (bit mask) (now (store .entry)) p ⌝ }
+{
+    if mask == EACH {
+        wipe_all(store, p);
+        return;
+    }
+    if is_place(store.len(), p) {
+        wipe_each(store, p, mask);
     }
 }
 

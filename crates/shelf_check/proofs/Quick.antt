@@ -52,7 +52,7 @@ module _ (words : List ℕ) (p : ℕ) where
       by (bit mask n)
       (λ b.
       let e : lengthAt (tableIn words p) n ≡ size n = held n h b (s n h .0) in
-      let low : n ≤ last % 16 = none-above mask (last % 16) n (f .low) b in
+      let low : n ≤ last % 32 = none-above mask (last % 32) n (f .low) b in
       rw (
         capped-low last (omega arith),
         le-ltb last n (omega arith),

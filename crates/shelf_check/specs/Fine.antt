@@ -23,9 +23,9 @@ pub record FineColumn (words : List ℕ) (k : ℕ) : Type 0 where
 abbrev pub FineColumns : List ℕ → Type 0
 FineColumns words = (k : ℕ) → k < 16 → FineColumn words k
 
--- of a last under 16: nothing above it is held
+-- of a last under 32: nothing above it is held
 pub record NoneAbove (words : List ℕ) (p : ℕ) : Type 0 where
-  pub low : getD words (80 + p) 0 / 2 ^ (getD words (67 + 4 * p) 0 % 16) ≤ 1
+  pub low : getD words (80 + p) 0 / 2 ^ (getD words (67 + 4 * p) 0 % 32) ≤ 1
 
 -- something is held
 pub record OneHeld (words : List ℕ) (p : ℕ) : Type 0 where

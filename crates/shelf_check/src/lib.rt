@@ -103,10 +103,10 @@ fn top(words: &[u16]) -> u16
 }
 
 // Over 1 where a number above last is held.
-fn above(mask: u16, last: u16) -> u16
-    ensures { λ r. ⌜ r ≡ mask / 2 ^ (last % 16) ⌝ }
+fn above(mask: u16, last: u16) -> u32
+    ensures { λ r. ⌜ r ≡ mask / 2 ^ (last % 32) ⌝ }
 {
-    mask >> (last % 16)
+    (mask as u32) >> (last as u32 % 32)
 }
 
 // Whether in each place nothing is held above last.

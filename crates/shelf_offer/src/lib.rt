@@ -117,15 +117,16 @@ fn step_of(words: &[u16], store: &[u8], payload: &[u8]) -> Step
     }
 }
 
-// Stores a section and says in the numbers that it is held.
+// Says in the numbers that a section is held, and stores it. The numbers come first: the next call reads them by wide loads, which wait
+// for all that was written before them.
 fn add(words: &mut [u16], store: &mut [u8], payload: &[u8], p: usize, n: usize)
     requires { ⌜ length (now payload) ≤ berthSize ⌝ }
     ensures { λ _. ⌜ now (words .exit) ≡ heldPut (now (words .entry)) p n (length (now (payload .entry))) ⌝ }
     ensures { λ _. ⌜ now (store .exit) ≡ putIn (now (store .entry)) p n (now (payload .entry)) ⌝ }
 {
     let size = payload.len() as u16;
-    berth::put(store, p, n, payload);
     shelf_write::put_held(words, p, n, size);
+    berth::put(store, p, n, payload);
 }
 
 // Offers a payload to the record that the numbers are. A refused call and a repeat leave numbers and store as they were; the
