@@ -25,7 +25,7 @@ use Rattle.shelf_laws.specs.File.{carries}
 use Rattle.shelf_laws.specs.Named.{keyIn}
 use Rattle.shelf_laws.specs.Answers.{begins, joins, accepted, isDone, frees}
 use Rattle.shelf_laws.specs.History.{Call, Entry, entry, step, after, logged, start, afterAll, logOf}
-use Rattle.shelf_laws.specs.Log.{loads, beginning, accepting, releasing, heldBy, since, lastSince, bytesSince}
+use Rattle.shelf_laws.specs.Log.{loads, beginning, accepting, releasing, heldBy, since, versionSince, lastSince, bytesSince}
 use Rattle.shelf_laws.proofs.Truth.{or-none}
 use Rattle.shelf_laws.proofs.Places.{same-key, key-itself, has-not, not-held}
 use Rattle.shelf_laws.proofs.Kept.{Good, Table, Kept, kept-as, Alike, alike-kept}
@@ -34,15 +34,15 @@ use Rattle.shelf_laws.proofs.Released.{release-good, release-apart, rel
 use Rattle.shelf_laws.proofs.Loaded.{load-good, load-apart, load-begins}
 use Rattle.shelf_laws.proofs.HandedOut.{joins-else}
 
--- what the log says of the table with a key; of its version nothing is said that the shelf does not have
-abbrev pub loggedTable : Key → List Entry → ℕ → Table
-loggedTable key log v = record { version = v; last = lastSince key log; has = since key log; bytes = bytesSince key log }
+-- what the log says of the table with a key
+abbrev pub loggedTable : Key → List Entry → Table
+loggedTable key log =
+    record { version = versionSince key log; last = lastSince key log; has = since key log; bytes = bytesSince key log }
 
 -- the table is held exactly when the log says so, and then that is kept of it
 pub record AsLogged (s : State) (log : List Entry) (key : Key) : Type 0 where
   pub held : heldBy key log ≡ ltb (placeOf s.shelf key) places
-  pub kept : placeOf s.shelf key < places
-      → Kept s key (placeOf s.shelf key) (loggedTable key log (placeAt s.shelf (placeOf s.shelf key) .version))
+  pub kept : placeOf s.shelf key < places → Kept s key (placeOf s.shelf key) (loggedTable key log)
 
 pub record Holds (s : State) (log : List Entry) : Type 0 where
   pub good : Good s
@@ -58,20 +58,20 @@ unmoved s log h t e key a no-section no-beginning no-release =
           let j : placeOf s.shelf key < places = rw (a .place) at i in
           kept-as t (alike-kept s t key a (h .good) (h .table key .kept j))
           (sym (a .place))
-          (ap (λ x. x .version) (sym (a .table j)) ∙ ap (λ p. placeAt t.shelf p .version) (sym (a .place)))
+          (rw no-beginning)
           (rw no-beginning)
           (λ n. rw (no-section n, no-beginning))
           (λ n _. rw (no-section n));
     }
 
--- a table that the log holds, kept at some place with some version
-settled : (t : State) (log : List Entry) (key : Key) {p : ℕ} {u : Table} → Kept t key p u → heldBy key log ≡ true → u.last ≡ lastSince key log
-    → ((n : ℕ) → u.has n ≡ since key log n) → ((n : ℕ) → u.has n ≡ true → u.bytes n ≡ bytesSince key log n) → AsLogged t log key
-settled t log key k y l h b =
+-- a table that the log holds, kept at some place
+settled : (t : State) (log : List Entry) (key : Key) {p : ℕ} {u : Table} → Kept t key p u → heldBy key log ≡ true
+    → u.version ≡ versionSince key log → u.last ≡ lastSince key log → ((n : ℕ) → u.has n ≡ since key log n)
+    → ((n : ℕ) → u.has n ≡ true → u.bytes n ≡ bytesSince key log n) → AsLogged t log key
+settled t log key k y v l h b =
     record {
       held = y ∙ sym (lt-ltb (placeOf t.shelf key) places (rw (k .place) (k .taken)));
-      kept = λ _.
-          kept-as t k (sym (k .place)) (sym (k .version) ∙ ap (λ p. placeAt t.shelf p .version) (sym (k .place))) l h b;
+      kept = λ _. kept-as t k (sym (k .place)) v l h b;
     }
 
 not-accepting : (k a b : Bool) → (k && a) ≡ false → (k && (a && b)) ≡ false
@@ -100,14 +100,14 @@ module _ (s : State) (log : List Entry) (h : Holds s log) where
         by (begins (offerTo s payload .said))
         (λ b.
         settled (step s offering) (entry s offering ∷ log) (keyIn payload) (offer-begins s payload (h .good) b)
-        (rw (itself, b)) (rw (itself, b)) (λ n. rw (itself, a, b) (or-none (eqb n (sectionNumber payload)))) (λ n y. rw (itself, a, y)))
+        (rw (itself, b)) (rw (itself, b)) (rw (itself, b)) (λ n. rw (itself, a, b) (or-none (eqb n (sectionNumber payload)))) (λ n y. rw (itself, a, y)))
         (λ b.
         let j : joins (offerTo s payload .said) ≡ true = joins-else (offerTo s payload .said) a b in
         let was : placeOf s.shelf (keyIn payload) < places = joins-held s payload (h .good) j in
         settled (step s offering) (entry s offering ∷ log) (keyIn payload)
         (offer-joins s payload (h .good) (placeOf s.shelf (keyIn payload)) (h .table (keyIn payload) .kept was) j)
         (rw (itself, b) (h .table (keyIn payload) .held ∙ lt-ltb (placeOf s.shelf (keyIn payload)) places was))
-        (rw (itself, b)) (λ n. rw (itself, a, b)) (λ n _. rw (itself, a)))
+        (rw (itself, b)) (rw (itself, b)) (λ n. rw (itself, a, b)) (λ n _. rw (itself, a)))
 
     offered-kept : (key : Key) → AsLogged (step s offering) (entry s offering ∷ log) key
     offered-kept key =
@@ -133,7 +133,7 @@ module _ (s : State) (log : List Entry) (h : Holds s log) where
         let mine = and-left (loads key file) done t in
         let loaded = and-right (loads key file) done t in
         settled (step s loading) (entry s loading ∷ log) key (load-begins s file (h .good) key t)
-        (rw (mine, loaded)) (rw (mine, loaded)) (λ n. rw (mine, loaded) (or-none (carries file n))) (λ n y. rw (mine, loaded, y)))
+        (rw (mine, loaded)) (rw (mine, loaded)) (rw (mine, loaded)) (λ n. rw (mine, loaded) (or-none (carries file n))) (λ n y. rw (mine, loaded, y)))
         (λ f.
         unmoved s log h (step s loading) (entry s loading) key (load-apart s file (h .good) key f)
         (λ n. not-accepting (loads key file) done (carries file n) f) f refl)

@@ -4,7 +4,7 @@ use mathlib.Core.List.{List, [], _∷_}
 use mathlib.Core.Bool.{Bool, false, _&&_, _||_}
 use lib.Dec.{eqb}
 use Rattle.base.specs.Choice.{if_then_else_}
-use Rattle.section.specs.Section.{sectionNumber, lastSectionNumber}
+use Rattle.section.specs.Section.{version, sectionNumber, lastSectionNumber}
 use Rattle.shelf.specs.Record.{sameKey}
 use Rattle.shelf.specs.declared.Key.{Key}
 use Rattle.shelf.specs.Record.{keyOf}
@@ -32,7 +32,13 @@ tableLast (Scan.Refused n) = 0
 abbrev pub loads : Key → List ℕ → Bool
 loads key file = tableHas key (scanOf file .answer)
 
--- the last number in an entry, and the bytes of section n
+-- the version in an entry, the last number, and the bytes of section n
+abbrev pub versionOf : Entry → ℕ
+versionOf (offered payload said) = version payload
+versionOf (loaded file said) = tableVersion (scanOf file .answer)
+versionOf (released k said) = 0
+versionOf (asked question said) = 0
+
 abbrev pub lastOf : Entry → ℕ
 lastOf (offered payload said) = lastSectionNumber payload
 lastOf (loaded file said) = tableLast (scanOf file .answer)
@@ -77,6 +83,11 @@ module _ (key : Key) where
   abbrev pub since : List Entry → ℕ → Bool
   since [] n = false
   since (e ∷ log) n = accepting n e || (if beginning e then false else since log n)
+
+  -- the version with which the table last began
+  abbrev pub versionSince : List Entry → ℕ
+  versionSince [] = 0
+  versionSince (e ∷ log) = if beginning e then versionOf e else versionSince log
 
   -- the last number with which the table last began
   abbrev pub lastSince : List Entry → ℕ
