@@ -1,5 +1,5 @@
 -- A table is held exactly when the log has a beginning of it and no release since.
---   held-place           then, and only then, it has a place on the shelf
+--   held-place, place-held, unheld-place, place-unheld    then, and only then, it has a place on the shelf
 --   held-exactly         and every question about it is answered otherwise than 14
 --   released-exactly     and a release of it is done
 use mathlib.Core.Path.{_≡_, refl, sym, ap, _∙_}
@@ -7,7 +7,7 @@ use mathlib.Core.Bool.{true, false}
 use mathlib.Core.List.{List}
 use Prim.Native.Nat.{ℕ, _<_, _≤_}
 use native.Mathlib.Omega.{arith}
-use borrow.Author.Tests.{ltb-true, ltb-false}
+use borrow.Author.Tests.{ltb-true, ltb-false, lt-ltb}
 use Rattle.base.proofs.Cases.{by, unlike}
 use Rattle.berth.specs.Berth.{places}
 use Rattle.shelf.specs.Record.{placeOf}
@@ -27,6 +27,12 @@ use Rattle.shelf_laws.proofs.Histories.{holds-all}
 module _ (h : List Call) (key : Key) where
   pub held-place : heldBy key (logOf h) ≡ true → placeOf (afterAll h .shelf) key < places
   held-place t = ltb-true _ _ (sym (holds-all h .table key .held) ∙ t)
+
+  pub place-held : placeOf (afterAll h .shelf) key < places → heldBy key (logOf h) ≡ true
+  place-held i = holds-all h .table key .held ∙ lt-ltb _ _ i
+
+  pub place-unheld : placeOf (afterAll h .shelf) key ≡ places → heldBy key (logOf h) ≡ false
+  place-unheld e = holds-all h .table key .held ∙ rw e
 
   pub unheld-place : heldBy key (logOf h) ≡ false → placeOf (afterAll h .shelf) key ≡ places
   unheld-place f =

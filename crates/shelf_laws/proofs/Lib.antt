@@ -14,6 +14,7 @@ pub mod Octets
 pub mod Faults
 pub mod Histories
 pub mod Held
+pub mod Full
 pub mod Ranges
 pub mod Never
 pub mod Complete

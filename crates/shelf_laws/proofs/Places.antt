@@ -4,7 +4,7 @@
 --   at-same, at-other, formed-with                    a record with another place
 --   one-key                                           in an unspoiled record no key stands twice
 --   placed, held-at, unheld, not-held, place-of, place-same    where a key is held
---   free-le, free-at                                  the free place
+--   free-le, free-at, none-free                       the free place
 --   Bounded, bounded, right                           a taken place is right when its numbers are in their bounds
 --   unspoiled-with                                    another place keeps the record unspoiled
 use mathlib.Core.Path.{_≡_, refl, sym, ap, subst, fun-ext, _∙_}
@@ -16,7 +16,7 @@ use native.Mathlib.Omega.{arith}
 use lib.Dec.{ltb, eqb}
 use lib.ListN.{length, length-set}
 use lib.Seq.{getD-set-same, getD-set-other}
-use borrow.Author.Tests.{ltb-true, ltb-false, eqb-true, eqb-false, eq-eqb, ne-eqb, not-true}
+use borrow.Author.Tests.{ltb-true, ltb-false, eqb-true, eqb-false, eq-eqb, ne-eqb, not-true, not-false}
 use Rattle.base.specs.Below.{lowest}
 use Rattle.base.proofs.Cases.{by, same-or, unlike, and-left, and-right}
 use Rattle.base.proofs.Below.{lowest-le, lowest-holds, lowest-below, lowest-all}
@@ -128,6 +128,10 @@ module _ (shelf : Shelf) where
   pub free-at : freeOf shelf < places → placeAt shelf (freeOf shelf) .taken ≡ false
   unfolding freeOf
   free-at h = not-true _ (lowest-holds (λ p. not (placeAt shelf p .taken)) places h)
+
+  pub none-free : freeOf shelf ≡ places → (p : ℕ) → p < places → placeAt shelf p .taken ≡ true
+  unfolding freeOf
+  none-free e p h = not-false _ (lowest-below (λ p. not (placeAt shelf p .taken)) places p (rw e h))
 
 -- every held section has its number and its length in their bounds
 abbrev pub Bounded : Place → Type 0

@@ -1,10 +1,12 @@
 -- What a log says of the table with a key, by the calls and their answers alone. A log has its latest entry first.
-use Prim.Native.Nat.{ℕ}
+use Prim.Native.Nat.{ℕ, _<_}
+use mathlib.Core.Path.{_≡_}
 use mathlib.Core.List.{List, [], _∷_}
-use mathlib.Core.Bool.{Bool, false, _&&_, _||_}
+use mathlib.Core.Bool.{Bool, true, false, _&&_, _||_}
 use lib.Dec.{eqb}
 use Rattle.base.specs.Choice.{if_then_else_}
 use Rattle.section.specs.Section.{version, sectionNumber, lastSectionNumber}
+use Rattle.berth.specs.Berth.{places}
 use Rattle.shelf.specs.Record.{sameKey}
 use Rattle.shelf.specs.declared.Key.{Key}
 use Rattle.shelf.specs.Record.{keyOf}
@@ -98,3 +100,9 @@ module _ (key : Key) where
   abbrev pub bytesSince : List Entry → ℕ → List ℕ
   bytesSince [] n = []
   bytesSince (e ∷ log) n = if accepting n e then bytesOf e n else bytesSince log n
+
+-- four tables with different keys are held
+pub record Full (log : List Entry) : Type 0 where
+  pub key : ℕ → Key
+  pub held : (n : ℕ) → n < places → heldBy (key n) log ≡ true
+  pub different : (m n : ℕ) → m < n → n < places → ¬ (key m ≡ key n)
