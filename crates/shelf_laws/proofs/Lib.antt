@@ -15,6 +15,7 @@ pub mod Faults
 pub mod Histories
 pub mod Held
 pub mod Full
+pub mod Says
 pub mod Ranges
 pub mod Never
 pub mod Complete

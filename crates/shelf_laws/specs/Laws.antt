@@ -20,6 +20,7 @@ use Rattle.shelf_laws.specs.Named.{keyIn, offerNames, loadNames, release
 use Rattle.shelf_laws.specs.Answers.{accepted}
 use Rattle.shelf_laws.specs.History.{Question, about, Call, replyNo, replyAfter, afterAll, logOf, copyAfter, wholeAfter, logged, numberIn, Each}
 use Rattle.shelf_laws.specs.Log.{heldBy, since, lastSince}
+use Rattle.shelf_laws.specs.Offers.{Says}
 use Rattle.shelf_laws.specs.Reception.{SectionOf, OfferedIn, Undisturbed}
 
 -- every question about a table is answered otherwise than 14 exactly when the log has a beginning of it and no release since (Held)
@@ -36,6 +37,14 @@ CompleteExactly =
     (h : List Call) (key : Key)
     → heldBy key (logOf h) ≡ true
     → (wholeAfter h key ≡ Whole.Complete) ↔ ((n : ℕ) → n ≤ lastSince key (logOf h) → since key (logOf h) n ≡ true)
+
+-- a sound section of a table is answered so exactly when the log says it (Says)
+abbrev pub OfferedExactly : Type 0
+OfferedExactly =
+    (h : List Call) (key : Key) (payload : List ℕ)
+    → SectionOf key payload
+    → (a : Offered)
+    → (offerTo (afterAll h) payload .said ≡ a) ↔ Says key payload (logOf h) a
 
 -- of two histories that leave a table undisturbed, if the second offers every sound section of it that the first does, then it hands out
 -- each section that the first does, with the same bytes, and calls the table complete if the first does (Reception)

@@ -4,5 +4,6 @@ pub mod Named
 pub mod Answers
 pub mod History
 pub mod Log
+pub mod Offers
 pub mod Reception
 pub mod Laws
