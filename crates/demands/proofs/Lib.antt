@@ -1,3 +1,4 @@
 pub mod Shelf
+pub mod Offers
 pub mod Files
 pub mod Bench

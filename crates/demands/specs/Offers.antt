@@ -1,0 +1,26 @@
+-- Document 01, "Offering a sound section", of the functions that a host calls: what a sound section is answered after any history. The
+-- theorems are in proofs/Offers.
+--
+-- `heldBy`, `since`, `versionSince`, `lastSince`, `bytesSince` and `Full` (shelf_laws, specs/Log) read the log that the numbers tell, and
+-- never the record; `Joins` (specs/Offers) is a table that is held with the section's version and last number.
+use Prim.Native.Nat.{ℕ}
+use mathlib.Core.Path.{_≡_}
+use mathlib.Core.Bool.{false}
+use mathlib.Core.Logic.{_↔_}
+use mathlib.Core.List.{List}
+use Rattle.shelf.specs.declared.Key.{Key}
+use Rattle.shelf_laws.specs.History.{Entry}
+use Rattle.shelf_laws.specs.Log.{heldBy, Full}
+use Rattle.shelf_laws.specs.Reception.{SectionOf}
+use Rattle.shelf_histories.specs.History.{History, logAfter, offerAfter}
+
+-- a sound section of the table with a key is answered by this number exactly when the log says so of the two
+abbrev pub Exactly : ℕ → (Key → List ℕ → List Entry → Type 0) → Type 0
+Exactly number Says =
+    (h : History) (key : Key) (payload : List ℕ)
+    → SectionOf key payload
+    → (offerAfter h payload .code ≡ number) ↔ Says key payload (logAfter h)
+
+-- new key, no free place: four tables are held, and not that of the section
+abbrev pub NineExactly : Type 0
+NineExactly = Exactly 9 (λ key payload log. (heldBy key log ≡ false) × Full log)
