@@ -9,6 +9,8 @@ use mathlib.Core.Bool.{false}
 use mathlib.Core.Logic.{_↔_}
 use mathlib.Core.List.{List}
 use Rattle.shelf.specs.declared.Key.{Key}
+use Rattle.shelf_offer.specs.declared.Offered.{Offered}
+use Rattle.shelf_offer.specs.Answer.{offeredCode}
 use Rattle.shelf_laws.specs.History.{Entry}
 use Rattle.shelf_laws.specs.Log.{heldBy, Full}
 use Rattle.shelf_laws.specs.Reception.{SectionOf}
@@ -24,3 +26,7 @@ Exactly number Says =
 -- new key, no free place: four tables are held, and not that of the section
 abbrev pub NineExactly : Type 0
 NineExactly = Exactly 9 (λ key payload log. (heldBy key log ≡ false) × Full log)
+
+-- key not held: it begins the table
+abbrev pub BeganExactly : Type 0
+BeganExactly = Exactly (offeredCode Offered.Began) (λ key payload log. (heldBy key log ≡ false) × ¬ (Full log))
