@@ -5,14 +5,15 @@
 -- never the record; `Joins` (specs/Offers) is a table that is held with the section's version and last number.
 use Prim.Native.Nat.{ℕ}
 use mathlib.Core.Path.{_≡_}
-use mathlib.Core.Bool.{false}
+use mathlib.Core.Bool.{true, false}
 use mathlib.Core.Logic.{_↔_}
 use mathlib.Core.List.{List}
+use Rattle.section.specs.Section.{version}
 use Rattle.shelf.specs.declared.Key.{Key}
 use Rattle.shelf_offer.specs.declared.Offered.{Offered}
 use Rattle.shelf_offer.specs.Answer.{offeredCode}
 use Rattle.shelf_laws.specs.History.{Entry}
-use Rattle.shelf_laws.specs.Log.{heldBy, Full}
+use Rattle.shelf_laws.specs.Log.{heldBy, versionSince, Full}
 use Rattle.shelf_laws.specs.Reception.{SectionOf}
 use Rattle.shelf_histories.specs.History.{History, logAfter, offerAfter}
 
@@ -30,3 +31,9 @@ NineExactly = Exactly 9 (λ key payload log. (heldBy key log ≡ false) × Full 
 -- key not held: it begins the table
 abbrev pub BeganExactly : Type 0
 BeganExactly = Exactly (offeredCode Offered.Began) (λ key payload log. (heldBy key log ≡ false) × ¬ (Full log))
+
+-- key held, other version: it begins the table again
+abbrev pub BeganAgainExactly : Type 0
+BeganAgainExactly =
+    Exactly (offeredCode Offered.BeganAgain)
+    (λ key payload log. (heldBy key log ≡ true) × ¬ (versionSince key log ≡ version payload))
