@@ -8,12 +8,13 @@ use mathlib.Core.Path.{_≡_}
 use mathlib.Core.Bool.{true, false}
 use mathlib.Core.Logic.{_↔_}
 use mathlib.Core.List.{List}
-use Rattle.section.specs.Section.{version}
+use Rattle.section.specs.Section.{version, sectionNumber}
 use Rattle.shelf.specs.declared.Key.{Key}
 use Rattle.shelf_offer.specs.declared.Offered.{Offered}
 use Rattle.shelf_offer.specs.Answer.{offeredCode}
 use Rattle.shelf_laws.specs.History.{Entry}
-use Rattle.shelf_laws.specs.Log.{heldBy, versionSince, Full}
+use Rattle.shelf_laws.specs.Log.{heldBy, since, versionSince, Full}
+use Rattle.shelf_laws.specs.Offers.{Joins}
 use Rattle.shelf_laws.specs.Reception.{SectionOf}
 use Rattle.shelf_histories.specs.History.{History, logAfter, offerAfter}
 
@@ -37,3 +38,9 @@ abbrev pub BeganAgainExactly : Type 0
 BeganAgainExactly =
     Exactly (offeredCode Offered.BeganAgain)
     (λ key payload log. (heldBy key log ≡ true) × ¬ (versionSince key log ≡ version payload))
+
+-- same version, number not held, same last number: it is added
+abbrev pub AddedExactly : Type 0
+AddedExactly =
+    Exactly (offeredCode Offered.Added)
+    (λ key payload log. Joins key payload log × (since key log (sectionNumber payload) ≡ false))
