@@ -13,7 +13,7 @@ use Rattle.shelf.specs.declared.Key.{Key}
 use Rattle.shelf_offer.specs.declared.Offered.{Offered}
 use Rattle.shelf_offer.specs.Answer.{offeredCode}
 use Rattle.shelf_laws.specs.History.{Entry}
-use Rattle.shelf_laws.specs.Log.{heldBy, since, versionSince, Full}
+use Rattle.shelf_laws.specs.Log.{heldBy, since, versionSince, bytesSince, Full}
 use Rattle.shelf_laws.specs.Offers.{Joins}
 use Rattle.shelf_laws.specs.Reception.{SectionOf}
 use Rattle.shelf_histories.specs.History.{History, logAfter, offerAfter}
@@ -44,3 +44,12 @@ abbrev pub AddedExactly : Type 0
 AddedExactly =
     Exactly (offeredCode Offered.Added)
     (λ key payload log. Joins key payload log × (since key log (sectionNumber payload) ≡ false))
+
+-- same version, same number, same bytes throughout: a repeat
+abbrev pub RepeatExactly : Type 0
+RepeatExactly =
+    Exactly (offeredCode Offered.Repeat)
+    (λ key payload log.
+    Joins key payload log
+    × (since key log (sectionNumber payload) ≡ true)
+    × (bytesSince key log (sectionNumber payload) ≡ payload))
