@@ -1,5 +1,5 @@
 -- What a sound section is answered, proved of the functions that a host calls: the layer's law, told of lent numbers.
---   nine-exactly, began-exactly, began-again-exactly, added-exactly, repeat-exactly
+--   nine-exactly, began-exactly, began-again-exactly, added-exactly, repeat-exactly, ten-exactly
 use mathlib.Core.Path.{_≡_, sym, ap, subst, _∙_}
 use mathlib.Core.Logic.{_↔_}
 use mathlib.Core.List.{List}
@@ -16,7 +16,7 @@ use Rattle.shelf_laws.proofs.Ranges.{OfferRange, range}
 use Rattle.shelf_laws.proofs.Histories.{holds-all}
 use Rattle.shelf_histories.specs.History.{History, offerAfter}
 use Rattle.shelf_histories.proofs.After.{next-answer}
-use Rattle.demands.specs.Offers.{Exactly, NineExactly, BeganExactly, BeganAgainExactly, AddedExactly, RepeatExactly}
+use Rattle.demands.specs.Offers.{Exactly, NineExactly, BeganExactly, BeganAgainExactly, AddedExactly, RepeatExactly, TenExactly}
 use Rattle.demands.proofs.Shelf.{same-log}
 
 -- the answer comes back out of its number
@@ -55,3 +55,6 @@ added-exactly = offered-exactly Offered.Added tt
 
 pub repeat-exactly : RepeatExactly
 repeat-exactly = offered-exactly Offered.Repeat tt
+
+pub ten-exactly : TenExactly
+ten-exactly = offered-exactly (Offered.Refused 10) (omega arith, omega arith)

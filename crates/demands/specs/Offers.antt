@@ -6,14 +6,14 @@
 use Prim.Native.Nat.{ℕ}
 use mathlib.Core.Path.{_≡_}
 use mathlib.Core.Bool.{true, false}
-use mathlib.Core.Logic.{_↔_}
+use mathlib.Core.Logic.{_↔_, _⊎_}
 use mathlib.Core.List.{List}
-use Rattle.section.specs.Section.{version, sectionNumber}
+use Rattle.section.specs.Section.{version, sectionNumber, lastSectionNumber}
 use Rattle.shelf.specs.declared.Key.{Key}
 use Rattle.shelf_offer.specs.declared.Offered.{Offered}
 use Rattle.shelf_offer.specs.Answer.{offeredCode}
 use Rattle.shelf_laws.specs.History.{Entry}
-use Rattle.shelf_laws.specs.Log.{heldBy, since, versionSince, bytesSince, Full}
+use Rattle.shelf_laws.specs.Log.{heldBy, since, versionSince, lastSince, bytesSince, Full}
 use Rattle.shelf_laws.specs.Offers.{Joins}
 use Rattle.shelf_laws.specs.Reception.{SectionOf}
 use Rattle.shelf_histories.specs.History.{History, logAfter, offerAfter}
@@ -53,3 +53,13 @@ RepeatExactly =
     Joins key payload log
     × (since key log (sectionNumber payload) ≡ true)
     × (bytesSince key log (sectionNumber payload) ≡ payload))
+
+-- same version with another last number, or other bytes at a held number
+abbrev pub TenExactly : Type 0
+TenExactly =
+    Exactly 10
+    (λ key payload log.
+    (heldBy key log ≡ true)
+    × (versionSince key log ≡ version payload)
+    × (¬ (lastSince key log ≡ lastSectionNumber payload)
+    ⊎ ((since key log (sectionNumber payload) ≡ true) × ¬ (bytesSince key log (sectionNumber payload) ≡ payload))))
