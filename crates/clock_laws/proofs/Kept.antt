@@ -118,6 +118,7 @@ module _ (t : Moment) (k : Kept t) (a : Activation) (y : Accepts (t .book) a) wh
   applied-now h =
       record {
         sound = sound-now true (wrong-past (t .book .now) (record { activation = a; applied = true }) (y .known) refl h ∙ y .young);
+        clock = k .clock;
         distinct = distinct-now;
         once =
             (let back : Rearranged (a ∷ (t .account .applied ++ t .account .waiting)) ((t .account .applied ++ (a ∷ [])) ++ t .account .waiting) =
@@ -137,6 +138,7 @@ module _ (t : Moment) (k : Kept t) (a : Activation) (y : Accepts (t .book) a) wh
   waiting-now h =
       record {
         sound = sound-now false (wrong-waiting (t .book .now) (record { activation = a; applied = false }) (y .known) refl ∙ lt-leb _ _ h);
+        clock = k .clock;
         distinct = distinct-now;
         once =
             (let last : Rearranged ((t .account .applied ++ t .account .waiting) ++ (a ∷ [])) (a ∷ (t .account .applied ++ t .account .waiting)) =
@@ -162,6 +164,7 @@ moved-on t k to h =
           sound-of to (keptOf to (t .book .held))
           (any-kept (t .book .now) to h (t .book .held) (none-wrong (t .book) (k .sound)))
           (two-kept to (t .book .held) (none-alike (t .book) (k .sound)));
+      clock = refl;
       distinct = k .distinct;
       once =
           (let parted : Rearranged (t .account .waiting) (sortOf (onlyOf (reached to) (t .account .waiting)) ++ onlyOf (λ a. not (reached to a)) (t .account .waiting)) =
@@ -209,7 +212,17 @@ steps-kept t (x ∷ h) k = steps-kept (step t x) h (step-kept t x k)
 begun : Kept (record { book = fresh; account = nothingYet })
 unfolding spoiledBy anyOf twoAlike waitingOf runOf
 begun =
-    record { sound = refl; distinct = tt; once = Rearranged.none; ahead = tt; waits = refl; states = refl; known = tt; held = tt }
+    record {
+      sound = refl;
+      clock = refl;
+      distinct = tt;
+      once = Rearranged.none;
+      ahead = tt;
+      waits = refl;
+      states = refl;
+      known = tt;
+      held = tt;
+    }
 
 -- over any history from fresh
 pub kept : (h : List Call) → Kept (after h)

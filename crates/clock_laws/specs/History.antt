@@ -17,26 +17,30 @@ pub data Call : Type 0 where
   offer : Activation → Call
   move : ℕ → Call
 
--- what was accepted, in the order of the offers; what was applied, in the order of applying; and what still waits.
--- It is kept from the calls and their answers alone
+-- where the last move went that was not refused; what was accepted, in the order of the offers; what was applied, in the order of
+-- applying; and what still waits. It is kept from the calls and their answers alone
 pub record Account : Type 0 where
+  pub now : ℕ
   pub accepted : List Activation
   pub applied : List Activation
   pub waiting : List Activation
 
 abbrev pub nothingYet : Account
-nothingYet = record { accepted = []; applied = []; waiting = [] }
+nothingYet = record { now = 0; accepted = []; applied = []; waiting = [] }
 
 -- an offer answered `Applied` was applied, one answered `Waiting` waits, and a refused one is neither
 abbrev pub heard : Account → Activation → Heard → Account
-heard k a Heard.Applied = record { accepted = k .accepted ++ (a ∷ []); applied = k .applied ++ (a ∷ []); waiting = k .waiting }
-heard k a Heard.Waiting = record { accepted = k .accepted ++ (a ∷ []); applied = k .applied; waiting = k .waiting ++ (a ∷ []) }
+heard k a Heard.Applied =
+    record { now = k .now; accepted = k .accepted ++ (a ∷ []); applied = k .applied ++ (a ∷ []); waiting = k .waiting }
+heard k a Heard.Waiting =
+    record { now = k .now; accepted = k .accepted ++ (a ∷ []); applied = k .applied; waiting = k .waiting ++ (a ∷ []) }
 heard k a (Heard.Refused n) = k
 
 -- a move applies the waiting ones that it reaches, by time, then application, then event; the others still wait
 abbrev pub passed : Account → ℕ → Moved → Account
 passed k to (Moved.Applied n) =
     record {
+      now = to;
       accepted = k .accepted;
       applied = k .applied ++ sortOf (onlyOf (reached to) (k .waiting));
       waiting = onlyOf (λ a. not (reached to a)) (k .waiting);

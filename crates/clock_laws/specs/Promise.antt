@@ -21,6 +21,8 @@ use Rattle.clock_laws.specs.History.{Moment}
 pub record Kept (t : Moment) : Type 0 where
   -- the record is not spoiled
   pub sound : spoiled (t .book) ≡ false
+  -- its clock stands where the account's last move went
+  pub clock : t .book .now ≡ t .account .now
   -- each accepted activation is applied exactly once or still waits: no two accepted are alike, and those applied
   -- with those that wait are the accepted in some order. The account keeps these by itself; that the record goes with it is
   -- `sound`, `waits` and `states`
