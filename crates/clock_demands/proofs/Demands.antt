@@ -1,5 +1,5 @@
 -- What is demanded of the clock, of the exported functions' own promises.
---   demands   `ClockDemands`: the history, kept, never-35 and accepted-33
+--   demands   `ClockDemands`: the history, kept, never-35, accepted-33 and time-told
 use mathlib.Core.Path.{_≡_, sym, ap, subst, _∙_}
 use mathlib.Core.Bool.{false}
 use mathlib.Core.List.{List}
@@ -15,7 +15,9 @@ use Rattle.clock_record.specs.Book.{Book, spoiled}
 use Rattle.clock_record.specs.Words.{bookIn}
 use Rattle.clock_record.proofs.Lists.{all-map}
 use Rattle.clock.specs.Offer.{offerIn, refused}
-use Rattle.clock.specs.Codes.{refusalOf}
+use Rattle.clock.specs.declared.AskedTime.{AskedTime}
+use Rattle.clock.specs.Ask.{timeIn}
+use Rattle.clock.specs.Codes.{refusalOf, timeCode}
 use Rattle.clock_laws.specs.History.{Account, after}
 use Rattle.clock_laws.specs.Promise.{Kept, Again}
 use Rattle.clock_laws.proofs.Words.{spoiled-true}
@@ -23,7 +25,7 @@ use Rattle.clock_laws.proofs.Exactly.{offer-when, move-when, time-when, state-w
 use Rattle.clock_laws.proofs.Kept.{kept, accepted-33}
 use Rattle.clock_answers.specs.Calls.{activation, heardIn, offerCall}
 use Rattle.clock_demands.specs.Host.{HostCall, layerCalls, codeIn, hostAfter}
-use Rattle.clock_demands.specs.Demands.{HostHistory, HostKept, Never35, HostAgain, Accepted33, ClockDemands}
+use Rattle.clock_demands.specs.Demands.{HostHistory, HostKept, Never35, HostAgain, Accepted33, TimeTold, ClockDemands}
 use Rattle.clock_demands.proofs.Boundary.{answered-code}
 use Rattle.clock_demands.proofs.History.{host-history}
 
@@ -45,6 +47,16 @@ module _ (w : List ℕ) (h : List HostCall) (r : HostHistory w h) where
 
   sound : spoiled (bookIn (hostAfter w h .words)) ≡ false
   sound = host-kept .sound
+
+  sound-time : timeIn (bookIn (hostAfter w h .words)) ≡ AskedTime.At (bookIn (hostAfter w h .words) .now)
+  unfolding timeIn
+  sound-time = rw sound
+
+  host-time : TimeTold w h
+  host-time =
+      answered-code (hostAfter w h .words) long HostCall.askTime
+      ∙ ap timeCode sound-time
+      ∙ ap (λ (t : ℕ). timeCode (AskedTime.At t)) (host-kept .clock)
 
   code-35 : (x : HostCall) → refusalOf (codeIn (bookIn (hostAfter w h .words)) x) ≡ 35 → ⊥
   code-35 (HostCall.offer p e x t) q =
@@ -75,4 +87,4 @@ module _ (w : List ℕ) (h : List HostCall) (r : HostHistory w h) where
 pub demands : ClockDemands
 demands w z h f =
     let r = host-history w z h f in
-    record { history = r; kept = host-kept w h r; never-35 = host-35 w h r; accepted-33 = host-33 w h r }
+    record { history = r; kept = host-kept w h r; never-35 = host-35 w h r; accepted-33 = host-33 w h r; time-told = host-time w h r }

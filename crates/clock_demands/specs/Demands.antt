@@ -9,10 +9,11 @@ use Rattle.clock_record.specs.Lists.{All}
 use Rattle.clock_record.specs.Book.{fresh}
 use Rattle.clock_record.specs.Words.{recordSize, bookIn}
 use Rattle.clock.specs.Spoiled.{One}
-use Rattle.clock.specs.Codes.{refusalOf}
+use Rattle.clock.specs.declared.AskedTime.{AskedTime}
+use Rattle.clock.specs.Codes.{refusalOf, timeCode}
 use Rattle.clock_laws.specs.History.{after}
 use Rattle.clock_laws.specs.Promise.{Kept}
-use Rattle.clock_answers.specs.Calls.{activation, unchanged, freshCall, offerCall}
+use Rattle.clock_answers.specs.Calls.{activation, unchanged, freshCall, offerCall, timeCall}
 use Rattle.clock_demands.specs.Host.{HostCall, Typed, answered, leftBy, answeredBy, layerCalls, codesBy, hostAfter}
 
 -- the words are the record of the layer's history of the same calls, every answer is the number for that history's answer, and
@@ -42,12 +43,17 @@ HostAgain w a =
 abbrev pub Accepted33 : List ℕ → List HostCall → Type 0
 Accepted33 w h = All (HostAgain (hostAfter w h .words)) (hostAfter w h .account .accepted)
 
+-- the time that is answered is where the last move went that was not refused, and 0 before there is one
+abbrev pub TimeTold : List ℕ → List HostCall → Type 0
+TimeTold w h = timeCall (hostAfter w h .words) ≡ timeCode (AskedTime.At (hostAfter w h .account .now))
+
 -- all of it
 pub record Demanded (w : List ℕ) (h : List HostCall) : Type 0 where
   pub history : HostHistory w h
   pub kept : HostKept w h
   pub never-35 : Never35 w h
   pub accepted-33 : Accepted33 w h
+  pub time-told : TimeTold w h
 
 abbrev pub ClockDemands : Type 0
 ClockDemands = (w : List ℕ) → length w ≡ recordSize → (h : List HostCall) → All Typed h → Demanded w h
