@@ -1,13 +1,13 @@
 -- What is demanded of the clock, of the exported functions' own promises.
---   demands   `ClockDemands`: the history, kept, never-35, accepted-33 and time-told
+--   demands   `ClockDemands`: the history, kept, never-35, accepted-33, time-told and move-told
 use mathlib.Core.Path.{_≡_, sym, ap, subst, _∙_}
 use mathlib.Core.Bool.{false}
 use mathlib.Core.List.{List}
-use Prim.Native.Nat.{ℕ, _+_, _≤_}
+use Prim.Native.Nat.{ℕ, _+_, _<_, _≤_}
 use native.Mathlib.Omega.{arith}
 use lib.Dec.{ltb}
 use lib.ListN.{length}
-use borrow.Author.Tests.{eq-eqb, le-ltb}
+use borrow.Author.Tests.{eq-eqb, le-ltb, ltb-true, ltb-false}
 use Rattle.base.proofs.Cases.{by, unlike}
 use Rattle.clock_activation.specs.declared.Activation.{Activation}
 use Rattle.clock_record.specs.Lists.{All}
@@ -15,9 +15,12 @@ use Rattle.clock_record.specs.Book.{Book, spoiled}
 use Rattle.clock_record.specs.Words.{bookIn}
 use Rattle.clock_record.proofs.Lists.{all-map}
 use Rattle.clock.specs.Offer.{offerIn, refused}
+use Rattle.clock.specs.declared.Moved.{Moved}
 use Rattle.clock.specs.declared.AskedTime.{AskedTime}
+use Rattle.clock.specs.Answered.{Answered}
 use Rattle.clock.specs.Ask.{timeIn}
-use Rattle.clock.specs.Codes.{refusalOf, timeCode}
+use Rattle.clock.specs.Codes.{refusalOf, movedCode, timeCode}
+use Rattle.clock.proofs.Exits.{move-31, move-advances}
 use Rattle.clock_laws.specs.History.{Account, after}
 use Rattle.clock_laws.specs.Promise.{Kept, Again}
 use Rattle.clock_laws.proofs.Words.{spoiled-true}
@@ -25,7 +28,7 @@ use Rattle.clock_laws.proofs.Exactly.{offer-when, move-when, time-when, state-w
 use Rattle.clock_laws.proofs.Kept.{kept, accepted-33}
 use Rattle.clock_answers.specs.Calls.{activation, heardIn, offerCall}
 use Rattle.clock_demands.specs.Host.{HostCall, layerCalls, codeIn, hostAfter}
-use Rattle.clock_demands.specs.Demands.{HostHistory, HostKept, Never35, HostAgain, Accepted33, TimeTold, ClockDemands}
+use Rattle.clock_demands.specs.Demands.{HostHistory, HostKept, Never35, HostAgain, Accepted33, TimeTold, MoveTold, ClockDemands}
 use Rattle.clock_demands.proofs.Boundary.{answered-code}
 use Rattle.clock_demands.proofs.History.{host-history}
 
@@ -58,6 +61,18 @@ module _ (w : List ℕ) (h : List HostCall) (r : HostHistory w h) where
       ∙ ap timeCode sound-time
       ∙ ap (λ (t : ℕ). timeCode (AskedTime.At t)) (host-kept .clock)
 
+  host-move : MoveTold w h
+  host-move to =
+      answered-code (hostAfter w h .words) long (HostCall.move to)
+      ∙ by (ltb to (hostAfter w h .account .now))
+      (λ t.
+      let i : to < bookIn (hostAfter w h .words) .now = rw (host-kept .clock) (ltb-true _ _ t) in
+      ap (λ (x : Answered Moved). movedCode (x .answer)) (move-31 (bookIn (hostAfter w h .words)) to sound i) ∙ rw t)
+      (λ t.
+      let i : bookIn (hostAfter w h .words) .now ≤ to = rw (host-kept .clock) (ltb-false _ _ t) in
+      ap (λ (x : Answered Moved). movedCode (x .answer)) (move-advances (bookIn (hostAfter w h .words)) to sound i)
+      ∙ rw (t, host-kept .waits))
+
   code-35 : (x : HostCall) → refusalOf (codeIn (bookIn (hostAfter w h .words)) x) ≡ 35 → ⊥
   code-35 (HostCall.offer p e x t) q =
       by (ltb 3 x)
@@ -87,4 +102,4 @@ module _ (w : List ℕ) (h : List HostCall) (r : HostHistory w h) where
 pub demands : ClockDemands
 demands w z h f =
     let r = host-history w z h f in
-    record { history = r; kept = host-kept w h r; never-35 = host-35 w h r; accepted-33 = host-33 w h r; time-told = host-time w h r }
+    record { history = r; kept = host-kept w h r; never-35 = host-35 w h r; accepted-33 = host-33 w h r; time-told = host-time w h r; move-told = host-move w h r }

@@ -2,18 +2,22 @@
 use Prim.Native.Nat.{ℕ, _+_, _≤_}
 use mathlib.Core.Path.{_≡_}
 use mathlib.Core.List.{List}
+use lib.Dec.{ltb}
 use lib.ListN.{length}
+use Rattle.base.specs.Choice.{if_then_else_}
 use Rattle.clock_activation.specs.declared.Activation.{Activation}
 use Rattle.clock_activation.specs.Limits.{memory}
-use Rattle.clock_record.specs.Lists.{All}
+use Rattle.clock_record.specs.Lists.{All, onlyOf}
+use Rattle.clock_record.specs.Waiting.{reached}
 use Rattle.clock_record.specs.Book.{fresh}
 use Rattle.clock_record.specs.Words.{recordSize, bookIn}
 use Rattle.clock.specs.Spoiled.{One}
+use Rattle.clock.specs.declared.Moved.{Moved}
 use Rattle.clock.specs.declared.AskedTime.{AskedTime}
-use Rattle.clock.specs.Codes.{refusalOf, timeCode}
+use Rattle.clock.specs.Codes.{refusalOf, movedCode, timeCode}
 use Rattle.clock_laws.specs.History.{after}
 use Rattle.clock_laws.specs.Promise.{Kept}
-use Rattle.clock_answers.specs.Calls.{activation, unchanged, freshCall, offerCall, timeCall}
+use Rattle.clock_answers.specs.Calls.{activation, unchanged, freshCall, offerCall, moveCall, timeCall}
 use Rattle.clock_demands.specs.Host.{HostCall, Typed, answered, leftBy, answeredBy, layerCalls, codesBy, hostAfter}
 
 -- the words are the record of the layer's history of the same calls, every answer is the number for that history's answer, and
@@ -47,6 +51,14 @@ Accepted33 w h = All (HostAgain (hostAfter w h .words)) (hostAfter w h .account 
 abbrev pub TimeTold : List ℕ → List HostCall → Type 0
 TimeTold w h = timeCall (hostAfter w h .words) ≡ timeCode (AskedTime.At (hostAfter w h .account .now))
 
+-- a move to before that time is refused 31; any other answers how many it reaches of those that were accepted and not yet applied
+abbrev pub MoveTold : List ℕ → List HostCall → Type 0
+MoveTold w h =
+    (to : ℕ)
+    → moveCall (hostAfter w h .words) to .answer
+    ≡ (if ltb to (hostAfter w h .account .now) then 31
+    else movedCode (Moved.Applied (length (onlyOf (reached to) (hostAfter w h .account .waiting)))))
+
 -- all of it
 pub record Demanded (w : List ℕ) (h : List HostCall) : Type 0 where
   pub history : HostHistory w h
@@ -54,6 +66,7 @@ pub record Demanded (w : List ℕ) (h : List HostCall) : Type 0 where
   pub never-35 : Never35 w h
   pub accepted-33 : Accepted33 w h
   pub time-told : TimeTold w h
+  pub move-told : MoveTold w h
 
 abbrev pub ClockDemands : Type 0
 ClockDemands = (w : List ℕ) → length w ≡ recordSize → (h : List HostCall) → All Typed h → Demanded w h
