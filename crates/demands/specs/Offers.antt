@@ -18,7 +18,7 @@ use Rattle.shelf_laws.specs.Offers.{Joins}
 use Rattle.shelf_laws.specs.Reception.{SectionOf}
 use Rattle.shelf_histories.specs.History.{History, logAfter, offerAfter}
 
--- a sound section of the table with a key is answered by this number exactly when the log says so of the two
+-- a sound section of the table with a key is answered by this number exactly when the log says this of the two
 abbrev pub Exactly : ℕ → (Key → List ℕ → List Entry → Type 0) → Type 0
 Exactly number Says =
     (h : History) (key : Key) (payload : List ℕ)
@@ -29,7 +29,7 @@ Exactly number Says =
 abbrev pub NineExactly : Type 0
 NineExactly = Exactly 9 (λ key payload log. (heldBy key log ≡ false) × Full log)
 
--- key not held: it begins the table
+-- key not held, and a place is free: it begins the table
 abbrev pub BeganExactly : Type 0
 BeganExactly = Exactly (offeredCode Offered.Began) (λ key payload log. (heldBy key log ≡ false) × ¬ (Full log))
 

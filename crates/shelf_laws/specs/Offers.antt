@@ -1,5 +1,5 @@
--- Document 01, "Offering a sound section", by the log alone: what the log has to say for a sound section of the table with a key to be
--- answered so.
+-- Document 01, "Offering a sound section", by the log alone: what a log says of a table and a sound section of it exactly when the
+-- section is answered so.
 use Prim.Native.Nat.{ℕ}
 use mathlib.Core.Path.{_≡_}
 use mathlib.Core.Bool.{true, false}
