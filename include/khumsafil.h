@@ -123,15 +123,16 @@ uint64_t khumsafil_section_read(const uint8_t *payload, size_t payload_length);
  * Of place p of four, and section n of sixteen:
  *
  *   16p + n   the length of the section, where it is held
- *   64 + 4p   256 and the table id where the place is taken; any number below 256 or above 511 where it is free
+ *   64 + 4p   256 + the table id where the place is taken; any number below 256 or above 511 where it is free
  *   65 + 4p   the table id extension
  *   66 + 4p   the version
  *   67 + 4p   the last number
  *   80 + p    bit n is 1 where the section is held
  *
  * Section n of place p stands in the store from byte 1024 (16p + n) on. The numbers of a place that is free, and the
- * length of a section that is not held, are disregarded. So every value of the numbers is some record; a spoiled one is
- * refused by 18. Promises over a history presume that the host lends numbers and store back as they were left.
+ * length of a section that is not held, are disregarded: what the library leaves there means nothing to a host. So every
+ * value of the numbers is some record; a spoiled one is refused by 18. Promises over a history presume that the host
+ * lends numbers and store back as they were left.
  */
 #define KHUMSAFIL_SHELF_RECORD 84
 #define KHUMSAFIL_STORE 65536
@@ -168,7 +169,7 @@ uint8_t khumsafil_shelf_begin(uint16_t *words, size_t words_length, uint8_t *sto
  * were held become 0 before that; all other bytes stay as they were. Left as it was with the record.
  * payload: read, and left as it is.
  *
- * The answer's low 8 bits are the number of refusal, or 0. KHUMSAFIL_SHELF_VALUE takes out of any other what the
+ * The answer's low 8 bits are the number of refusal, or 0; KHUMSAFIL_SHELF_VALUE then takes out what the
  * section did.
  */
 uint16_t khumsafil_shelf_offer(uint16_t *words, size_t words_length, uint8_t *store, size_t store_length,
@@ -179,7 +180,7 @@ uint16_t khumsafil_shelf_offer(uint16_t *words, size_t words_length, uint8_t *st
  *
  * words (the record), store: read, and left as they are.
  *
- * The answer's low 8 bits are the number of refusal, or 0. KHUMSAFIL_SHELF_VALUE takes out of any other whether the
+ * The answer's low 8 bits are the number of refusal, or 0; KHUMSAFIL_SHELF_VALUE then takes out whether the
  * table is complete.
  */
 uint16_t khumsafil_shelf_complete(const uint16_t *words, size_t words_length, const uint8_t *store,
@@ -190,7 +191,7 @@ uint16_t khumsafil_shelf_complete(const uint16_t *words, size_t words_length, co
  *
  * words (the record), store: read, and left as they are.
  *
- * The answer's low 8 bits are the number of refusal, or 0. KHUMSAFIL_SHELF_VALUE takes out of any other whether one is
+ * The answer's low 8 bits are the number of refusal, or 0; KHUMSAFIL_SHELF_VALUE then takes out whether one is
  * missing, and KHUMSAFIL_SHELF_NUMBER which.
  */
 uint32_t khumsafil_shelf_lowest_missing(const uint16_t *words, size_t words_length, const uint8_t *store,
@@ -202,7 +203,7 @@ uint32_t khumsafil_shelf_lowest_missing(const uint16_t *words, size_t words_leng
  * words (the record), store: read, and left as they are.
  * out: its first bytes become the section, and those past it stay as they were; where the call is refused all do.
  *
- * The answer's low 8 bits are the number of refusal, or 0. KHUMSAFIL_SHELF_SIZE takes out of any other how many bytes
+ * The answer's low 8 bits are the number of refusal, or 0; KHUMSAFIL_SHELF_SIZE then takes out how many bytes
  * the section is.
  */
 uint32_t khumsafil_shelf_copy_section(const uint16_t *words, size_t words_length, const uint8_t *store,
@@ -225,7 +226,7 @@ uint8_t khumsafil_shelf_release(uint16_t *words, size_t words_length, uint8_t *s
  * out: its first bytes become the file, and those past it stay as they were; where the call is refused all do.
  * KHUMSAFIL_LARGEST_FILE bytes are room for every table.
  *
- * The answer's low 8 bits are the number of refusal, or 0. KHUMSAFIL_SHELF_SIZE takes out of any other how many bytes
+ * The answer's low 8 bits are the number of refusal, or 0; KHUMSAFIL_SHELF_SIZE then takes out how many bytes
  * the file is.
  */
 uint32_t khumsafil_shelf_save(const uint16_t *words, size_t words_length, const uint8_t *store,
@@ -254,7 +255,7 @@ uint8_t khumsafil_shelf_load(uint16_t *words, size_t words_length, uint8_t *stor
  * out: its first bytes become the text, with no zero byte behind it, and those past it stay as they were; where the call
  * is refused all do.
  *
- * The answer's low 8 bits are 15, or 0. KHUMSAFIL_SHELF_SIZE takes out of any other how many bytes the text is.
+ * The answer's low 8 bits are 15, or 0; KHUMSAFIL_SHELF_SIZE then takes out how many bytes the text is.
  */
 uint32_t khumsafil_file_list(const uint8_t *file, size_t file_length, uint8_t *out, size_t out_length);
 
@@ -385,7 +386,7 @@ uint8_t khumsafil_clock_fresh(uint32_t *words, size_t words_length);
  *
  * words: the record, and after the call the next one; where the call is refused left as they were.
  *
- * The answer's low 8 bits are the number of refusal, or 0. KHUMSAFIL_CLOCK_VALUE takes out of any other what became
+ * The answer's low 8 bits are the number of refusal, or 0; KHUMSAFIL_CLOCK_VALUE then takes out what became
  * of the activation.
  */
 uint16_t khumsafil_clock_offer(uint32_t *words, size_t words_length, uint8_t application, uint16_t event,
@@ -396,7 +397,7 @@ uint16_t khumsafil_clock_offer(uint32_t *words, size_t words_length, uint8_t app
  *
  * words: the record, and after the call the next one; where the call is refused left as they were.
  *
- * The answer's low 8 bits are the number of refusal, or 0. KHUMSAFIL_CLOCK_VALUE takes out of any other how many
+ * The answer's low 8 bits are the number of refusal, or 0; KHUMSAFIL_CLOCK_VALUE then takes out how many
  * waiting activations the move applied, at most 32.
  */
 uint16_t khumsafil_clock_move(uint32_t *words, size_t words_length, uint32_t to);
@@ -441,7 +442,7 @@ uint16_t khumsafil_writer_count(size_t length);
  * out: its first bytes become the section, and those past it stay as they were; where the call is refused all do.
  * KHUMSAFIL_LARGEST_SECTION bytes are room for every section.
  *
- * The answer's low 8 bits are the number of refusal, or 0. KHUMSAFIL_WRITER_SIZE takes out of any other how many bytes the
+ * The answer's low 8 bits are the number of refusal, or 0; KHUMSAFIL_WRITER_SIZE then takes out how many bytes the
  * section is.
  */
 uint32_t khumsafil_writer_section(uint8_t table, uint16_t extension, uint8_t version, const uint8_t *body,
@@ -454,7 +455,7 @@ uint32_t khumsafil_writer_section(uint8_t table, uint16_t extension, uint8_t ver
  * out: its first bytes become the file, and those past it stay as they were; where the call is refused all do.
  * KHUMSAFIL_LARGEST_FILE bytes are room for every file.
  *
- * The answer's low 8 bits are the number of refusal, or 0. KHUMSAFIL_WRITER_SIZE takes out of any other how many bytes the
+ * The answer's low 8 bits are the number of refusal, or 0; KHUMSAFIL_WRITER_SIZE then takes out how many bytes the
  * file is.
  */
 uint32_t khumsafil_writer_file(uint8_t table, uint16_t extension, uint8_t version, const uint8_t *body,

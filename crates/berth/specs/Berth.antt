@@ -5,25 +5,26 @@ use mathlib.Core.Bool.{Bool}
 use lib.ListN.{length, take, drop}
 use Rattle.base.specs.Choice.{if_then_else_}
 use Rattle.base.specs.Bytes.{part, zeros}
+use Rattle.section.specs.Section.{largestSection, mostSections}
 
--- a berth's bytes
+-- a berth's bytes, 1,024: the largest section fills it
 abbrev pub berthSize : ℕ
-berthSize = 1024
+berthSize = largestSection
 
--- the sections of a table, and the places of a shelf
+-- the sections of a table, 16, and the places of a shelf
 abbrev pub sections : ℕ
-sections = 16
+sections = mostSections
 
 abbrev pub places : ℕ
 places = 4
 
--- the bytes that the caller lends
+-- the bytes that the caller lends, 65,536
 abbrev pub storeSize : ℕ
-storeSize = 65536
+storeSize = places * (sections * berthSize)
 
 -- section n of the table in place p begins at size × (16p + n)
 abbrev pub beginsAt : ℕ → ℕ → ℕ → ℕ
-beginsAt size p n = size * (16 * p + n)
+beginsAt size p n = size * (sections * p + n)
 
 -- the store with other bytes from a place on
 unfoldable pub laid : List ℕ → ℕ → List ℕ → List ℕ

@@ -12,14 +12,14 @@ ghost use Rattle.base.specs.Bytes.{byte, same, zeros};
 ghost use Rattle.berth.specs.Berth.{berthSize, places, sections, storeSize, beginsAt, laid, padded, wipedWhere, standing};
 ghost use Rattle.berth.specs.Calls.{isPlace, isBerth, putIn, wipedIn, wipedWhereIn, standsIn, copiedIn};
 
-// A berth's bytes, the sections of a table, the places of a shelf, and the bytes of the whole store.
-pub const BERTH: usize = 1024;
+// A berth's bytes, which the largest section fills, the sections of a table, the places of a shelf, and the bytes of the whole store.
+pub const BERTH: usize = section::LARGEST;
 
-pub const SECTIONS: usize = 16;
+pub const SECTIONS: usize = section::SECTIONS;
 
 pub const PLACES: usize = 4;
 
-pub const STORE: usize = 65536;
+pub const STORE: usize = PLACES * SECTIONS * BERTH;
 
 // Zeroes what it is lent.
 fn fill(lent: &mut [u8])
@@ -39,7 +39,7 @@ fn copy(section: &[u8], to: &mut [u8])
     ensures { λ _. ⌜ now (to .exit) ≡ now (section .entry) ++ drop (length (now (section .entry))) (now (to .entry)) ⌝ }
 {
     let size = section.len();
-    let mut held = [0u8; 1024];
+    let mut held = [0u8; BERTH];
     let mut i = 0;
     while i < size {
         held[i] = section[i];

@@ -1,6 +1,6 @@
 -- A history of the host's calls on a clock that it lends in words, each call lent the words that the last one left, and the host's
 -- own account of it, kept from the calls and the numbers that they answer.
-use Prim.Native.Nat.{ℕ, _*_, _^_, _<_}
+use Prim.Native.Nat.{ℕ, _*_, _/_, _^_, _<_}
 use mathlib.Core.List.{List, [], _∷_, _++_}
 use lib.Dec.{ltb, eqb}
 use Rattle.base.specs.Choice.{if_then_else_}
@@ -88,7 +88,7 @@ noted k (HostCall.offer application event action time) n =
     if eqb n (1 * 2 ^ 8) then heard k (activation application event action time) Heard.Applied
     else if eqb n (2 * 2 ^ 8) then heard k (activation application event action time) Heard.Waiting
     else k
-noted k (HostCall.move to) n = if eqb (refusalOf n) 0 then passed k to (Moved.Applied n) else k
+noted k (HostCall.move to) n = if eqb (refusalOf n) 0 then passed k to (Moved.Applied (n / 2 ^ 8)) else k
 noted k HostCall.askTime n = k
 noted k (HostCall.askState m) n = k
 

@@ -37,7 +37,7 @@ complete = wholeCode Whole.Complete
 
 -- a table is held, which is to say that no question about it is answered 14, exactly when it began and was not released since
 abbrev pub HeldExactly : Type 0
-HeldExactly = (h : History) (q : Question) → ¬ (refusalIn (replyAfter h q .code) ≡ 14) ↔ (heldBy (about q) (logAfter h) ≡ true)
+HeldExactly = (h : History) (q : Question) → (¬ (refusalIn (replyAfter h q .code) ≡ 14)) ↔ (heldBy (about q) (logAfter h) ≡ true)
 
 abbrev pub CompleteExactly : Type 0
 CompleteExactly =

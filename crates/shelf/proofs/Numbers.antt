@@ -2,7 +2,6 @@
 --   at-count, spoiled-count       84 numbers are the record that is read in them; any other count is spoiled
 --   place-at, taken-at            a place of the record is a place of the numbers
 --   length-in, length-at, held-at the lengths of a taken place
---   capped-same, capped-low, capped-above, capped-below       a version or a last, read as a byte
 --   key-at, key-told, free-told   what a search looks at
 --   among-place, among-free, among-version, among-last, among-length   what is found in 84 numbers
 use mathlib.Core.Path.{_≡_, refl, sym, ap, _∙_}
@@ -19,7 +18,7 @@ use Rattle.base.proofs.Cases.{by, unlike}
 use Rattle.shelf.specs.Record.{Place, Shelf, lengthAt, holds, spoiledPlace, spoiledOf, placeAt, freePlace, fresh, hasKey, placeOf, freeOf}
 use Rattle.shelf.specs.declared.Key.{Key}
 use Rattle.base.specs.Bits.{bit}
-use Rattle.shelf.specs.Layout.{heldLength, capped, lengthIn, lengthsIn, tableIn, takenIn, placeIn, shelfIn, shelfAt, noRecord, hasPlace, hasSection, placeAmong, freeAmong, versionAmong, lastAmong, maskAmong, lengthAmong}
+use Rattle.shelf.specs.Layout.{heldLength, lengthIn, lengthsIn, tableIn, takenIn, placeIn, shelfIn, shelfAt, noRecord, hasPlace, hasSection, placeAmong, freeAmong, versionAmong, lastAmong, maskAmong, lengthAmong}
 use Rattle.shelf.proofs.Lists.{getD-listed}
 
 -- 84 numbers, or none
@@ -74,30 +73,6 @@ bit-held words p n =
 
 pub held-at : (words : List ℕ) (p n : ℕ) → n < 16 → holds (tableIn words p) n ≡ bit (getD words (80 + p) 0) n
 held-at words p n h = rw (length-in words p n h) (bit-held words p n)
-
--- a version or a last, read as a byte
-pub capped-low : (x : ℕ) → x ≤ 31 → capped x ≡ x
-capped-low x h = rw (le-ltb 255 x (omega arith))
-
-pub capped-same : (x v : ℕ) → v < 255 → eqb (capped x) v ≡ eqb x v
-capped-same x v h =
-    by (ltb 255 x)
-    (λ t. let l : 255 < x = ltb-true _ _ t in rw (t, ne-eqb 255 v (λ z. omega arith), ne-eqb x v (λ z. omega arith)))
-    (λ f. rw f)
-
--- above a bound under 255 alike
-pub capped-above : (x b : ℕ) → b < 255 → ltb b (capped x) ≡ ltb b x
-capped-above x b h =
-    by (ltb 255 x)
-    (λ t. let l : 255 < x = ltb-true _ _ t in rw (t, lt-ltb b 255 h, lt-ltb b x (omega arith)))
-    (λ f. rw f)
-
--- .. and below a number of at most 255
-pub capped-below : (x n : ℕ) → n ≤ 255 → ltb (capped x) n ≡ ltb x n
-capped-below x n h =
-    by (ltb 255 x)
-    (λ t. let l : 255 < x = ltb-true _ _ t in rw (t, le-ltb 255 n h, le-ltb x n (omega arith)))
-    (λ f. rw f)
 
 pub no-both : (a b : Bool) → (a ≡ true → b ≡ true → ⊥) → a && b ≡ false
 no-both true true h = absurd (h refl refl)
@@ -198,32 +173,26 @@ module _ (words : List ℕ) (p : ℕ) (fits : length words ≡ 84) (hp : p < 4) 
 
 -- what was read in the numbers, against what a section says
 module _ (words : List ℕ) (p : ℕ) (fits : length words ≡ 84) (hp : p < 4) (t : takenIn words p ≡ true) where
-  version-is : placeAt (shelfIn words) p .version ≡ capped (getD words (66 + 4 * p) 0)
+  version-is : placeAt (shelfIn words) p .version ≡ getD words (66 + 4 * p) 0
   unfolding tableIn
   version-is = ap (λ x. x .version) (table-at words p hp t)
 
-  last-is : placeAt (shelfIn words) p .last ≡ capped (getD words (67 + 4 * p) 0)
+  last-is : placeAt (shelfIn words) p .last ≡ getD words (67 + 4 * p) 0
   unfolding tableIn
   last-is = ap (λ x. x .last) (table-at words p hp t)
 
-  module _ {a b v : ℕ} (e : b ≡ v) (l : v < 255) where
-    same-capped : (x : ℕ) → a ≡ x → a ≡ b → capped x ≡ v
-    same-capped x d q = eqb-true (capped x) v (capped-same x v l ∙ eq-eqb x v (sym d ∙ q ∙ e))
-
-    other-capped : (x : ℕ) → a ≡ x → (a ≡ b → ⊥) → capped x ≡ v → ⊥
-    other-capped x d q z = eqb-false x v (ne-eqb x v (λ y. q (d ∙ y ∙ sym e))) (eqb-true x v (sym (capped-same x v l) ∙ eq-eqb (capped x) v z))
-
+  module _ {a b v : ℕ} (e : b ≡ v) where
     pub version-same : a ≡ versionAmong words p → a ≡ b → placeAt (shelfIn words) p .version ≡ v
-    version-same d q = version-is ∙ same-capped (getD words (66 + 4 * p) 0) (d ∙ among-version words p fits hp) q
+    version-same d q = version-is ∙ sym (d ∙ among-version words p fits hp) ∙ q ∙ e
 
     pub version-other : a ≡ versionAmong words p → (a ≡ b → ⊥) → placeAt (shelfIn words) p .version ≡ v → ⊥
-    version-other d q z = other-capped (getD words (66 + 4 * p) 0) (d ∙ among-version words p fits hp) q (sym version-is ∙ z)
+    version-other d q z = q (d ∙ among-version words p fits hp ∙ sym version-is ∙ z ∙ sym e)
 
     pub last-same : a ≡ lastAmong words p → a ≡ b → placeAt (shelfIn words) p .last ≡ v
-    last-same d q = last-is ∙ same-capped (getD words (67 + 4 * p) 0) (d ∙ among-last words p fits hp) q
+    last-same d q = last-is ∙ sym (d ∙ among-last words p fits hp) ∙ q ∙ e
 
     pub last-other : a ≡ lastAmong words p → (a ≡ b → ⊥) → placeAt (shelfIn words) p .last ≡ v → ⊥
-    last-other d q z = other-capped (getD words (67 + 4 * p) 0) (d ∙ among-last words p fits hp) q (sym last-is ∙ z)
+    last-other d q z = q (d ∙ among-last words p fits hp ∙ sym last-is ∙ z ∙ sym e)
 
   pub length-same : {c n : ℕ} (m : ℕ) → m < 16 → n ≡ m → c ≡ lengthAmong words p n → c ≡ lengthAt (placeAt (shelfIn words) p) m
   length-same m h e q = q ∙ ap (lengthAmong words p) e ∙ among-length words p fits hp m h ∙ sym (length-at words p m hp h t)

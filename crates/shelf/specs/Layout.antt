@@ -12,9 +12,35 @@ use Rattle.berth.specs.Berth.{sections, places}
 use Rattle.shelf.specs.declared.Key.{Key}
 use Rattle.shelf.specs.Record.{Place, Shelf, freePlace, fresh, withPlace, placeOf, freeOf}
 
--- the numbers of a record
+-- where the heads begin, and where the masks
+abbrev pub heads : ℕ
+heads = places * sections
+
+abbrev pub masks : ℕ
+masks = heads + 4 * places
+
+-- the numbers of a record, 84
 abbrev pub count : ℕ
-count = 84
+count = masks + places
+
+-- where the numbers of place p stand: the length of its section n, the four of its head, its mask
+abbrev pub atLength : ℕ → ℕ → ℕ
+atLength p n = sections * p + n
+
+abbrev pub atTable : ℕ → ℕ
+atTable p = heads + 4 * p
+
+abbrev pub atExtension : ℕ → ℕ
+atExtension p = heads + 1 + 4 * p
+
+abbrev pub atVersion : ℕ → ℕ
+atVersion p = heads + 2 + 4 * p
+
+abbrev pub atLast : ℕ → ℕ
+atLast p = heads + 3 + 4 * p
+
+abbrev pub atMask : ℕ → ℕ
+atMask p = masks + p
 
 -- f 0, f 1, .., f (n - 1)
 unfoldable pub listed : ℕ → (ℕ → ℕ) → List ℕ
@@ -25,13 +51,9 @@ listed (suc n) f = f 0 ∷ listed n (λ k. f (suc k))
 abbrev pub heldLength : Bool → ℕ → ℕ
 heldLength held size = if held then (if eqb size 0 then 1 else size) else 0
 
--- a number of 16 bits as one of 8: what does not fit is read as 255, which is above every version and last
-abbrev pub capped : ℕ → ℕ
-capped x = if ltb 255 x then 255 else x
-
 -- the length of section n of place p
 abbrev pub lengthIn : List ℕ → ℕ → ℕ → ℕ
-lengthIn words p n = heldLength (bit (getD words (80 + p) 0) n) (getD words (16 * p + n) 0)
+lengthIn words p n = heldLength (bit (getD words (atMask p) 0) n) (getD words (atLength p n) 0)
 
 -- the sixteen lengths of a place
 unfoldable pub lengthsIn : List ℕ → ℕ → List ℕ
@@ -42,15 +64,15 @@ unfoldable pub tableIn : List ℕ → ℕ → Place
 tableIn words p =
     record {
       taken = true;
-      key = record { table = getD words (64 + 4 * p) 0 % 256; extension = getD words (65 + 4 * p) 0 };
-      version = capped (getD words (66 + 4 * p) 0);
-      last = capped (getD words (67 + 4 * p) 0);
+      key = record { table = getD words (atTable p) 0 % 256; extension = getD words (atExtension p) 0 };
+      version = getD words (atVersion p) 0;
+      last = getD words (atLast p) 0;
       lengths = lengthsIn words p;
     }
 
 -- a place is taken where its head begins with 256 to 511; nothing else is read of one that is free
 abbrev pub takenIn : List ℕ → ℕ → Bool
-takenIn words p = eqb (getD words (64 + 4 * p) 0 / 256) 1
+takenIn words p = eqb (getD words (atTable p) 0 / 256) 1
 
 unfoldable pub placeIn : List ℕ → ℕ → Place
 placeIn words p = if takenIn words p then tableIn words p else freePlace
@@ -91,13 +113,13 @@ unfoldable pub freeAmong : List ℕ → ℕ
 freeAmong words = if eqb (length words) count then freeOf (shelfIn words) else places
 
 unfoldable pub versionAmong : List ℕ → ℕ → ℕ
-versionAmong words p = if hasPlace (length words) p then getD words (66 + 4 * p) 0 else 0
+versionAmong words p = if hasPlace (length words) p then getD words (atVersion p) 0 else 0
 
 unfoldable pub lastAmong : List ℕ → ℕ → ℕ
-lastAmong words p = if hasPlace (length words) p then getD words (67 + 4 * p) 0 else 0
+lastAmong words p = if hasPlace (length words) p then getD words (atLast p) 0 else 0
 
 unfoldable pub maskAmong : List ℕ → ℕ → ℕ
-maskAmong words p = if hasPlace (length words) p then getD words (80 + p) 0 else 0
+maskAmong words p = if hasPlace (length words) p then getD words (atMask p) 0 else 0
 
 unfoldable pub lengthAmong : List ℕ → ℕ → ℕ → ℕ
 lengthAmong words p n = if hasSection (length words) p n then lengthIn words p n else 0

@@ -28,21 +28,20 @@ pub fn key_of(header: Header) -> Key
     }
 }
 
-// The numbers of a record.
-pub const WORDS: usize = 84;
-
 pub const STORE_SIZE: u8 = 17;
 
 pub const SHELF_SPOILED: u8 = 18;
 
 pub const TABLE_NOT_HELD: u8 = 14;
 
-// Where the heads begin, how many numbers each has, and where the masks begin.
-pub const HEADS: usize = 64;
+// Where the heads begin, how many numbers each has, where the masks begin, and the numbers of a record, 84.
+pub const HEADS: usize = PLACES * SECTIONS;
 
 pub const HEAD: usize = 4;
 
-pub const MASKS: usize = 80;
+pub const MASKS: usize = HEADS + HEAD * PLACES;
+
+pub const WORDS: usize = MASKS + PLACES;
 
 // Added to the table id of a taken place.
 pub const TAKEN: u16 = 256;

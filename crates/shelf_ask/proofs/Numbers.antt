@@ -16,7 +16,7 @@ use Rattle.base.specs.Below.{lowest}
 use Rattle.base.proofs.Cases.{by}
 use Rattle.shelf.specs.Record.{placeAt, lengthAt, holds, spoiledOf, placeOf}
 use Rattle.shelf.specs.declared.Key.{Key}
-use Rattle.shelf.specs.Layout.{capped, lengthIn, lengthsIn, takenIn, tableIn, shelfIn, shelfAt, placeAmong, lastAmong, maskAmong, lengthAmong, lengthsAmong}
+use Rattle.shelf.specs.Layout.{lengthIn, lengthsIn, takenIn, tableIn, shelfIn, shelfAt, placeAmong, lastAmong, maskAmong, lengthAmong, lengthsAmong}
 use Rattle.shelf.proofs.Lists.{length-listed, listed-same}
 use Rattle.shelf.proofs.Numbers.{at-count, spoiled-count, taken-at, table-at, held-at, length-at, among-place, among-last, among-mask, among-length}
 use Rattle.shelf.proofs.Equal.{lowest-alike}
@@ -43,14 +43,11 @@ module _ (words : List ℕ) (size : ℕ) (key : Key) (p : ℕ) (e : holdingOf (s
   pub read-table : placeAt (shelfAt words) p ≡ tableIn words p
   read-table = rw (at-count words read-count) (table-at words p (is .place) read-taken)
 
-  last-in : (x : ℕ) → capped x < 16 → x ≡ capped x
-  last-in x h = by (ltb 255 x) (λ t. absurd (let z : 255 < 16 = rw t at h in omega arith)) (λ f. rw f)
-
   pub last-read : {l : ℕ} → l ≡ lastAmong words p → l ≡ placeAt (shelfAt words) p .last
   unfolding tableIn
   last-read q =
-      let t : placeAt (shelfAt words) p .last ≡ capped (getD words (67 + 4 * p) 0) = ap (λ x. x .last) read-table in
-      q ∙ among-last words p read-count (is .place) ∙ last-in (getD words (67 + 4 * p) 0) (rw (← t) (is .last)) ∙ sym t
+      let t : placeAt (shelfAt words) p .last ≡ getD words (67 + 4 * p) 0 = ap (λ x. x .last) read-table in
+      q ∙ among-last words p read-count (is .place) ∙ sym t
 
   pub last-low : {l : ℕ} → l ≡ lastAmong words p → l < 16
   last-low {l} q = rw (last-read q) (is .last)

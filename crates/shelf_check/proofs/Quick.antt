@@ -15,9 +15,9 @@ use Rattle.base.proofs.Below.{some-all, some-which, some-found}
 use Rattle.base.proofs.Cases.{by, or-left, or-right}
 use Rattle.shelf.specs.Record.{lengthAt, holds, wrongAt, alike, spoiledPlace, spoiledOf, placeAt}
 use Rattle.base.specs.Bits.{bit}
-use Rattle.shelf.specs.Layout.{capped, tableIn, takenIn, placeIn, shelfIn}
+use Rattle.shelf.specs.Layout.{tableIn, takenIn, placeIn, shelfIn}
 use Rattle.base.proofs.Bits.{none-above, one-set}
-use Rattle.shelf.proofs.Numbers.{length-in, capped-low}
+use Rattle.shelf.proofs.Numbers.{length-in}
 use Rattle.shelf_check.specs.Fine.{FineLength, FineColumns, NoneAbove, OneHeld, keyNumber}
 use Rattle.shelf_check.proofs.Four.{some-four, pairs}
 
@@ -54,7 +54,6 @@ module _ (words : List ℕ) (p : ℕ) where
       let e : lengthAt (tableIn words p) n ≡ size n = held n h b (s n h .0) in
       let low : n ≤ last % 32 = none-above mask (last % 32) n (f .low) b in
       rw (
-        capped-low last (omega arith),
         le-ltb last n (omega arith),
         le-ltb (lengthAt (tableIn words p) n) 8 (omega (arith, e, s n h .0)),
         le-ltb 1024 (lengthAt (tableIn words p) n) (omega (arith, e, s n h .1)),
@@ -81,8 +80,6 @@ module _ (words : List ℕ) (p : ℕ) where
       rw (
         some-all (wrongAt (tableIn words p)) 16 (wrong-none f l s),
         some-held o s,
-        capped-low (getD words (66 + 4 * p) 0) v,
-        capped-low last (omega arith),
         le-ltb 31 (getD words (66 + 4 * p) 0) v,
         le-ltb 15 last l,
       )

@@ -20,15 +20,15 @@ use Rattle.base.proofs.Bytes.{part-whole}
 use Rattle.base.proofs.Cases.{by}
 use Rattle.shelf.specs.Record.{lengthAt, holds, wrongAt, alike, spoiledPlace, spoiledOf, placeAt}
 use Rattle.base.specs.Bits.{bit}
-use Rattle.shelf.specs.Layout.{capped, tableIn, takenIn, placeIn, shelfIn, shelfAt, lengthAmong, lastAmong, versionAmong}
+use Rattle.shelf.specs.Layout.{tableIn, takenIn, placeIn, shelfIn, shelfAt, lengthAmong, lastAmong, versionAmong}
 use Rattle.base.proofs.Bits.{one-set}
-use Rattle.shelf.proofs.Numbers.{length-in, held-at, capped-above, capped-below, among-length, among-last, among-version, at-count, no-both}
+use Rattle.shelf.proofs.Numbers.{length-in, held-at, among-length, among-last, among-version, at-count, no-both}
 use Rattle.shelf_check.specs.Fine.{keyNumber}
 use Rattle.shelf_check.proofs.Four.{some-four, pairs}
 
 last-of : (words : List ℕ) (p n : ℕ) → n < 16 → ltb (tableIn words p .last) n ≡ ltb (getD words (67 + 4 * p) 0) n
 unfolding tableIn
-last-of words p n h = capped-below (getD words (67 + 4 * p) 0) n (omega arith)
+last-of words p n h = refl
 
 module _ (words : List ℕ) (fits : length words ≡ 84) (p : ℕ) (hp : p < 4) where
   -- a section that is held or not
@@ -64,11 +64,11 @@ module _ (words : List ℕ) (fits : length words ≡ 84) (p : ℕ) (hp : p < 4) 
 
     version-is : {version : ℕ} → version ≡ versionAmong words p → ltb 31 (tableIn words p .version) ≡ ltb 31 version
     unfolding tableIn
-    version-is e = capped-above (getD words (66 + 4 * p) 0) 31 (omega arith) ∙ ap (ltb 31) (sym (e ∙ among-version words p fits hp))
+    version-is e = ap (ltb 31) (sym (e ∙ among-version words p fits hp))
 
     last-most : {last : ℕ} → last ≡ lastAmong words p → ltb 15 (tableIn words p .last) ≡ ltb 15 last
     unfolding tableIn
-    last-most e = capped-above (getD words (67 + 4 * p) 0) 15 (omega arith) ∙ ap (ltb 15) (sym (e ∙ among-last words p fits hp))
+    last-most e = ap (ltb 15) (sym (e ∙ among-last words p fits hp))
 
     taken-table : tableIn words p .taken ≡ true
     unfolding tableIn

@@ -2,6 +2,9 @@
 // is not; where it does not say so, each place is looked at.
 use berth::PLACES;
 use berth::SECTIONS;
+use shelf::HEAD;
+use shelf::HEADS;
+use shelf::MASKS;
 use shelf::WORDS;
 ghost use mathlib.Core.Path.{_≡_};
 ghost use mathlib.Core.Bool.{true, false};
@@ -11,7 +14,7 @@ ghost use Rattle.berth.specs.Berth.{places, sections};
 ghost use Rattle.base.specs.Below.{some};
 ghost use Rattle.shelf.specs.Record.{wrongAt, spoiledPlace, alike, spoiledOf};
 ghost use Rattle.shelf.specs.Layout.{count, tableIn, placeIn, shelfIn, shelfAt};
-ghost use Rattle.shelf_check.specs.Fine.{FineColumns, NoneAbove, OneHeld, keyNumber};
+ghost use Rattle.shelf_check.specs.Fine.{FineColumns, fromLast, NoneAbove, OneHeld, keyNumber};
 
 // 18 is for a version above 31, a last above 15, and a length outside 8 to 1,024.
 const HIGHEST_VERSION: u16 = 31;
@@ -41,6 +44,13 @@ const MOST: [u16; 16] = [
     31,
     15,
 ];
+
+// Where the lengths of the second, the third and the fourth place begin.
+const SECOND: usize = SECTIONS;
+
+const THIRD: usize = 2 * SECTIONS;
+
+const FOURTH: usize = 3 * SECTIONS;
 
 fn higher(a: u16, b: u16) -> u16
     ensures { λ r. ⌜ (a ≤ r) × (b ≤ r) ⌝ }
@@ -92,21 +102,28 @@ fn top(words: &[u16]) -> u16
     let mut i: usize = 0;
     while i < 16 {
         let w = less_eight(words[i]);
-        let x = less_eight(words[16 + i]);
-        let y = less_eight(words[32 + i]);
-        let z = less_eight(words[48 + i]);
-        let o = beyond(words[64 + i], most[i]);
+        let x = less_eight(words[SECOND + i]);
+        let y = less_eight(words[THIRD + i]);
+        let z = less_eight(words[FOURTH + i]);
+        let o = beyond(words[HEADS + i], most[i]);
         top = highest(higher(top, o), w, x, y, z);
         i += 1;
     }
     top
 }
 
-// Over 1 where a number above last is held.
-fn above(mask: u16, last: u16) -> u32
+fn shifted(mask: u16, last: u16) -> u32
     ensures { λ r. ⌜ r ≡ mask / 2 ^ (last % 32) ⌝ }
 {
     (mask as u32) >> (last as u32 % 32)
+}
+
+// Over 1 where in place p a number above last is held.
+fn above(words: &[u16], p: usize) -> u32
+    requires { ⌜ (length (now words) ≡ count) × (p < places) ⌝ }
+    ensures { λ r. ⌜ r ≡ fromLast (now (words .entry)) p ⌝ }
+{
+    shifted(words[MASKS + p], words[HEADS + 3 + HEAD * p])
 }
 
 // Whether in each place nothing is held above last.
@@ -114,16 +131,24 @@ fn none_above(words: &[u16]) -> bool
     requires { ⌜ length (now words) ≡ count ⌝ }
     ensures { λ r. ⌜ (r ≡ true → ((p : ℕ) → p < places → NoneAbove (now (words .entry)) p)) ⌝ }
 {
-    ((above(words[80], words[67]) <= 1) & (above(words[81], words[71]) <= 1))
-        & ((above(words[82], words[75]) <= 1) & (above(words[83], words[79]) <= 1))
+    ((above(words, 0) <= 1) & (above(words, 1) <= 1))
+        & ((above(words, 2) <= 1) & (above(words, 3) <= 1))
 }
 
-// Whether in a place nothing is held.
+// Whether in place p nothing is held.
+fn is_empty(words: &[u16], p: usize) -> bool
+    requires { ⌜ (length (now words) ≡ count) × (p < places) ⌝ }
+    ensures { λ r. ⌜ (r ≡ false → OneHeld (now (words .entry)) p) ⌝ }
+{
+    words[MASKS + p] == 0
+}
+
+// .. in one of the four.
 fn one_empty(words: &[u16]) -> bool
     requires { ⌜ length (now words) ≡ count ⌝ }
     ensures { λ r. ⌜ (r ≡ false → ((p : ℕ) → p < places → OneHeld (now (words .entry)) p)) ⌝ }
 {
-    ((words[80] == 0) | (words[81] == 0)) | ((words[82] == 0) | (words[83] == 0))
+    (is_empty(words, 0) | is_empty(words, 1)) | (is_empty(words, 2) | is_empty(words, 3))
 }
 
 // The first two numbers of a head as one.
@@ -131,7 +156,7 @@ fn key_number(words: &[u16], p: usize) -> u32
     requires { ⌜ (length (now words) ≡ count) × (p < places) ⌝ }
     ensures { λ r. ⌜ r ≡ keyNumber (now (words .entry)) p ⌝ }
 {
-    full(words[64 + 4 * p]) + 65536 * full(words[65 + 4 * p])
+    full(words[HEADS + HEAD * p]) + 65536 * full(words[HEADS + 1 + HEAD * p])
 }
 
 // Whether one pass shows that the record is not spoiled. Numbers of a free place may stop it, so that its no says nothing.
@@ -193,7 +218,7 @@ fn place_spoiled(words: &[u16], p: usize) -> bool
     requires { ⌜ (length (now words) ≡ count) × (p < places) ⌝ }
     ensures { λ r. ⌜ r ≡ spoiledPlace (placeIn (now (words .entry)) p) ⌝ }
 {
-    if words[64 + 4 * p] / 256 != 1 {
+    if words[HEADS + HEAD * p] / 256 != 1 {
         return false;
     }
     if HIGHEST_VERSION < shelf::version_of(words, p) {
@@ -202,7 +227,7 @@ fn place_spoiled(words: &[u16], p: usize) -> bool
     if HIGHEST_LAST < shelf::last_of(words, p) {
         return true;
     }
-    if words[80 + p] == 0 {
+    if words[MASKS + p] == 0 {
         return true;
     }
     any_wrong(words, p)
@@ -213,7 +238,7 @@ fn one_key(words: &[u16], p: usize, q: usize) -> bool
     requires { ⌜ (length (now words) ≡ count) × (p < places) × (q < places) ⌝ }
     ensures { λ r. ⌜ r ≡ alike (placeIn (now (words .entry)) p) (placeIn (now (words .entry)) q) ⌝ }
 {
-    if words[64 + 4 * p] / 256 != 1 {
+    if words[HEADS + HEAD * p] / 256 != 1 {
         return false;
     }
     key_number(words, p) == key_number(words, q)

@@ -87,7 +87,7 @@ module _ (lengths : List ℕ) (k : ℕ) (hk : k < 16) where
       up-set ∙ ap (set (upTo k lengths) k) (z ∙ sym none) ∙ set-getD (upTo k lengths) k 0
 
 -- a table's head, and the lengths of its first k sections
-module _ (words : List ℕ) (fits : length words ≡ 84) (p : ℕ) (hp : p < 4) (key : Key) (version last : ℕ) (ht : key .table < 256) (hv : version < 255) (hl : last < 255) (lengths : List ℕ) where
+module _ (words : List ℕ) (fits : length words ≡ 84) (p : ℕ) (hp : p < 4) (key : Key) (version last : ℕ) (ht : key .table < 256) (lengths : List ℕ) where
   abbrev table : ℕ → Place
   table k = record { taken = true; key = key; version = version; last = last; lengths = upTo k lengths }
 
@@ -103,7 +103,7 @@ module _ (words : List ℕ) (fits : length words ≡ 84) (p : ℕ) (hp : p < 4) 
   below-lent : (k : ℕ) → k ≤ 16 → shelfAt (numbers k) ≡ withPlace (shelfAt words) p (table k)
   unfolding heldBelow
   below-lent zero h =
-      head-lent words fits p hp key version last ht hv hl
+      head-lent words fits p hp key version last ht
       ∙ ap (λ l. withPlace (shelfAt words) p (record { taken = true; key = key; version = version; last = last; lengths = l })) (sym (up-none lengths))
   below-lent (suc k) h =
       let ih = below-lent k (omega arith) in
@@ -129,8 +129,6 @@ module _ (words : List ℕ) (fits : length words ≡ 84) (p : ℕ) (hp : p < 4) 
 -- what is so of the header of an accepted file of bytes
 record Narrow (h : Header) (lengths : List ℕ) : Type 0 where
   table : keyOf h .table < 256
-  version : h .version < 32
-  last : h .last ≤ 15
   sixteen : length lengths ≡ 16
 
 module _ (file : List ℕ) (o : Octets file) where
@@ -144,14 +142,9 @@ module _ (file : List ℕ) (o : Octets file) where
       (λ l.
       let g = l .header in
       let s = part file (getD (scanOf file .starts) n 0) (getD (scanOf file .lengths) n 0) in
-      let f = sound-facts s g (l .sound) in
       let t : h .table ≡ g .table = eqb-true _ _ (and-left (eqb (h .table) (g .table)) _ (l .shares)) in
-      let r = and-right (eqb (h .table) (g .table)) _ (l .shares) in
-      let v : h .version ≡ g .version = eqb-true _ _ (and-left (eqb (h .version) (g .version)) _ (and-right (eqb (h .extension) (g .extension)) _ r)) in
       record {
         table = rw t (sound-fits s g (l .sound) (octets-part file (getD (scanOf file .starts) n 0) (getD (scanOf file .lengths) n 0) o) .0);
-        version = rw v (f .version);
-        last = w .last;
         sixteen = w .sizes;
       })
       (w .each n)
@@ -182,7 +175,7 @@ module _ (file : List ℕ) (o : Octets file) where
         let d : freeOf shelf ≡ places → ⊥ = eqb-false _ _ b in
         let l : freeOf shelf < 4 = omega (arith, free-le shelf, d) in
         rw (a, b)
-        (loaded-lent words (spoiled-count words u) (freeOf shelf) l (keyOf h) (h .version) (h .last) (g .table) (omega (arith, g .version)) (omega (arith, g .last)) lengths (g .sixteen))))
+        (loaded-lent words (spoiled-count words u) (freeOf shelf) l (keyOf h) (h .version) (h .last) (g .table) lengths (g .sixteen))))
         (λ a. rw a)
 
     answer-shelf :

@@ -189,10 +189,10 @@ module _ (words store payload : List ℕ) where
     done-shelf (Refuse n) f = refl
     done-shelf Repeats f = refl
     done-shelf (Begins p h) f =
-        written.begun-lent words (fits p h f) p (f .place) (keyOf h) (h .version) (h .last) (h .number) size (byte-key h (f .header)) (omega (arith, f .version)) (omega (arith, f .last)) (f .number) (omega (arith, f .least))
+        written.begun-lent words (fits p h f) p (f .place) (keyOf h) (h .version) (h .last) (h .number) size (byte-key h (f .header)) (f .number) (omega (arith, f .least))
     done-shelf (BeginsAgain p h) g =
         let f = g .0 in
-        written.begun-lent words (fits p h f) p (f .place) (keyOf h) (h .version) (h .last) (h .number) size (byte-key h (f .header)) (omega (arith, f .version)) (omega (arith, f .last)) (f .number) (omega (arith, f .least))
+        written.begun-lent words (fits p h f) p (f .place) (keyOf h) (h .version) (h .last) (h .number) size (byte-key h (f .header)) (f .number) (omega (arith, f .least))
     done-shelf (Adds p h) g =
         let f = g .0 in
         written.held-lent words (fits p h f) p (f .place) (h .number) (f .number) size (omega (arith, f .least)) (taken-of words p (fits p h f) (f .place) (g .1))

@@ -64,14 +64,14 @@ module _ (words : List ℕ) (fits : length words ≡ 84) where
           ∙ held-shelf words fits p hp n hn size hs t
           ∙ rw (at-count words fits, place-at words p hp)
 
-    module _ (key : Key) (version last : ℕ) (ht : key .table < 256) (hv : version < 255) (hl : last < 255) where
+    module _ (key : Key) (version last : ℕ) (ht : key .table < 256) where
       abbrev head : List ℕ
       head = headIn words p key version last
 
       pub head-lent : shelfAt head ≡ withPlace (shelfAt words) p (emptyTable key version last)
       head-lent =
           at-count head (head-fits key version last)
-          ∙ head-shelf words fits p hp key version last ht hv hl
+          ∙ head-shelf words fits p hp key version last ht
           ∙ ap (λ s. withPlace s p (emptyTable key version last)) (sym (at-count words fits))
 
       pub head-now : placeAt (shelfAt head) p ≡ emptyTable key version last
@@ -91,14 +91,12 @@ pub begun-lent :
     → (key : Key)
     (version last n size : ℕ)
     → key .table < 256
-    → version < 255
-    → last < 255
     → n < 16
     → 1 ≤ size
     → shelfAt (heldIn (headIn words p key version last) p n size)
     ≡ withPlace (shelfAt words) p (withLength (emptyTable key version last) n size)
-begun-lent words fits p hp key version last n size ht hv hl hn hs =
+begun-lent words fits p hp key version last n size ht hn hs =
     let h = headIn words p key version last in
-    held-lent h (head-fits words fits p hp key version last) p hp n hn size hs (head-taken words fits p hp key version last ht hv hl)
-    ∙ rw (head-now words fits p hp key version last ht hv hl, head-lent words fits p hp key version last ht hv hl)
+    held-lent h (head-fits words fits p hp key version last) p hp n hn size hs (head-taken words fits p hp key version last ht)
+    ∙ rw (head-now words fits p hp key version last ht, head-lent words fits p hp key version last ht)
     (with-with (shelfAt words) p (emptyTable key version last) (withLength (emptyTable key version last) n size))

@@ -20,7 +20,7 @@ use Rattle.base.proofs.Cases.{same-or}
 use Rattle.shelf.specs.Record.{Place, freePlace, fresh, withPlace}
 use Rattle.shelf.specs.declared.Key.{Key}
 use Rattle.base.specs.Bits.{bit}
-use Rattle.shelf.specs.Layout.{heldLength, capped, listed, lengthsIn, tableIn, takenIn, placeIn, shelfIn}
+use Rattle.shelf.specs.Layout.{heldLength, listed, lengthsIn, tableIn, takenIn, placeIn, shelfIn}
 use Rattle.shelf_write.specs.Writes.{heldIn, rowIn, freedIn, headIn, headPut, freshNumber, freshWords, emptyTable, withLength}
 use Rattle.base.proofs.Bits.{bit-set, bit-kept}
 use Rattle.shelf.proofs.Lists.{length-listed, getD-listed, listed-same}
@@ -209,7 +209,7 @@ module _ (words : List ℕ) (fits : length words ≡ 84) (p : ℕ) (hp : p < 4) 
       row-shelf words fits p hp p 0 0 0 1 freePlace
       (rw (row-first words fits p hp p 0 0 0 1, ne-eqb (p / 256) 1 (λ z. omega arith)))
 
-  module _ (key : Key) (version last : ℕ) (ht : key .table < 256) (hv : version < 255) (hl : last < 255) where
+  module _ (key : Key) (version last : ℕ) (ht : key .table < 256) where
     empty : (v : List ℕ) → getD v (80 + p) 0 ≡ 0 → lengthsIn v p ≡ replicate 16 0
     unfolding lengthsIn listed
     empty v e =
@@ -230,8 +230,6 @@ module _ (words : List ℕ) (fits : length words ≡ 84) (p : ℕ) (hp : p < 4) 
           empty (row words fits p hp (256 + key .table) (key .extension) version last 0) (row-mask words fits p hp (256 + key .table) (key .extension) version last 0),
           eq-eqb ((256 + key .table) / 256) 1 (omega arith),
           low,
-          le-ltb 255 version (omega arith),
-          le-ltb 255 last (omega arith),
         ))
       where
         low : (256 + key .table) % 256 ≡ key .table

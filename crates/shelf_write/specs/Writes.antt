@@ -9,16 +9,16 @@ use Rattle.base.specs.Choice.{if_then_else_}
 use Rattle.berth.specs.Berth.{sections}
 use Rattle.shelf.specs.declared.Key.{Key}
 use Rattle.shelf.specs.Record.{Place}
-use Rattle.shelf.specs.Layout.{count, listed, hasPlace, hasSection}
+use Rattle.shelf.specs.Layout.{heads, masks, count, atLength, atTable, atExtension, atVersion, atLast, atMask, listed, hasPlace, hasSection}
 
 -- section n of place p is held, with that length
 unfoldable pub heldIn : List ℕ → ℕ → ℕ → ℕ → List ℕ
-heldIn words p n size = set (set words (16 * p + n) size) (80 + p) (bitOr (getD words (80 + p) 0) (2 ^ n))
+heldIn words p n size = set (set words (atLength p n) size) (atMask p) (bitOr (getD words (atMask p) 0) (2 ^ n))
 
 -- the head and the mask of place p
 unfoldable pub rowIn : List ℕ → ℕ → ℕ → ℕ → ℕ → ℕ → ℕ → List ℕ
 rowIn words p a b c d mask =
-    set (set (set (set (set words (64 + 4 * p) a) (65 + 4 * p) b) (66 + 4 * p) c) (67 + 4 * p) d) (80 + p) mask
+    set (set (set (set (set words (atTable p) a) (atExtension p) b) (atVersion p) c) (atLast p) d) (atMask p) mask
 
 -- place p is free: its head p, 0, 0, 0 and its mask 1 are what a check for 18 passes at once
 abbrev pub freedIn : List ℕ → ℕ → List ℕ
@@ -30,7 +30,7 @@ headIn words p key version last = rowIn words p (256 + key .table) (key .extensi
 
 -- number k of a fresh record: no length is below 8, the head of place p is p, 0, 0, 0 and each mask is 1
 abbrev pub freshNumber : ℕ → ℕ
-freshNumber k = if ltb k 64 then 8 else if ltb k 80 then (if eqb (k % 4) 0 then (k - 64) / 4 else 0) else 1
+freshNumber k = if ltb k heads then 8 else if ltb k masks then (if eqb (k % 4) 0 then (k - heads) / 4 else 0) else 1
 
 unfoldable pub freshWords : List ℕ
 freshWords = listed count freshNumber

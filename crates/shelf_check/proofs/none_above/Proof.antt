@@ -3,42 +3,15 @@ use Rattle.shelf_check.proofs.Pass.{four, four-true, at-most}
 use borrow.Author.Needs.{needs}
 use Rattle.shelf_check.proofs.none_above.Statement.{statement}
 use Rattle.shelf_check.proofs.none_above.Tie as tie
-use Rattle.shelf_check.proofs.none_above.Reads as reads
-use Rattle.shelf_check.proofs.none_above.Lts as lts
-use Rattle.shelf_check.proofs.above.Reads as above-reads
-
-shared-slice-read-above : tie.Need-shared-slice-read-above
-shared-slice-read-above c = search needs
-
-shared-slice-read-above-2 : tie.Need-shared-slice-read-above-2
-shared-slice-read-above-2 c = search needs
 
 above-requires : tie.Need-above-requires
 above-requires c κs = search needs
 
-shared-slice-read-above-3 : tie.Need-shared-slice-read-above-3
-shared-slice-read-above-3 c = search needs
-
-shared-slice-read-above-4 : tie.Need-shared-slice-read-above-4
-shared-slice-read-above-4 c = search needs
-
 above-requires-2 : tie.Need-above-requires-2
 above-requires-2 c κs = search needs
 
-shared-slice-read-above-5 : tie.Need-shared-slice-read-above-5
-shared-slice-read-above-5 c = search needs
-
-shared-slice-read-above-6 : tie.Need-shared-slice-read-above-6
-shared-slice-read-above-6 c = search needs
-
 above-requires-3 : tie.Need-above-requires-3
 above-requires-3 c κs = search needs
-
-shared-slice-read-above-7 : tie.Need-shared-slice-read-above-7
-shared-slice-read-above-7 c = search needs
-
-shared-slice-read-above-8 : tie.Need-shared-slice-read-above-8
-shared-slice-read-above-8 c = search needs
 
 above-requires-4 : tie.Need-above-requires-4
 above-requires-4 c κs = search needs
@@ -48,25 +21,11 @@ returns c =
     λ e.
     let t = four-true _ _ _ _ e in
     four (NoneAbove _)
-    (record { low = at-most 1 (c .before .before .before .before .before .before .before .before .before .above .ensures) (t .0) })
-    (record { low = at-most 1 (c .before .before .before .before .before .before .above2 .ensures) (t .1) })
-    (record { low = at-most 1 (c .before .before .before .above3 .ensures) (t .2) })
+    (record { low = at-most 1 (c .before .before .before .above .ensures) (t .0) })
+    (record { low = at-most 1 (c .before .before .above2 .ensures) (t .1) })
+    (record { low = at-most 1 (c .before .above3 .ensures) (t .2) })
     (record { low = at-most 1 (c .above4 .ensures) (t .3) })
 
 pub none-above-spec : {M : Type 1} → statement M
 none-above-spec =
-    tie.close
-    (tie.spec
-    shared-slice-read-above
-    shared-slice-read-above-2
-    above-requires
-    shared-slice-read-above-3
-    shared-slice-read-above-4
-    above-requires-2
-    shared-slice-read-above-5
-    shared-slice-read-above-6
-    above-requires-3
-    shared-slice-read-above-7
-    shared-slice-read-above-8
-    above-requires-4
-    returns)
+    tie.close (tie.spec above-requires above-requires-2 above-requires-3 above-requires-4 returns)

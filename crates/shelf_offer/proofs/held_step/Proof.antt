@@ -30,7 +30,7 @@ half-requires c κs = search needs
 returns : tie.Need-returns
 returns c =
     let a = c .before .before .before .before .before .before .args in
-    held-again _ _ _ _ _ (version-other (now (a .words)) (a .p) (search needs) (search needs) (search needs) (c .before .half .ensures) (omega arith) (c .before .before .version-of .ensures) (c .if1 .taken))
+    held-again _ _ _ _ _ (version-other (now (a .words)) (a .p) (search needs) (search needs) (search needs) (c .before .half .ensures) (c .before .before .version-of .ensures) (c .if1 .taken))
 
 last-of-requires : tie.Need-last-of-requires
 last-of-requires c κs = search needs
@@ -41,7 +41,7 @@ half-requires-2 c κs = search needs
 returns-2 : tie.Need-returns-2
 returns-2 c =
     let a = c .before .before .before .before .before .before .before .before .before .args in
-    held-last _ _ _ _ _ (version-same (now (a .words)) (a .p) (search needs) (search needs) (search needs) (c .before .before .before .before .half .ensures) (omega arith) (c .before .before .before .before .before .version-of .ensures) (c .before .before .before .if1 .left)) (last-other (now (a .words)) (a .p) (search needs) (search needs) (search needs) (c .before .half2 .ensures) (omega arith) (c .before .before .last-of .ensures) (c .if2 .taken))
+    held-last _ _ _ _ _ (version-same (now (a .words)) (a .p) (search needs) (search needs) (search needs) (c .before .before .before .before .half .ensures) (c .before .before .before .before .before .version-of .ensures) (c .before .before .before .if1 .left)) (last-other (now (a .words)) (a .p) (search needs) (search needs) (search needs) (c .before .half2 .ensures) (c .before .before .last-of .ensures) (c .if2 .taken))
 
 wide8-requires : tie.Need-wide8-requires
 wide8-requires c κs = search needs
@@ -56,7 +56,7 @@ returns-3 : tie.Need-returns-3
 returns-3 c =
     let a = c .before .before .before .before .before .before .before .before .before .before .before .before .before .args in
     let n : c .before .wide16 .result ≡ lengthAt (placeAt (shelfIn (now (a .words))) (a .p)) (a .header .number) = c .before .wide16 .ensures ∙ length-same (now (a .words)) (a .p) (search needs) (search needs) (search needs) (a .header .number) (search needs) (c .before .before .before .wide8 .ensures) (c .before .before .length-of .ensures) in
-    held-adds _ _ _ _ _ (version-same (now (a .words)) (a .p) (search needs) (search needs) (search needs) (c .before .before .before .before .before .before .before .before .half .ensures) (omega arith) (c .before .before .before .before .before .before .before .before .before .version-of .ensures) (c .before .before .before .before .before .before .before .if1 .left)) (last-same (now (a .words)) (a .p) (search needs) (search needs) (search needs) (c .before .before .before .before .before .half2 .ensures) (omega arith) (c .before .before .before .before .before .before .last-of .ensures) (c .before .before .before .before .if2 .left)) (sym n ∙ c .if3 .taken)
+    held-adds _ _ _ _ _ (version-same (now (a .words)) (a .p) (search needs) (search needs) (search needs) (c .before .before .before .before .before .before .before .before .half .ensures) (c .before .before .before .before .before .before .before .before .before .version-of .ensures) (c .before .before .before .before .before .before .before .if1 .left)) (last-same (now (a .words)) (a .p) (search needs) (search needs) (search needs) (c .before .before .before .before .before .half2 .ensures) (c .before .before .before .before .before .before .last-of .ensures) (c .before .before .before .before .if2 .left)) (sym n ∙ c .if3 .taken)
 
 stands-requires : tie.Need-stands-requires
 stands-requires c κs = search needs
@@ -65,14 +65,14 @@ returns-4 : tie.Need-returns-4
 returns-4 c =
     let a = c .before .before .before .before .before .before .before .before .before .before .before .before .before .before .before .args in
     let n : c .before .before .before .wide16 .result ≡ lengthAt (placeAt (shelfIn (now (a .words))) (a .p)) (a .header .number) = c .before .before .before .wide16 .ensures ∙ length-same (now (a .words)) (a .p) (search needs) (search needs) (search needs) (a .header .number) (search needs) (c .before .before .before .before .before .wide8 .ensures) (c .before .before .before .before .length-of .ensures) in
-    held-repeats _ _ _ _ _ (version-same (now (a .words)) (a .p) (search needs) (search needs) (search needs) (c .before .before .before .before .before .before .before .before .before .before .half .ensures) (omega arith) (c .before .before .before .before .before .before .before .before .before .before .before .version-of .ensures) (c .before .before .before .before .before .before .before .before .before .if1 .left)) (last-same (now (a .words)) (a .p) (search needs) (search needs) (search needs) (c .before .before .before .before .before .before .before .half2 .ensures) (omega arith) (c .before .before .before .before .before .before .before .before .last-of .ensures) (c .before .before .before .before .before .before .if2 .left)) (λ z. c .before .before .if3 .left (n ∙ z))
+    held-repeats _ _ _ _ _ (version-same (now (a .words)) (a .p) (search needs) (search needs) (search needs) (c .before .before .before .before .before .before .before .before .before .before .half .ensures) (c .before .before .before .before .before .before .before .before .before .before .before .version-of .ensures) (c .before .before .before .before .before .before .before .before .before .if1 .left)) (last-same (now (a .words)) (a .p) (search needs) (search needs) (search needs) (c .before .before .before .before .before .before .before .half2 .ensures) (c .before .before .before .before .before .before .before .before .last-of .ensures) (c .before .before .before .before .before .before .if2 .left)) (λ z. c .before .before .if3 .left (n ∙ z))
     (stood (now (a .store)) (a .p) (search needs) (search needs) (a .header .number) (search needs) _ _ (sound-place (shelfIn (now (a .words))) (search needs) (a .p) (search needs) (taken-at (now (a .words)) (a .p) (search needs) ∙ search needs) .most (a .header .number) (search needs)) (c .before .before .before .before .before .wide8 .ensures) n (c .before .stands .ensures) (c .if4 .taken))
 
 returns-5 : tie.Need-returns-5
 returns-5 c =
     let a = c .before .before .before .before .before .before .before .before .before .before .before .before .before .before .before .args in
     let n : c .before .before .before .wide16 .result ≡ lengthAt (placeAt (shelfIn (now (a .words))) (a .p)) (a .header .number) = c .before .before .before .wide16 .ensures ∙ length-same (now (a .words)) (a .p) (search needs) (search needs) (search needs) (a .header .number) (search needs) (c .before .before .before .before .before .wide8 .ensures) (c .before .before .before .before .length-of .ensures) in
-    held-differs _ _ _ _ _ (version-same (now (a .words)) (a .p) (search needs) (search needs) (search needs) (c .before .before .before .before .before .before .before .before .before .before .half .ensures) (omega arith) (c .before .before .before .before .before .before .before .before .before .before .before .version-of .ensures) (c .before .before .before .before .before .before .before .before .before .if1 .left)) (last-same (now (a .words)) (a .p) (search needs) (search needs) (search needs) (c .before .before .before .before .before .before .before .half2 .ensures) (omega arith) (c .before .before .before .before .before .before .before .before .last-of .ensures) (c .before .before .before .before .before .before .if2 .left)) (λ z. c .before .before .if3 .left (n ∙ z))
+    held-differs _ _ _ _ _ (version-same (now (a .words)) (a .p) (search needs) (search needs) (search needs) (c .before .before .before .before .before .before .before .before .before .before .half .ensures) (c .before .before .before .before .before .before .before .before .before .before .before .version-of .ensures) (c .before .before .before .before .before .before .before .before .before .if1 .left)) (last-same (now (a .words)) (a .p) (search needs) (search needs) (search needs) (c .before .before .before .before .before .before .before .half2 .ensures) (c .before .before .before .before .before .before .before .before .last-of .ensures) (c .before .before .before .before .before .before .if2 .left)) (λ z. c .before .before .if3 .left (n ∙ z))
     (stood (now (a .store)) (a .p) (search needs) (search needs) (a .header .number) (search needs) _ _ (sound-place (shelfIn (now (a .words))) (search needs) (a .p) (search needs) (taken-at (now (a .words)) (a .p) (search needs) ∙ search needs) .most (a .header .number) (search needs)) (c .before .before .before .before .before .wide8 .ensures) n (c .before .stands .ensures) (c .if4 .left))
 
 pub held-step-spec : {M : Type 1} → statement M
