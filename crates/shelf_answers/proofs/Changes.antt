@@ -29,7 +29,6 @@ use Rattle.shelf_begin.specs.Answer.{begunIn, beginOut, beginLent}
 use Rattle.shelf_begin.proofs.Told.{begun-back}
 use Rattle.shelf_offer.specs.Offer as Offer
 use Rattle.shelf_offer.specs.declared.Offered.{Offered}
-use Rattle.shelf_offer.specs.Steps.{heldStep, newStep, soundStep, readingStep, stepOf}
 use Rattle.shelf_offer.specs.On as OfferOn
 use Rattle.shelf_offer.specs.Answer.{offeredIn, offerOut, offerLent}
 use Rattle.shelf_offer.proofs.Told.{offered-back}
@@ -71,7 +70,7 @@ module _ (words store : List ℕ) where
       (unbegun-so 17 (omega arith), (unbegun-so 18 (omega arith), tt))
       (keeps-yes Begun.Refused begunIn Begun.Done 0 (λ n e. let z : _≡_ {A = ℕ} 0 1 = cc in omega arith) refl refl words store freshWords (zeros storeSize))
 
-  -- offering, step by step
+  -- offering, case by case
   module _ (payload : List ℕ) where
     abbrev Offers-So : Offered → List ℕ → List ℕ → Type 0
     Offers-So said kept left = Keeps Offered.Refused offeredIn said words store (offerOut (OfferOn.leaving said kept left))
@@ -95,9 +94,9 @@ module _ (words store : List ℕ) where
 
     held-so : (p : ℕ) (h : Header)
         → Offers-So (Offer.heldOf shelf store payload p h .said)
-        (OfferOn.wordsBy words (length payload) (heldStep (placeAt shelf p) store payload p h))
+        (OfferOn.wordsBy words payload (Offer.heldOf shelf store payload p h .said))
         (Offer.heldOf shelf store payload p h .store)
-    unfolding Offer.heldOf heldStep OfferOn.wordsBy
+    unfolding Offer.heldOf
     held-so p h =
         by (not (eqb (placeAt shelf p .version) (h .version)))
         (λ a. rw a (again-so _ _))
@@ -114,9 +113,9 @@ module _ (words store : List ℕ) where
 
     sound-so : (h : Header)
         → Offers-So (Offer.soundOf shelf store payload h .said)
-        (OfferOn.wordsBy words (length payload) (soundStep shelf store payload h))
+        (OfferOn.wordsBy words payload (Offer.soundOf shelf store payload h .said))
         (Offer.soundOf shelf store payload h .store)
-    unfolding Offer.soundOf Offer.newOf soundStep newStep OfferOn.wordsBy
+    unfolding Offer.soundOf Offer.newOf
     sound-so h =
         by (eqb (placeOf shelf (keyOf h)) places)
         (λ a.
@@ -127,15 +126,14 @@ module _ (words store : List ℕ) where
 
     reading-so : (r : Reading) → readOf payload ≡ r
         → Offers-So (Offer.readingOf shelf store payload r .said)
-        (OfferOn.wordsBy words (length payload) (readingStep shelf store payload r))
+        (OfferOn.wordsBy words payload (Offer.readingOf shelf store payload r .said))
         (Offer.readingOf shelf store payload r .store)
-    unfolding OfferOn.wordsBy
     reading-so (Reading.Sound h) e = sound-so h
     reading-so (Reading.Refused n) e =
         let r : (1 ≤ n) × (n ≤ 8) = refused-range payload n e in unoffered-so n (omega (arith, r .0, r .1))
 
     pub offer-keeps : Offer-Keeps words store payload
-    unfolding offerLent OfferOn.offerOn Offer.offerOf stepOf OfferOn.wordsBy
+    unfolding offerLent OfferOn.offerOn Offer.offerOf
     offer-keeps =
         by (not (eqb (length store) storeSize))
         (λ a. rw a (unoffered-so 17 (omega arith)))

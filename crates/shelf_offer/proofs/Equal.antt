@@ -57,7 +57,7 @@ module _ (a b : Shelf) (s : Same a b) (store payload : List ℕ) where
     same-done (Refuse n) f = record { said = refl; store = refl; shelf = s }
     same-done Repeats f = record { said = refl; store = refl; shelf = s }
     same-done (Begins p h) f =
-        record { said = refl; store = refl; shelf = same-with a b s fa fb p (f .place) (begunPlace h (length payload)) }
+        record { said = refl; store = refl; shelf = same-with a b s fa fb p (f .0 .place) (begunPlace h (length payload)) }
     same-done (BeginsAgain p h) f =
         record {
           said = refl;

@@ -23,15 +23,15 @@ use Rattle.shelf.specs.Layout.{takenIn, tableIn, shelfIn, shelfAt, placeAmong, 
 use Rattle.shelf_write.specs.Writes.{heldIn, headIn, heldPut, headPut}
 use Rattle.shelf.proofs.Numbers.{at-count, spoiled-count, taken-at, table-at, held-at, among-place, among-free, among-mask}
 use Rattle.shelf.proofs.Find.{place-taken}
-use Rattle.shelf_write.proofs.Lent as written
+use Rattle.shelf_write.proofs.Lent as lent
 use Rattle.shelf_offer.specs.declared.Offered.{Offered}
 use Rattle.shelf_offer.specs.declared.Step.{Step}
 use Rattle.shelf_offer.specs.declared.Step.the-variants.{Refuse, Repeats, Begins, BeginsAgain, Adds}
-use Rattle.shelf_offer.specs.Offer.{offerOf}
-use Rattle.shelf_offer.specs.Steps.{stepOf, done}
-use Rattle.shelf_offer.specs.On.{Leaving, leaving, begunIn, wordsBy, offerOn}
+use Rattle.shelf_offer.specs.Offer.{begunPlace, offerOf}
+use Rattle.shelf_offer.specs.Steps.{stepOf, done, written}
+use Rattle.shelf_offer.specs.On.{Leaving, leaving, begunWords, wordsBy, offerOn}
 use Rattle.shelf_offer.proofs.Stands.{put-at, wiped-at}
-use Rattle.shelf_offer.proofs.Steps.{InRange, Fits, step-done, step-fits}
+use Rattle.shelf_offer.proofs.Steps.{InRange, Held, Fits, step-done, step-fits}
 
 -- a taken place of the record is one of the numbers
 pub taken-of : (words : List ℕ) (p : ℕ) → length words ≡ 84 → p < 4 → placeAt (shelfAt words) p .taken ≡ true → takenIn words p ≡ true
@@ -58,25 +58,36 @@ module _ (words store payload : List ℕ) where
   abbrev size : ℕ
   size = length payload
 
+  -- a step writes what the answer of what it does says
+  written-said : (s : Step) → Fits shelf store payload s → written words size s ≡ wordsBy words payload (done shelf store payload s .said)
+  unfolding done written
+  written-said (Refuse n) f = refl
+  written-said Repeats f = refl
+  written-said (Begins p h) f = rw (f .1, f .0 .header)
+  written-said (BeginsAgain p h) f = rw (f .2, f .0 .header)
+  written-said (Adds p h) f = rw (f .2, f .0 .header)
+
   -- what was decided, done
   pub decided :
       {r : Step}
       {x : Leaving}
       → stepOf shelf store payload ≡ r
-      → x ≡ leaving (done shelf store payload r .said) (wordsBy words size r) (done shelf store payload r .store)
+      → x ≡ leaving (done shelf store payload r .said) (written words size r) (done shelf store payload r .store)
       → x ≡ offerOn words store payload
   unfolding offerOn
   decided e q =
+      let s = stepOf shelf store payload in
       q
-      ∙ ap (λ s. leaving (done shelf store payload s .said) (wordsBy words size s) (done shelf store payload s .store)) (sym e)
-      ∙ ap (λ a. leaving (a .said) (wordsBy words size (stepOf shelf store payload)) (a .store)) (step-done shelf store payload)
+      ∙ ap (λ r. leaving (done shelf store payload r .said) (written words size r) (done shelf store payload r .store)) (sym e)
+      ∙ ap (λ v. leaving (done shelf store payload s .said) v (done shelf store payload s .store)) (written-said s (step-fits shelf store payload))
+      ∙ ap (λ a. leaving (a .said) (wordsBy words payload (a .said)) (a .store)) (step-done shelf store payload)
 
   pub repeated : stepOf shelf store payload ≡ Repeats → leaving Offered.Repeat words store ≡ offerOn words store payload
-  unfolding done wordsBy
+  unfolding done written
   repeated e = decided e refl
 
   pub refused : (n : ℕ) → stepOf shelf store payload ≡ Refuse n → leaving (Offered.Refused n) words store ≡ offerOn words store payload
-  unfolding done wordsBy
+  unfolding done written
   refused n e = decided e refl
 
   module _ (p : ℕ) (h : Header) where
@@ -84,12 +95,12 @@ module _ (words store payload : List ℕ) where
     Range = InRange shelf store payload p h
 
     pub begins-fit : stepOf shelf store payload ≡ Begins p h → Range
-    begins-fit e = subst (Fits shelf store payload) e (step-fits shelf store payload)
+    begins-fit e = (subst (Fits shelf store payload) e (step-fits shelf store payload)) .0
 
-    pub again-fit : stepOf shelf store payload ≡ BeginsAgain p h → Range × (placeAt shelf p .taken ≡ true)
+    pub again-fit : stepOf shelf store payload ≡ BeginsAgain p h → Held shelf store payload p h
     again-fit e = subst (Fits shelf store payload) e (step-fits shelf store payload)
 
-    pub adds-fit : stepOf shelf store payload ≡ Adds p h → Range × (placeAt shelf p .taken ≡ true)
+    pub adds-fit : stepOf shelf store payload ≡ Adds p h → Held shelf store payload p h
     adds-fit e = subst (Fits shelf store payload) e (step-fits shelf store payload)
 
     -- the numbers of a record that is not spoiled
@@ -100,7 +111,7 @@ module _ (words store payload : List ℕ) where
     put-left before m w f e = e ∙ ap (λ k. putIn before p k payload) m ∙ put-at before p w (f .place) (h .number) (f .number) payload (f .size)
 
     held-left : {n : ℕ} {kept : List ℕ} (before : List ℕ) → n ≡ h .number → length before ≡ 84 → Range → kept ≡ heldPut before p n size → kept ≡ heldIn before p (h .number) size
-    held-left before m w f e = e ∙ ap (λ k. heldPut before p k size) m ∙ written.held-put before w p (f .place) (h .number) (f .number) size
+    held-left before m w f e = e ∙ ap (λ k. heldPut before p k size) m ∙ lent.held-put before w p (f .place) (h .number) (f .number) size
 
     pub added :
         {n : ℕ}
@@ -110,11 +121,11 @@ module _ (words store payload : List ℕ) where
         → kept ≡ heldPut words p n size
         → left ≡ putIn store p n payload
         → leaving Offered.Added kept left ≡ offerOn words store payload
-    unfolding done wordsBy
+    unfolding done written
     added e m k s = let f = adds-fit e .0 in decided e (rw (held-left words m (fits f) f k, put-left store m (f .whole) f s))
 
     head-left : {key : Key} {head : List ℕ} → key ≡ keyOf h → head ≡ headPut words p key (h .version) (h .last) → Range → head ≡ headIn words p (keyOf h) (h .version) (h .last)
-    head-left q d f = d ∙ ap (λ k. headPut words p k (h .version) (h .last)) q ∙ written.head-put words (fits f) p (f .place) (keyOf h) (h .version) (h .last)
+    head-left q d f = d ∙ ap (λ k. headPut words p k (h .version) (h .last)) q ∙ lent.head-put words (fits f) p (f .place) (keyOf h) (h .version) (h .last)
 
     begun-left :
         {n : ℕ}
@@ -125,10 +136,10 @@ module _ (words store payload : List ℕ) where
         → head ≡ headPut words p key (h .version) (h .last)
         → Range
         → kept ≡ heldPut head p n size
-        → kept ≡ begunIn words p h size
+        → kept ≡ begunWords words p h size
     begun-left {head = head} m q d f k =
         let e = head-left q d f in
-        let w : length head ≡ 84 = ap length e ∙ written.head-fits words (fits f) p (f .place) (keyOf h) (h .version) (h .last) in
+        let w : length head ≡ 84 = ap length e ∙ lent.head-fits words (fits f) p (f .place) (keyOf h) (h .version) (h .last) in
         held-left head m w f k ∙ ap (λ v. heldIn v p (h .number) size) e
 
     pub began :
@@ -142,7 +153,7 @@ module _ (words store payload : List ℕ) where
         → kept ≡ heldPut head p n size
         → left ≡ putIn store p n payload
         → leaving Offered.Began kept left ≡ offerOn words store payload
-    unfolding done wordsBy
+    unfolding done written
     began e m q d k s = let f = begins-fit e in decided e (rw (begun-left m q d f k, put-left store m (f .whole) f s))
 
     pub began-again :
@@ -158,7 +169,7 @@ module _ (words store payload : List ℕ) where
         → kept ≡ heldPut head p n size
         → left ≡ putIn wiped p n payload
         → leaving Offered.BeganAgain kept left ≡ offerOn words store payload
-    unfolding done wordsBy
+    unfolding done written
     began-again {mask = mask} {wiped = wiped} e m q d i v k s =
         let f = again-fit e .0 in
         let t' = taken-of words p (fits f) (f .place) (again-fit e .1) in
@@ -184,21 +195,27 @@ module _ (words store payload : List ℕ) where
     byte-key : (h : Header) → h ≡ headerOf payload → keyOf h .table < 256
     byte-key h e = rw e (o 0)
 
-    done-shelf : (s : Step) → Fits shelf store payload s → shelfAt (wordsBy words size s) ≡ done shelf store payload s .shelf
-    unfolding done wordsBy
+    begun-shelf : (p : ℕ) (h : Header) → InRange shelf store payload p h
+        → shelfAt (begunWords words p h size) ≡ withPlace shelf p (begunPlace h size)
+    begun-shelf p h f =
+        lent.begun-lent words (fits p h f) p (f .place) (keyOf h) (h .version) (h .last) (h .number) size (byte-key h (f .header)) (f .number) (omega (arith, f .least))
+
+    done-shelf : (s : Step) → Fits shelf store payload s → shelfAt (written words size s) ≡ done shelf store payload s .shelf
+    unfolding done written
     done-shelf (Refuse n) f = refl
     done-shelf Repeats f = refl
-    done-shelf (Begins p h) f =
-        written.begun-lent words (fits p h f) p (f .place) (keyOf h) (h .version) (h .last) (h .number) size (byte-key h (f .header)) (f .number) (omega (arith, f .least))
-    done-shelf (BeginsAgain p h) g =
-        let f = g .0 in
-        written.begun-lent words (fits p h f) p (f .place) (keyOf h) (h .version) (h .last) (h .number) size (byte-key h (f .header)) (f .number) (omega (arith, f .least))
+    done-shelf (Begins p h) f = begun-shelf p h (f .0)
+    done-shelf (BeginsAgain p h) f = begun-shelf p h (f .0)
     done-shelf (Adds p h) g =
         let f = g .0 in
-        written.held-lent words (fits p h f) p (f .place) (h .number) (f .number) size (omega (arith, f .least)) (taken-of words p (fits p h f) (f .place) (g .1))
+        lent.held-lent words (fits p h f) p (f .place) (h .number) (f .number) size (omega (arith, f .least)) (taken-of words p (fits p h f) (f .place) (g .1))
 
     pub offer-shelf : shelfAt (offerOn words store payload .words) ≡ offerOf shelf store payload .shelf
     unfolding offerOn
     offer-shelf =
-        done-shelf (stepOf shelf store payload) (step-fits shelf store payload)
+        let s = stepOf shelf store payload in
+        let f = step-fits shelf store payload in
+        ap (λ a. shelfAt (wordsBy words payload (a .said))) (sym (step-done shelf store payload))
+        ∙ ap shelfAt (sym (written-said s f))
+        ∙ done-shelf s f
         ∙ ap (λ a. a .shelf) (step-done shelf store payload)

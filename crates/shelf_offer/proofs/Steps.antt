@@ -142,14 +142,14 @@ module _ (shelf : Shelf) (store payload : List ℕ) where
     pub size : length payload ≤ berthSize
     pub header : h ≡ headerOf payload
 
-  -- .. and a table is there
+  -- .. and a table is there, that of the section's key
   abbrev pub Held : ℕ → Header → Type 0
-  Held p h = InRange p h × (placeAt shelf p .taken ≡ true)
+  Held p h = InRange p h × (placeAt shelf p .taken ≡ true) × (p ≡ placeOf shelf (keyOf h))
 
   abbrev pub Fits : Step → Type 0
   Fits (Refuse n) = Unit {0}
   Fits Repeats = Unit {0}
-  Fits (Begins p h) = InRange p h
+  Fits (Begins p h) = InRange p h × (p ≡ freeOf shelf)
   Fits (BeginsAgain p h) = Held p h
   Fits (Adds p h) = Held p h
 
@@ -168,27 +168,27 @@ module _ (shelf : Shelf) (store payload : List ℕ) where
           header = f .header;
         }
 
-    held-fits : (p : ℕ) → p < places → placeAt shelf p .taken ≡ true → Fits (heldStep (placeAt shelf p) store payload p h)
+    held-fits : (p : ℕ) → p < places → placeAt shelf p .taken ≡ true → p ≡ placeOf shelf (keyOf h) → Fits (heldStep (placeAt shelf p) store payload p h)
     unfolding heldStep
-    held-fits p l t =
+    held-fits p l t k =
         either Fits (not (eqb (placeAt shelf p .version) (h .version)))
-        (λ _. (in-range p l, t))
+        (λ _. (in-range p l, t, k))
         (λ _.
         either Fits (not (eqb (placeAt shelf p .last) (h .last)))
         (λ _. tt)
         (λ _.
         either Fits (not (holds (placeAt shelf p) (h .number)))
-        (λ _. (in-range p l, t))
+        (λ _. (in-range p l, t, k))
         (λ _. either Fits (same (standing store p (h .number) (lengthAt (placeAt shelf p) (h .number))) payload) (λ _. tt) (λ _. tt))))
 
     sound-fits : Fits (soundStep shelf store payload h)
     unfolding soundStep newStep
     sound-fits =
         either Fits (eqb (placeOf shelf (keyOf h)) places)
-        (λ _. either Fits (eqb (freeOf shelf) places) (λ _. tt) (λ e. in-range (freeOf shelf) (below (free-le shelf) e)))
+        (λ _. either Fits (eqb (freeOf shelf) places) (λ _. tt) (λ e. (in-range (freeOf shelf) (below (free-le shelf) e), refl)))
         (λ e.
         let l = below (place-le shelf (keyOf h)) e in
-        held-fits (placeOf shelf (keyOf h)) l (place-taken shelf (keyOf h) l))
+        held-fits (placeOf shelf (keyOf h)) l (place-taken shelf (keyOf h) l) refl)
 
   reading-fits : length store ≡ storeSize → spoiledOf shelf ≡ false → (r : Reading) → readOf payload ≡ r → Fits (readingStep shelf store payload r)
   reading-fits w u (reading.Sound h) e = sound-fits w u h (sound-facts payload h e)

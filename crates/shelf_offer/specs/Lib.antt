@@ -1,4 +1,4 @@
 pub mod Offer
-pub mod Steps
 pub mod On
 pub mod Answer
+pub mod Steps

@@ -1,4 +1,5 @@
--- Offering in two parts: the step that an offer comes to, and what is then done. `Offer` has the whole; a law says that it is these two.
+-- Offering in two parts, as the code goes about it: the step that an offer comes to, and what is then done. `Offer` and `On` have the whole; laws say
+-- that it is these two.
 use Prim.Native.Nat.{ℕ}
 use mathlib.Core.List.{List}
 use mathlib.Core.Bool.{Bool, not}
@@ -19,6 +20,8 @@ use Rattle.shelf_offer.specs.declared.Step.{Step}
 use Rattle.shelf_offer.specs.declared.Step.the-variants.{Refuse, Repeats, Begins, BeginsAgain, Adds}
 use Rattle.shelf_offer.specs.Offer.{After, begunPlace, addedPlace, no}
 use Rattle.shelf.specs.Record.{keyOf}
+use Rattle.shelf_write.specs.Writes.{heldIn}
+use Rattle.shelf_offer.specs.On.{begunWords}
 
 -- key held in place p
 unfoldable pub heldStep : Place → List ℕ → List ℕ → ℕ → Header → Step
@@ -69,3 +72,11 @@ module _ (shelf : Shelf) (store payload : List ℕ) where
         shelf = withPlace shelf p (addedPlace (placeAt shelf p) h (length payload));
         store = put store p (h .number) payload;
       }
+
+-- what is written into the numbers at each step, of so many bytes
+unfoldable pub written : List ℕ → ℕ → Step → List ℕ
+written words size (Refuse n) = words
+written words size Repeats = words
+written words size (Begins p h) = begunWords words p h size
+written words size (BeginsAgain p h) = begunWords words p h size
+written words size (Adds p h) = heldIn words p (h .number) size
