@@ -2,3 +2,5 @@ pub mod Shelf
 pub mod Offers
 pub mod Files
 pub mod Bench
+pub mod Linked
+pub mod Clock

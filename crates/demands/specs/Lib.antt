@@ -2,3 +2,4 @@ pub mod Shelf
 pub mod Offers
 pub mod Files
 pub mod Bench
+pub mod Linked
