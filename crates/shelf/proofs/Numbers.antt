@@ -18,7 +18,8 @@ use Rattle.base.proofs.Cases.{by, unlike}
 use Rattle.shelf.specs.Record.{Place, Shelf, lengthAt, holds, spoiledPlace, spoiledOf, placeAt, freePlace, fresh, hasKey, placeOf, freeOf}
 use Rattle.shelf.specs.declared.Key.{Key}
 use Rattle.base.specs.Bits.{bit}
-use Rattle.shelf.specs.Layout.{heldLength, lengthIn, lengthsIn, tableIn, takenIn, placeIn, shelfIn, shelfAt, noRecord, hasPlace, hasSection, placeAmong, freeAmong, versionAmong, lastAmong, maskAmong, lengthAmong}
+use Rattle.shelf.specs.Layout.{heldLength, lengthIn, lengthsIn, tableIn, takenIn, placeIn, shelfIn, shelfAt, noRecord}
+use Rattle.shelf.specs.Calls.{hasPlace, hasSection, placeAmong, freeAmong, versionAmong, lastAmong, maskAmong, lengthAmong}
 use Rattle.shelf.proofs.Lists.{getD-listed}
 
 -- 84 numbers, or none

@@ -3,14 +3,14 @@
 -- place p at 80 + p: bit n is 1 where section n is held.
 use Prim.Native.Nat.{ℕ, zero, suc, _+_, _*_, _/_, _%_}
 use mathlib.Core.List.{List, [], _∷_}
-use mathlib.Core.Bool.{Bool, true, not, _&&_}
-use lib.Dec.{eqb, ltb}
+use mathlib.Core.Bool.{Bool, true, not}
+use lib.Dec.{eqb}
 use lib.ListN.{length, getD, replicate}
 use Rattle.base.specs.Choice.{if_then_else_}
 use Rattle.base.specs.Bits.{bit}
 use Rattle.berth.specs.Berth.{sections, places}
 use Rattle.shelf.specs.declared.Key.{Key}
-use Rattle.shelf.specs.Record.{Place, Shelf, freePlace, fresh, withPlace, placeOf, freeOf}
+use Rattle.shelf.specs.Record.{Place, Shelf, freePlace, fresh, withPlace}
 
 -- where the heads begin, and where the masks
 abbrev pub heads : ℕ
@@ -96,33 +96,3 @@ noRecord =
 -- the record that lent numbers are
 unfoldable pub shelfAt : List ℕ → Shelf
 shelfAt words = if not (eqb (length words) count) then noRecord else shelfIn words
-
--- so many numbers are a record, and it has place p
-abbrev pub hasPlace : ℕ → ℕ → Bool
-hasPlace size p = eqb size count && ltb p places
-
--- .. and in it section n
-abbrev pub hasSection : ℕ → ℕ → ℕ → Bool
-hasSection size p n = hasPlace size p && ltb n sections
-
--- what is found in lent numbers; what is no record has no place, and what is asked of no place is 0
-unfoldable pub placeAmong : List ℕ → Key → ℕ
-placeAmong words key = if eqb (length words) count then placeOf (shelfIn words) key else places
-
-unfoldable pub freeAmong : List ℕ → ℕ
-freeAmong words = if eqb (length words) count then freeOf (shelfIn words) else places
-
-unfoldable pub versionAmong : List ℕ → ℕ → ℕ
-versionAmong words p = if hasPlace (length words) p then getD words (atVersion p) 0 else 0
-
-unfoldable pub lastAmong : List ℕ → ℕ → ℕ
-lastAmong words p = if hasPlace (length words) p then getD words (atLast p) 0 else 0
-
-unfoldable pub maskAmong : List ℕ → ℕ → ℕ
-maskAmong words p = if hasPlace (length words) p then getD words (atMask p) 0 else 0
-
-unfoldable pub lengthAmong : List ℕ → ℕ → ℕ → ℕ
-lengthAmong words p n = if hasSection (length words) p n then lengthIn words p n else 0
-
-abbrev pub lengthsAmong : List ℕ → ℕ → List ℕ
-lengthsAmong words p = listed sections (lengthAmong words p)

@@ -10,7 +10,8 @@ ghost use lib.ListN.{length, getD};
 ghost use Rattle.berth.specs.Berth.{places, sections};
 ghost use Rattle.shelf.specs.Record.{keyOf, hasKey};
 ghost use Rattle.base.specs.Bits.{bit};
-ghost use Rattle.shelf.specs.Layout.{count, heldLength, placeIn, placeAmong, freeAmong, versionAmong, lastAmong, maskAmong, lengthAmong, lengthsAmong};
+ghost use Rattle.shelf.specs.Layout.{count, heldLength, placeIn};
+ghost use Rattle.shelf.specs.Calls.{placeAmong, freeAmong, versionAmong, lastAmong, maskAmong, lengthAmong, lengthsAmong};
 
 // What tells one table from another.
 pub struct Key {

@@ -16,7 +16,8 @@ use Rattle.base.specs.Below.{lowest}
 use Rattle.base.proofs.Cases.{by}
 use Rattle.shelf.specs.Record.{placeAt, lengthAt, holds, spoiledOf, placeOf}
 use Rattle.shelf.specs.declared.Key.{Key}
-use Rattle.shelf.specs.Layout.{lengthIn, lengthsIn, takenIn, tableIn, shelfIn, shelfAt, placeAmong, lastAmong, maskAmong, lengthAmong, lengthsAmong}
+use Rattle.shelf.specs.Layout.{lengthIn, lengthsIn, takenIn, tableIn, shelfIn, shelfAt}
+use Rattle.shelf.specs.Calls.{placeAmong, lastAmong, maskAmong, lengthAmong, lengthsAmong}
 use Rattle.shelf.proofs.Lists.{length-listed, listed-same}
 use Rattle.shelf.proofs.Numbers.{at-count, spoiled-count, taken-at, table-at, held-at, length-at, among-place, among-last, among-mask, among-length}
 use Rattle.shelf.proofs.Equal.{lowest-alike}

@@ -11,7 +11,8 @@ use Rattle.base.specs.Bytes.{zeros}
 use Rattle.berth.specs.Berth.{storeSize}
 use Rattle.shelf.specs.Record.{fresh}
 use Rattle.shelf.specs.Layout.{count, shelfAt}
-use Rattle.shelf_write.specs.Writes.{freshWords, freshPut}
+use Rattle.shelf_write.specs.Writes.{freshWords}
+use Rattle.shelf_write.specs.Calls.{freshPut}
 use Rattle.shelf_write.proofs.Lent.{fresh-put, fresh-lent}
 use Rattle.shelf_begin.specs.declared.Begun.{Begun}
 use Rattle.shelf_begin.specs.On.{Leaving, leaving, beginOn}

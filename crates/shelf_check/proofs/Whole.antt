@@ -20,7 +20,8 @@ use Rattle.base.proofs.Bytes.{part-whole}
 use Rattle.base.proofs.Cases.{by}
 use Rattle.shelf.specs.Record.{lengthAt, holds, wrongAt, alike, spoiledPlace, spoiledOf, placeAt}
 use Rattle.base.specs.Bits.{bit}
-use Rattle.shelf.specs.Layout.{tableIn, takenIn, placeIn, shelfIn, shelfAt, lengthAmong, lastAmong, versionAmong}
+use Rattle.shelf.specs.Layout.{tableIn, takenIn, placeIn, shelfIn, shelfAt}
+use Rattle.shelf.specs.Calls.{lengthAmong, lastAmong, versionAmong}
 use Rattle.base.proofs.Bits.{one-set}
 use Rattle.shelf.proofs.Numbers.{length-in, held-at, among-length, among-last, among-version, at-count, no-both}
 use Rattle.shelf_check.specs.Fine.{keyNumber}

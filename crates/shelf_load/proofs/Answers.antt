@@ -17,8 +17,9 @@ use Rattle.section.specs.declared.Header.{Header}
 use Rattle.berth.specs.Berth.{sections, places, storeSize}
 use Rattle.shelf.specs.Record.{spoiledOf, placeOf, freeOf}
 use Rattle.shelf.specs.declared.Key.{Key}
-use Rattle.shelf.specs.Layout.{count, shelfAt, placeAmong, freeAmong}
-use Rattle.shelf_write.specs.Writes.{headPut}
+use Rattle.shelf.specs.Layout.{count, shelfAt}
+use Rattle.shelf.specs.Calls.{placeAmong, freeAmong}
+use Rattle.shelf_write.specs.Calls.{headPut}
 use Rattle.shelf.proofs.Numbers.{at-count, among-place, among-free}
 use Rattle.shelf_write.proofs.Lent.{head-put}
 use Rattle.shelf.specs.Record.{keyOf}

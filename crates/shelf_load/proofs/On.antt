@@ -23,7 +23,8 @@ use Rattle.berth.specs.Berth.{places, sections, storeSize}
 use Rattle.shelf.specs.Record.{Place, Shelf, keyOf, placeAt, withPlace, spoiledOf, placeOf, freeOf}
 use Rattle.shelf.specs.declared.Key.{Key}
 use Rattle.shelf.specs.Layout.{listed, takenIn, shelfIn, shelfAt}
-use Rattle.shelf_write.specs.Writes.{heldIn, headIn, emptyTable, withLength}
+use Rattle.shelf_write.specs.Writes.{heldIn, headIn}
+use Rattle.shelf_write.specs.Calls.{emptyTable, withLength}
 use Rattle.shelf.proofs.Find.{free-le}
 use Rattle.shelf.proofs.Lists.{length-listed, getD-listed}
 use Rattle.shelf.proofs.Numbers.{at-count, spoiled-count, taken-at}

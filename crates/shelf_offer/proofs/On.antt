@@ -19,8 +19,10 @@ use Rattle.section.specs.Section.{headerOf}
 use Rattle.section.specs.declared.Header.{Header}
 use Rattle.shelf.specs.Record.{Place, Shelf, keyOf, placeAt, withPlace, holds, spoiledOf, placeOf, freeOf}
 use Rattle.shelf.specs.declared.Key.{Key}
-use Rattle.shelf.specs.Layout.{takenIn, tableIn, shelfIn, shelfAt, placeAmong, freeAmong, maskAmong}
-use Rattle.shelf_write.specs.Writes.{heldIn, headIn, heldPut, headPut}
+use Rattle.shelf.specs.Layout.{takenIn, tableIn, shelfIn, shelfAt}
+use Rattle.shelf.specs.Calls.{placeAmong, freeAmong, maskAmong}
+use Rattle.shelf_write.specs.Writes.{heldIn, headIn}
+use Rattle.shelf_write.specs.Calls.{heldPut, headPut}
 use Rattle.shelf.proofs.Numbers.{at-count, spoiled-count, taken-at, table-at, held-at, among-place, among-free, among-mask}
 use Rattle.shelf.proofs.Find.{place-taken}
 use Rattle.shelf_write.proofs.Lent as lent

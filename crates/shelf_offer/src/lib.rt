@@ -9,7 +9,7 @@ ghost use Rattle.berth.specs.Berth.{berthSize, places, sections, storeSize};
 ghost use Rattle.berth.specs.Calls.{putIn};
 ghost use Rattle.shelf.specs.Record.{placeAt, spoiledOf};
 ghost use Rattle.shelf.specs.Layout.{count, takenIn, shelfIn, shelfAt};
-ghost use Rattle.shelf_write.specs.Writes.{heldPut};
+ghost use Rattle.shelf_write.specs.Calls.{heldPut};
 ghost use Rattle.shelf_offer.specs.Steps.{heldStep, soundStep, stepOf};
 ghost use Rattle.shelf_offer.specs.On.{leaving, offerOn};
 ghost use Rattle.answers.specs.Answers.{lent};

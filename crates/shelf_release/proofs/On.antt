@@ -13,7 +13,8 @@ use Rattle.berth.proofs.Steps.{is-place, wiped-where}
 use Rattle.shelf.specs.Record.{placeOf}
 use Rattle.shelf.specs.declared.Key.{Key}
 use Rattle.shelf.specs.Layout.{shelfAt}
-use Rattle.shelf_write.specs.Writes.{freedIn, freedPut}
+use Rattle.shelf_write.specs.Writes.{freedIn}
+use Rattle.shelf_write.specs.Calls.{freedPut}
 use Rattle.shelf.proofs.Numbers.{spoiled-count}
 use Rattle.shelf_write.proofs.Lent.{freed-put, freed-lent}
 use Rattle.shelf_ask.specs.Ask.{holdingOf}

@@ -12,7 +12,8 @@ use borrow.Author.Tests.{eq-eqb, lt-ltb}
 use Rattle.shelf.specs.Record.{Place, Shelf, noPlace, freePlace, fresh, placeAt, withPlace}
 use Rattle.shelf.specs.declared.Key.{Key}
 use Rattle.shelf.specs.Layout.{takenIn, placeIn, shelfIn, shelfAt}
-use Rattle.shelf_write.specs.Writes.{heldIn, freedIn, headIn, freshWords, emptyTable, withLength, heldPut, headPut, freedPut, freshPut}
+use Rattle.shelf_write.specs.Writes.{heldIn, freedIn, headIn, freshWords}
+use Rattle.shelf_write.specs.Calls.{emptyTable, withLength, heldPut, headPut, freedPut, freshPut}
 use Rattle.shelf.proofs.Numbers.{at-count, place-at}
 use Rattle.shelf_write.proofs.Writes.{held-shelf, head-shelf, head-taken, freed-shelf, fresh-shelf, held-length, row-length, fresh-length}
 

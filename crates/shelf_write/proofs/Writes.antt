@@ -21,7 +21,8 @@ use Rattle.shelf.specs.Record.{Place, freePlace, fresh, withPlace}
 use Rattle.shelf.specs.declared.Key.{Key}
 use Rattle.base.specs.Bits.{bit}
 use Rattle.shelf.specs.Layout.{heldLength, listed, lengthsIn, tableIn, takenIn, placeIn, shelfIn}
-use Rattle.shelf_write.specs.Writes.{heldIn, rowIn, freedIn, headIn, headPut, freshNumber, freshWords, emptyTable, withLength}
+use Rattle.shelf_write.specs.Writes.{heldIn, rowIn, freedIn, headIn, freshNumber, freshWords}
+use Rattle.shelf_write.specs.Calls.{headPut, emptyTable, withLength}
 use Rattle.base.proofs.Bits.{bit-set, bit-kept}
 use Rattle.shelf.proofs.Lists.{length-listed, getD-listed, listed-same}
 

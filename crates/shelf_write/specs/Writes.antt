@@ -1,15 +1,12 @@
 -- What the shelf's calls write into a record's numbers.
 use Prim.Native.Nat.{ℕ, _+_, _-_, _*_, _/_, _%_, _^_}
 use mathlib.Core.List.{List}
-use mathlib.Core.Bool.{true}
 use lib.Bits.{bitOr}
 use lib.Dec.{eqb, ltb}
-use lib.ListN.{length, getD, set, replicate}
+use lib.ListN.{getD, set}
 use Rattle.base.specs.Choice.{if_then_else_}
-use Rattle.berth.specs.Berth.{sections}
 use Rattle.shelf.specs.declared.Key.{Key}
-use Rattle.shelf.specs.Record.{Place}
-use Rattle.shelf.specs.Layout.{heads, masks, count, atLength, atTable, atExtension, atVersion, atLast, atMask, listed, hasPlace, hasSection}
+use Rattle.shelf.specs.Layout.{heads, masks, count, atLength, atTable, atExtension, atVersion, atLast, atMask, listed}
 
 -- section n of place p is held, with that length
 unfoldable pub heldIn : List ℕ → ℕ → ℕ → ℕ → List ℕ
@@ -34,32 +31,3 @@ freshNumber k = if ltb k heads then 8 else if ltb k masks then (if eqb (k % 4) 0
 
 unfoldable pub freshWords : List ℕ
 freshWords = listed count freshNumber
-
--- a table that holds nothing yet
-abbrev pub emptyTable : Key → ℕ → ℕ → Place
-emptyTable key version last =
-    record { taken = true; key = key; version = version; last = last; lengths = replicate sections 0 }
-
--- a table with another length of section n
-abbrev pub withLength : Place → ℕ → ℕ → Place
-withLength place n size =
-    record {
-      taken = place .taken;
-      key = place .key;
-      version = place .version;
-      last = place .last;
-      lengths = set (place .lengths) n size;
-    }
-
--- what is written in lent numbers: nothing where they are no record, or have no such place or section
-unfoldable pub heldPut : List ℕ → ℕ → ℕ → ℕ → List ℕ
-heldPut words p n size = if hasSection (length words) p n then heldIn words p n size else words
-
-unfoldable pub headPut : List ℕ → ℕ → Key → ℕ → ℕ → List ℕ
-headPut words p key version last = if hasPlace (length words) p then headIn words p key version last else words
-
-unfoldable pub freedPut : List ℕ → ℕ → List ℕ
-freedPut words p = if hasPlace (length words) p then freedIn words p else words
-
-unfoldable pub freshPut : List ℕ → List ℕ
-freshPut words = if eqb (length words) count then freshWords else words

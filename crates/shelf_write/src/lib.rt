@@ -14,7 +14,8 @@ ghost use lib.Bits.{bitOr};
 ghost use lib.ListN.{length};
 ghost use Rattle.berth.specs.Berth.{places, sections};
 ghost use Rattle.shelf.specs.Layout.{count};
-ghost use Rattle.shelf_write.specs.Writes.{heldIn, rowIn, heldPut, headPut, freedPut, freshPut, freshNumber};
+ghost use Rattle.shelf_write.specs.Writes.{heldIn, rowIn, freshNumber};
+ghost use Rattle.shelf_write.specs.Calls.{heldPut, headPut, freedPut, freshPut};
 
 fn half(x: u8) -> u16
     ensures { λ r. ⌜ (r ≡ x) × (r < 256) ⌝ }

@@ -1,6 +1,6 @@
 -- `shelf::last_of` meets its promise: each `return` is a case of the definition.
 use Rattle.base.proofs.Tests.{tests}
-use Rattle.shelf.specs.Layout.{lastAmong}
+use Rattle.shelf.specs.Calls.{lastAmong}
 use borrow.Author.Needs.{needs}
 use Rattle.shelf.proofs.last_of.Statement.{statement}
 use Rattle.shelf.proofs.last_of.Tie as tie

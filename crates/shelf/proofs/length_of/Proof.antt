@@ -1,6 +1,6 @@
 -- `shelf::length_of` meets its promise: each `return` is a case of the definition.
 use Rattle.base.proofs.Tests.{tests}
-use Rattle.shelf.specs.Layout.{lengthAmong}
+use Rattle.shelf.specs.Calls.{lengthAmong}
 use borrow.Author.Needs.{needs}
 use Rattle.shelf.proofs.length_of.Statement.{statement}
 use Rattle.shelf.proofs.length_of.Tie as tie

@@ -4,7 +4,7 @@ use mathlib.Core.Path.{_≡_}
 use Prim.Native.Nat.{_≤_, _-_}
 use native.Mathlib.Omega.{arith}
 use lib.ListN.{length, length-set}
-use Rattle.shelf.specs.Layout.{lengthAmong}
+use Rattle.shelf.specs.Calls.{lengthAmong}
 use Rattle.shelf.proofs.Lists.{Filled, filled-more, filled-all}
 use Rattle.shelf.proofs.lengths_of.Statement.{statement}
 use Rattle.shelf.proofs.lengths_of.Tie as tie

@@ -1,6 +1,6 @@
 -- `shelf::mask_of` meets its promise: each `return` is a case of the definition.
 use Rattle.base.proofs.Tests.{tests}
-use Rattle.shelf.specs.Layout.{maskAmong}
+use Rattle.shelf.specs.Calls.{maskAmong}
 use borrow.Author.Needs.{needs}
 use Rattle.shelf.proofs.mask_of.Statement.{statement}
 use Rattle.shelf.proofs.mask_of.Tie as tie

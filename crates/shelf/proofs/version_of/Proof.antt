@@ -1,6 +1,6 @@
 -- `shelf::version_of` meets its promise: each `return` is a case of the definition.
 use Rattle.base.proofs.Tests.{tests}
-use Rattle.shelf.specs.Layout.{versionAmong}
+use Rattle.shelf.specs.Calls.{versionAmong}
 use borrow.Author.Needs.{needs}
 use Rattle.shelf.proofs.version_of.Statement.{statement}
 use Rattle.shelf.proofs.version_of.Tie as tie

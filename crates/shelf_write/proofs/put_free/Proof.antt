@@ -1,6 +1,6 @@
 -- `shelf_write::put_free` meets its promise: nothing is written where there is no such place.
 use Rattle.base.proofs.Tests.{tests}
-use Rattle.shelf_write.specs.Writes.{freedPut}
+use Rattle.shelf_write.specs.Calls.{freedPut}
 use borrow.Author.Needs.{needs}
 use Rattle.shelf_write.proofs.put_free.Statement.{statement}
 use Rattle.shelf_write.proofs.put_free.Tie as tie

@@ -7,7 +7,8 @@ use native.Mathlib.Omega.{arith}
 use lib.ListN.{length, length-set}
 use borrow.Author.Tests.{eq-eqb}
 use Rattle.shelf.specs.Layout.{listed}
-use Rattle.shelf_write.specs.Writes.{freshNumber, freshWords, freshPut}
+use Rattle.shelf_write.specs.Writes.{freshNumber, freshWords}
+use Rattle.shelf_write.specs.Calls.{freshPut}
 use Rattle.shelf.proofs.Lists.{Filled, filled-more, filled-all}
 use Rattle.shelf_write.proofs.put_fresh.Statement.{statement}
 use Rattle.shelf_write.proofs.put_fresh.Tie as tie

@@ -1,6 +1,6 @@
 -- `shelf_write::put_head` meets its promise: nothing is written where there is no such place.
 use Rattle.base.proofs.Tests.{tests}
-use Rattle.shelf_write.specs.Writes.{headPut}
+use Rattle.shelf_write.specs.Calls.{headPut}
 use Rattle.shelf_write.proofs.Writes.{head-put-row}
 use borrow.Author.Needs.{needs}
 use Rattle.shelf_write.proofs.put_head.Statement.{statement}

@@ -1,6 +1,6 @@
 -- `shelf_write::put_held` meets its promise: nothing is written where there is no such section.
 use Rattle.base.proofs.Tests.{tests}
-use Rattle.shelf_write.specs.Writes.{heldPut}
+use Rattle.shelf_write.specs.Calls.{heldPut}
 use borrow.Author.Needs.{needs}
 use Rattle.shelf_write.proofs.put_held.Statement.{statement}
 use Rattle.shelf_write.proofs.put_held.Tie as tie
