@@ -115,3 +115,20 @@ abbrev pub ClockStateLinked : Type 0
 ClockStateLinked =
     (κs : _) (a : _) (z : _) (e : _) → clock-state.Learnt κs a z e
     → z ≡ stateCall (now (a .0)) (a .1 .0)
+
+-- so of each: the shelf's eight calls, the writer's section, the clock's five calls
+pub record Linked : Type 0 where
+  pub begin : BeginLinked
+  pub offer : OfferLinked
+  pub complete : CompleteLinked
+  pub missing : MissingLinked
+  pub copy : CopyLinked
+  pub release : ReleaseLinked
+  pub save : SaveLinked
+  pub load : LoadLinked
+  pub section : SectionLinked
+  pub clock-fresh : ClockFreshLinked
+  pub clock-offer : ClockOfferLinked
+  pub clock-move : ClockMoveLinked
+  pub clock-time : ClockTimeLinked
+  pub clock-state : ClockStateLinked
