@@ -17,7 +17,8 @@ unfoldable pub rowIn : List ℕ → ℕ → ℕ → ℕ → ℕ → ℕ → ℕ 
 rowIn words p a b c d mask =
     set (set (set (set (set words (atTable p) a) (atExtension p) b) (atVersion p) c) (atLast p) d) (atMask p) mask
 
--- place p is free: its head p, 0, 0, 0 and its mask 1 are what a check for 18 passes at once
+-- place p is free by the first number of its head; that the rest is 0, 0, 0 and the mask 1 means nothing to 18, and lets the quick pass say
+-- yes
 abbrev pub freedIn : List ℕ → ℕ → List ℕ
 freedIn words p = rowIn words p p 0 0 0 1
 
