@@ -1,24 +1,25 @@
 -- The quick pass: what it shows of each place is enough.
 --   place-sound     of a place, taken or free
 --   passed          of the record
+--   both-pass       the same of the two answers
 use mathlib.Core.Path.{_≡_, refl, sym, ap, _∙_}
-use mathlib.Core.Bool.{Bool, true, false, not, _&&_, _||_}
+use mathlib.Core.Bool.{Bool, true, false, not, _&&_}
 use mathlib.Core.List.{List}
 use Prim.Native.Nat.{ℕ, zero, suc, _+_, _*_, _/_, _%_, _^_, _<_, _≤_}
 use native.Mathlib.Nat.{zero-add}
 use native.Mathlib.Omega.{arith}
 use lib.Dec.{eqb, ltb}
 use lib.ListN.{length, getD}
-use borrow.Author.Tests.{eq-eqb, ne-eqb, eqb-true, eqb-false, le-ltb}
+use borrow.Author.Tests.{eq-eqb, ne-eqb, eqb-true, le-ltb}
 use Rattle.base.specs.Below.{some}
 use Rattle.base.proofs.Below.{some-all, some-which, some-found}
-use Rattle.base.proofs.Cases.{by, or-left, or-right}
+use Rattle.base.proofs.Cases.{by, and-left, and-right}
 use Rattle.shelf.specs.Record.{lengthAt, holds, wrongAt, alike, spoiledPlace, spoiledOf, placeAt}
 use Rattle.base.specs.Bits.{bit}
 use Rattle.shelf.specs.Layout.{tableIn, takenIn, placeIn, shelfIn}
 use Rattle.base.proofs.Bits.{none-above, one-set}
 use Rattle.shelf.proofs.Numbers.{length-in}
-use Rattle.shelf_check.specs.Fine.{FineLength, FineColumns, NoneAbove, OneHeld, keyNumber}
+use Rattle.shelf_check.specs.Fine.{FineLength, FineColumns, FineHeads, NoneAbove, OneHeld, keyNumber}
 use Rattle.shelf_check.proofs.Four.{some-four, pairs}
 
 -- sixteen lengths
@@ -100,9 +101,9 @@ no-both true false h = refl
 no-both false b h = refl
 
 -- two places whose heads begin differently
-differ : (words : List ℕ) (p q : ℕ) {m n : ℕ} → m ≡ keyNumber words p → n ≡ keyNumber words q → eqb m n ≡ false → alike (placeIn words p) (placeIn words q) ≡ false
+differ : (words : List ℕ) (p q : ℕ) → (keyNumber words p ≡ keyNumber words q → ⊥) → alike (placeIn words p) (placeIn words q) ≡ false
 unfolding alike placeIn tableIn
-differ words p q {m} {n} i j e =
+differ words p q d =
     by (takenIn words p)
     (λ s.
     by (takenIn words q)
@@ -112,11 +113,9 @@ differ words p q {m} {n} i j e =
     (eqb (getD words (64 + 4 * p) 0 % 256) (getD words (64 + 4 * q) 0 % 256))
     (eqb (getD words (65 + 4 * p) 0) (getD words (65 + 4 * q) 0))
     (λ k x.
-    eqb-false m n e
+    d
     (omega (
       arith,
-      i,
-      j,
       eqb-true (getD words (64 + 4 * p) 0 / 256) 1 s,
       eqb-true (getD words (64 + 4 * q) 0 / 256) 1 t,
       eqb-true (getD words (64 + 4 * p) 0 % 256) (getD words (64 + 4 * q) 0 % 256) k,
@@ -126,34 +125,28 @@ differ words p q {m} {n} i j e =
     (λ s. rw s)
 
 module _ (words : List ℕ) where
-  pub passed :
-      {m n o q : ℕ}
-      → ((p : ℕ) → p < 4 → NoneAbove words p)
-      → ((p : ℕ) → p < 4 → OneHeld words p)
-      → FineColumns words
-      → m ≡ keyNumber words 0
-      → n ≡ keyNumber words 1
-      → o ≡ keyNumber words 2
-      → q ≡ keyNumber words 3
-      → (eqb m n || (eqb m o || eqb n o)) || ((eqb m q || eqb n q) || eqb o q) ≡ false
-      → spoiledOf (shelfIn words) ≡ false
+  passed : FineHeads words → FineColumns words → spoiledOf (shelfIn words) ≡ false
   unfolding spoiledOf shelfIn
-  passed {m} {n} {o} {q} f h g i j k l e =
-      let x = or-left (eqb m n || (eqb m o || eqb n o)) ((eqb m q || eqb n q) || eqb o q) e in
-      let y = or-right (eqb m n || (eqb m o || eqb n o)) ((eqb m q || eqb n q) || eqb o q) e in
-      let x' = or-right (eqb m n) (eqb m o || eqb n o) x in
-      let y' = or-left (eqb m q || eqb n q) (eqb o q) y in
+  passed f g =
       rw (
         some-four (λ p. spoiledPlace (placeAt (shelfIn words) p)),
         pairs (λ p q. alike (placeAt (shelfIn words) p) (placeAt (shelfIn words) q)),
-        place-sound words 0 (f 0 (omega arith)) (h 0 (omega arith)) (g 2 (omega arith) .head) (g 3 (omega arith) .head) (λ k h. rw zero-add (g k h .first)),
-        place-sound words 1 (f 1 (omega arith)) (h 1 (omega arith)) (g 6 (omega arith) .head) (g 7 (omega arith) .head) (λ k h. g k h .second),
-        place-sound words 2 (f 2 (omega arith)) (h 2 (omega arith)) (g 10 (omega arith) .head) (g 11 (omega arith) .head) (λ k h. g k h .third),
-        place-sound words 3 (f 3 (omega arith)) (h 3 (omega arith)) (g 14 (omega arith) .head) (g 15 (omega arith) .head) (λ k h. g k h .fourth),
-        differ words 0 1 i j (or-left (eqb m n) (eqb m o || eqb n o) x),
-        differ words 0 2 i k (or-left (eqb m o) (eqb n o) x'),
-        differ words 1 2 j k (or-right (eqb m o) (eqb n o) x'),
-        differ words 0 3 i l (or-left (eqb m q) (eqb n q) y'),
-        differ words 1 3 j l (or-right (eqb m q) (eqb n q) y'),
-        differ words 2 3 k l (or-right (eqb m q || eqb n q) (eqb o q) y),
+        place-sound words 0 (f .low 0 (omega arith)) (f .held 0 (omega arith)) (g 2 (omega arith) .head) (g 3 (omega arith) .head) (λ k h. rw zero-add (g k h .first)),
+        place-sound words 1 (f .low 1 (omega arith)) (f .held 1 (omega arith)) (g 6 (omega arith) .head) (g 7 (omega arith) .head) (λ k h. g k h .second),
+        place-sound words 2 (f .low 2 (omega arith)) (f .held 2 (omega arith)) (g 10 (omega arith) .head) (g 11 (omega arith) .head) (λ k h. g k h .third),
+        place-sound words 3 (f .low 3 (omega arith)) (f .held 3 (omega arith)) (g 14 (omega arith) .head) (g 15 (omega arith) .head) (λ k h. g k h .fourth),
+        differ words 0 1 (f .apart 0 1 (omega arith) (omega arith)),
+        differ words 0 2 (f .apart 0 2 (omega arith) (omega arith)),
+        differ words 1 2 (f .apart 1 2 (omega arith) (omega arith)),
+        differ words 0 3 (f .apart 0 3 (omega arith) (omega arith)),
+        differ words 1 3 (f .apart 1 3 (omega arith) (omega arith)),
+        differ words 2 3 (f .apart 2 3 (omega arith) (omega arith)),
       )
+
+  pub both-pass :
+      {a b : Bool}
+      → (a ≡ true → FineHeads words)
+      → (b ≡ true → FineColumns words)
+      → a && b ≡ true
+      → spoiledOf (shelfIn words) ≡ false
+  both-pass {a} {b} f g e = passed (f (and-left a b e)) (g (and-right a b e))

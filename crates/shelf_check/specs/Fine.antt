@@ -4,7 +4,7 @@ use Prim.Native.Nat.{ℕ, _+_, _*_, _/_, _%_, _^_, _<_, _≤_}
 use mathlib.Core.Path.{_≡_}
 use mathlib.Core.List.{List, [], _∷_}
 use lib.ListN.{getD}
-use Rattle.berth.specs.Berth.{berthSize}
+use Rattle.berth.specs.Berth.{berthSize, places}
 use Rattle.shelf.specs.Layout.{heads, atLength, atTable, atExtension, atLast, atMask}
 
 -- the most that each number of the heads may be
@@ -41,3 +41,9 @@ pub record OneHeld (words : List ℕ) (p : ℕ) : Type 0 where
 -- the first two numbers of a head as one
 abbrev pub keyNumber : List ℕ → ℕ → ℕ
 keyNumber words p = getD words (atTable p) 0 + 65536 * getD words (atExtension p) 0
+
+-- in each place something is held and nothing above last, and no two heads begin alike
+pub record FineHeads (words : List ℕ) : Type 0 where
+  pub low : (p : ℕ) → p < places → NoneAbove words p
+  pub held : (p : ℕ) → p < places → OneHeld words p
+  pub apart : (p q : ℕ) → p < q → q < places → keyNumber words p ≡ keyNumber words q → ⊥

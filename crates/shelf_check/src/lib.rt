@@ -14,7 +14,7 @@ ghost use Rattle.berth.specs.Berth.{places, sections};
 ghost use Rattle.base.specs.Below.{some};
 ghost use Rattle.shelf.specs.Record.{wrongAt, spoiledPlace, alike, spoiledOf};
 ghost use Rattle.shelf.specs.Layout.{count, tableIn, placeIn, shelfIn, shelfAt};
-ghost use Rattle.shelf_check.specs.Fine.{FineColumns, fromLast, NoneAbove, OneHeld, keyNumber};
+ghost use Rattle.shelf_check.specs.Fine.{FineColumns, FineHeads, fromLast, NoneAbove, OneHeld, keyNumber};
 
 // 18 is for a version above 31, a last above 15, and a length outside 8 to 1,024.
 const HIGHEST_VERSION: u16 = 31;
@@ -143,14 +143,6 @@ fn is_empty(words: &[u16], p: usize) -> bool
     words[MASKS + p] == 0
 }
 
-// .. in one of the four.
-fn one_empty(words: &[u16]) -> bool
-    requires { ⌜ length (now words) ≡ count ⌝ }
-    ensures { λ r. ⌜ (r ≡ false → ((p : ℕ) → p < places → OneHeld (now (words .entry)) p)) ⌝ }
-{
-    (is_empty(words, 0) | is_empty(words, 1)) | (is_empty(words, 2) | is_empty(words, 3))
-}
-
 // The first two numbers of a head as one.
 fn key_number(words: &[u16], p: usize) -> u32
     requires { ⌜ (length (now words) ≡ count) × (p < places) ⌝ }
@@ -159,24 +151,30 @@ fn key_number(words: &[u16], p: usize) -> u32
     full(words[HEADS + HEAD * p]) + 65536 * full(words[HEADS + 1 + HEAD * p])
 }
 
-// Whether one pass shows that the record is not spoiled. Numbers of a free place may stop it, so that its no says nothing.
-fn sound(words: &[u16]) -> bool
+// Whether the heads and the masks pass: in each place something is held and nothing above last, and no two heads begin alike. One
+// chain of tests with no way out in between, which the compiler makes of conditional compares and no branches.
+fn heads_pass(words: &[u16]) -> bool
     requires { ⌜ length (now words) ≡ count ⌝ }
-    ensures { λ r. ⌜ (r ≡ true → spoiledOf (shelfIn (now (words .entry))) ≡ false) ⌝ }
+    ensures { λ r. ⌜ (r ≡ true → FineHeads (now (words .entry))) ⌝ }
 {
-    if !none_above(words) {
-        return false;
-    }
-    if one_empty(words) {
-        return false;
-    }
-    let a = key_number(words, 0);
-    let b = key_number(words, 1);
-    let c = key_number(words, 2);
-    let d = key_number(words, 3);
-    if ((a == b) | ((a == c) | (b == c))) | (((a == d) | (b == d)) | (c == d)) {
-        return false;
-    }
+    let first = key_number(words, 0);
+    let second = key_number(words, 1);
+    let third = key_number(words, 2);
+    let fourth = key_number(words, 3);
+    let masks_stop = (((!none_above(words) | is_empty(words, 0)) | is_empty(words, 1))
+        | is_empty(words, 2))
+        | is_empty(words, 3);
+    let first_keys_stop = ((masks_stop | (first == second)) | (first == third)) | (second == third);
+    let any_stops = ((first_keys_stop | (first == fourth)) | (second == fourth))
+        | (third == fourth);
+    !any_stops
+}
+
+// Whether the lengths, the versions and the lasts pass.
+fn lengths_pass(words: &[u16]) -> bool
+    requires { ⌜ length (now words) ≡ count ⌝ }
+    ensures { λ r. ⌜ (r ≡ true → FineColumns (now (words .entry))) ⌝ }
+{
     top(words) <= 1016
 }
 
@@ -278,8 +276,22 @@ pub fn is_spoiled(words: &[u16]) -> bool
     if count != WORDS {
         return in_full(numbers);
     }
-    if sound(numbers) {
+    if heads_pass(numbers) & lengths_pass(numbers) {
         return false;
     }
     in_full(numbers)
+}
+
+// Whether one pass shows that the record is not spoiled. Numbers of a free place may stop it, so that its no says nothing.
+// is_spoiled asks the two parts by itself, so that the compiler can put them into both.
+pub fn passes(words: &[u16]) -> bool
+    ensures { λ r. ⌜ (r ≡ true → spoiledOf (shelfAt (now (words .entry))) ≡ false) ⌝ }
+{
+    let count = words.len();
+    let numbers = &words[0..count];
+    if count == WORDS {
+        heads_pass(numbers) & lengths_pass(numbers)
+    } else {
+        false
+    }
 }

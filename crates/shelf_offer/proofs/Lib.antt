@@ -5,3 +5,4 @@ pub mod Equal
 pub mod On
 pub mod Unique
 pub mod Told
+pub mod Left

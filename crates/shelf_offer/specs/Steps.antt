@@ -80,3 +80,11 @@ written words size Repeats = words
 written words size (Begins p h) = begunWords words p h size
 written words size (BeginsAgain p h) = begunWords words p h size
 written words size (Adds p h) = heldIn words p (h .number) size
+
+-- the step that writes, by the case of its answer: 3 adds, 2 begins again, else it begins
+unfoldable pub stepBy : ℕ → ℕ → Header → Step
+stepBy what p h = if eqb what 3 then Adds p h else if eqb what 2 then BeginsAgain p h else Begins p h
+
+-- an answer of a record, which is refused where that is spoiled
+unfoldable pub unlessSpoiled : Bool → Offered → Offered
+unlessSpoiled spoiled answer = if spoiled then Offered.Refused 18 else answer

@@ -3,17 +3,19 @@ use section::Header;
 use section::Reading;
 ghost use mathlib.Core.Path.{_≡_};
 ghost use mathlib.Core.Bool.{true, false};
-ghost use Prim.Native.Nat.{_<_, _≤_};
+ghost use Prim.Native.Nat.{_<_, _≤_, _/_, _%_};
 ghost use lib.ListN.{length};
 ghost use Rattle.berth.specs.Berth.{berthSize, places, sections, storeSize};
 ghost use Rattle.berth.specs.Calls.{putIn};
+ghost use Rattle.section.specs.Section.{readOf};
+ghost use Rattle.section.specs.declared.Header.{Header as HeaderOf};
+ghost use Rattle.section.specs.declared.Reading.the-variants.{Sound};
 ghost use Rattle.shelf.specs.Record.{placeAt, spoiledOf};
 ghost use Rattle.shelf.specs.Layout.{count, takenIn, shelfIn, shelfAt};
 ghost use Rattle.shelf_write.specs.Calls.{heldPut};
-ghost use Rattle.shelf_offer.specs.Steps.{heldStep, soundStep, stepOf};
-ghost use Rattle.shelf_offer.specs.On.{leaving, offerOn};
+ghost use Rattle.shelf_offer.specs.Steps.{heldStep, soundStep, stepOf, stepBy, unlessSpoiled};
 ghost use Rattle.answers.specs.Answers.{lent};
-ghost use Rattle.shelf_offer.specs.Answer.{offerLent};
+ghost use Rattle.shelf_offer.specs.Answer.{offeredCode, offerLent};
 
 pub enum Offered {
     // The key was not held: the section begins the table.
@@ -49,7 +51,7 @@ fn wide16(x: u16) -> usize
     x as usize
 }
 
-// What an offer comes to, before anything is written: where the table is begun, begun again or added to, and the
+// What an offer of a sound section comes to where the record is not spoiled: where the table is begun, begun again or added to, and the
 // section's header.
 enum Step {
     Refuse(u8),
@@ -61,10 +63,10 @@ enum Step {
 
 // The step of a sound section whose key is held in place p.
 fn held_step(words: &[u16], store: &[u8], payload: &[u8], header: Header, p: usize) -> Step
-    requires { ⌜ (length (now words) ≡ count) × (length (now store) ≡ storeSize) × (spoiledOf (shelfIn (now words)) ≡ false) ⌝ }
+    requires { ⌜ (length (now words) ≡ count) × (length (now store) ≡ storeSize) ⌝ }
     requires { ⌜ (p < places) × (takenIn (now words) p ≡ true) ⌝ }
-    requires { ⌜ (header .number < sections) × (header .version < 32) × (header .last < 16) ⌝ }
-    ensures { λ r. ⌜ r ≡ heldStep (placeAt (shelfIn (now (words .entry))) p) (now (store .entry)) (now (payload .entry)) p header ⌝ }
+    requires { ⌜ (header .number < sections) × (header .version < 32) × (header .last < 16) × (length (now payload) ≤ berthSize) ⌝ }
+    ensures { λ r. ⌜ (spoiledOf (shelfIn (now (words .entry))) ≡ false → r ≡ heldStep (placeAt (shelfIn (now (words .entry))) p) (now (store .entry)) (now (payload .entry)) p header) ⌝ }
 {
     if shelf::version_of(words, p) != half(header.version) {
         return Step::BeginsAgain(p, header);
@@ -77,17 +79,20 @@ fn held_step(words: &[u16], store: &[u8], payload: &[u8], header: Header, p: usi
     if length == 0 {
         return Step::Adds(p, header);
     }
-    if berth::stands(store, p, number, length, payload) {
+    if length != payload.len() {
+        return Step::Refuse(DIFFERS);
+    }
+    if berth::stands(store, p, number, payload.len(), payload) {
         return Step::Repeats;
     }
     Step::Refuse(DIFFERS)
 }
 
-// The step of a sound section.
+// The step of a sound section: it reads all that it is lent, and writes nothing.
 fn sound_step(words: &[u16], store: &[u8], payload: &[u8], header: Header) -> Step
-    requires { ⌜ (length (now store) ≡ storeSize) × (spoiledOf (shelfAt (now words)) ≡ false) ⌝ }
-    requires { ⌜ (header .number < sections) × (header .version < 32) × (header .last < 16) ⌝ }
-    ensures { λ r. ⌜ r ≡ soundStep (shelfAt (now (words .entry))) (now (store .entry)) (now (payload .entry)) header ⌝ }
+    requires { ⌜ (length (now words) ≡ count) × (length (now store) ≡ storeSize) ⌝ }
+    requires { ⌜ (header .number < sections) × (header .version < 32) × (header .last < 16) × (length (now payload) ≤ berthSize) ⌝ }
+    ensures { λ r. ⌜ (spoiledOf (shelfAt (now (words .entry))) ≡ false → r ≡ soundStep (shelfAt (now (words .entry))) (now (store .entry)) (now (payload .entry)) header) ⌝ }
 {
     let p = shelf::place_of(words, shelf::key_of(header));
     if p < berth::PLACES {
@@ -98,23 +103,6 @@ fn sound_step(words: &[u16], store: &[u8], payload: &[u8], header: Header) -> St
         return Step::Begins(free, header);
     }
     Step::Refuse(NO_FREE_PLACE)
-}
-
-// The step of a payload: it reads all that it is lent, and writes nothing.
-fn step_of(words: &[u16], store: &[u8], payload: &[u8]) -> Step
-    ensures { λ r. ⌜ r ≡ stepOf (shelfAt (now (words .entry))) (now (store .entry)) (now (payload .entry)) ⌝ }
-{
-    if store.len() != berth::STORE {
-        return Step::Refuse(shelf::STORE_SIZE);
-    }
-    if shelf_check::is_spoiled(words) {
-        return Step::Refuse(shelf::SHELF_SPOILED);
-    }
-    let reading = section::read(payload);
-    match reading {
-        Reading::Sound(header) => sound_step(words, store, payload, header),
-        Reading::Refused(number) => Step::Refuse(number),
-    }
 }
 
 // Says in the numbers that a section is held, and stores it. The numbers come first: the next call reads them by wide loads, which wait
@@ -129,52 +117,160 @@ fn add(words: &mut [u16], store: &mut [u8], payload: &[u8], p: usize, n: usize)
     berth::put(store, p, n, payload);
 }
 
-// Offers a payload to the record that the numbers are. A refused call and a repeat leave numbers and store as they were; the
-// refusals are 17, 18, then 1 to 10.
-pub fn offer(words: &mut [u16], store: &mut [u8], payload: &[u8]) -> Offered
-    ensures { λ r. ⌜ leaving r (now (words .exit)) (now (store .exit)) ≡ offerOn (now (words .entry)) (now (store .entry)) (now (payload .entry)) ⌝ }
-{
-    let step = step_of(words, store, payload);
-    match step {
-        Step::Repeats => Offered::Repeat,
-        Step::Refuse(refusal) => Offered::Refused(refusal),
-        Step::Adds(p, header) => {
-            add(words, store, payload, p, wide8(header.number));
-            Offered::Added
-        }
-        Step::Begins(p, header) => {
-            shelf_write::put_head(words, p, shelf::key_of(header), header.version, header.last);
-            add(words, store, payload, p, wide8(header.number));
-            Offered::Began
-        }
-        Step::BeginsAgain(p, header) => {
-            berth::wipe_where(store, p, shelf::mask_of(words, p));
-            shelf_write::put_head(words, p, shelf::key_of(header), header.version, header.last);
-            add(words, store, payload, p, wide8(header.number));
-            Offered::BeganAgain
-        }
-    }
-}
+// The cases of an accepted offer.
+const BEGINS: u16 = 1;
+
+const BEGINS_AGAIN: u16 = 2;
+
+const ADDS: u16 = 3;
 
 // The answers as numbers: the case from bit 8 up.
-const BEGAN: u16 = 256;
+const BEGAN: u16 = 256 * BEGINS;
 
-const BEGAN_AGAIN: u16 = 512;
+const BEGAN_AGAIN: u16 = 256 * BEGINS_AGAIN;
 
-const ADDED: u16 = 768;
+const ADDED: u16 = 256 * ADDS;
 
 const REPEAT: u16 = 1024;
 
-// Offers a payload, and answers in a number whose low 8 bits are the refusal.
-pub fn offer_code(words: &mut [u16], store: &mut [u8], payload: &[u8]) -> u16
-    ensures { λ r. ⌜ lent r (now (words .exit)) (now (store .exit)) ≡ offerLent (now (words .entry)) (now (store .entry)) (now (payload .entry)) ⌝ }
+// An answer in a number whose low 8 bits are the refusal.
+fn code_of(answer: Offered) -> u16
+    ensures { λ r. ⌜ r ≡ offeredCode answer ⌝ }
 {
-    let answer = offer(words, store, payload);
     match answer {
         Offered::Repeat => REPEAT,
         Offered::Added => ADDED,
         Offered::Began => BEGAN,
         Offered::BeganAgain => BEGAN_AGAIN,
         Offered::Refused(n) => answers::wide(n),
+    }
+}
+
+// Whether the record is spoiled, which one that has passed is not.
+fn spoiled(words: &[u16], passed: bool) -> bool
+    requires { ⌜ (passed ≡ true → spoiledOf (shelfAt (now words)) ≡ false) ⌝ }
+    ensures { λ r. ⌜ r ≡ spoiledOf (shelfAt (now (words .entry))) ⌝ }
+{
+    if passed {
+        return false;
+    }
+    shelf_check::is_spoiled(words)
+}
+
+// The answer of an offer that writes nothing.
+fn settle(words: &[u16], passed: bool, answer: Offered) -> u16
+    requires { ⌜ (passed ≡ true → spoiledOf (shelfAt (now words)) ≡ false) ⌝ }
+    ensures { λ r. ⌜ r ≡ offeredCode (unlessSpoiled (spoiledOf (shelfAt (now (words .entry)))) answer) ⌝ }
+{
+    if spoiled(words, passed) {
+        return code_of(Offered::Refused(shelf::SHELF_SPOILED));
+    }
+    code_of(answer)
+}
+
+// Writes what a step says, to a record that is not spoiled.
+fn write(
+    words: &mut [u16],
+    store: &mut [u8],
+    payload: &[u8],
+    header: Header,
+    p: usize,
+    what: u16,
+) -> u16
+    requires { ⌜ (length (now store) ≡ storeSize) × (spoiledOf (shelfAt (now words)) ≡ false) ⌝ }
+    requires { ⌜ (length (now payload) ≤ berthSize) × (stepOf (shelfAt (now words)) (now store) (now payload) ≡ stepBy what p header) ⌝ }
+    ensures { λ r. ⌜ lent r (now (words .exit)) (now (store .exit)) ≡ offerLent (now (words .entry)) (now (store .entry)) (now (payload .entry)) ⌝ }
+{
+    if what == ADDS {
+        add(words, store, payload, p, wide8(header.number));
+        return code_of(Offered::Added);
+    }
+    if what == BEGINS_AGAIN {
+        berth::wipe_where(store, p, shelf::mask_of(words, p));
+        shelf_write::put_head(words, p, shelf::key_of(header), header.version, header.last);
+        add(words, store, payload, p, wide8(header.number));
+        return code_of(Offered::BeganAgain);
+    }
+    shelf_write::put_head(words, p, shelf::key_of(header), header.version, header.last);
+    add(words, store, payload, p, wide8(header.number));
+    code_of(Offered::Began)
+}
+
+// What is not a repeat, whole: `what` has the case of the answer from bit 8 up, and 1 in its low bits where the record has yet to be asked.
+fn carried(words: &mut [u16], store: &mut [u8], payload: &[u8], p: usize, what: u16) -> u16
+    requires { ⌜ length (now store) ≡ storeSize ⌝ }
+    requires { ⌜ (what % 256 ≡ 0 → spoiledOf (shelfAt (now words)) ≡ false) ⌝ }
+    requires { ⌜ ((h : HeaderOf) → readOf (now payload) ≡ Sound h → spoiledOf (shelfAt (now words)) ≡ false → stepOf (shelfAt (now words)) (now store) (now payload) ≡ stepBy (what / 256) p h) ⌝ }
+    ensures { λ r. ⌜ lent r (now (words .exit)) (now (store .exit)) ≡ offerLent (now (words .entry)) (now (store .entry)) (now (payload .entry)) ⌝ }
+{
+    if spoiled(words, what % 256 == 0) {
+        return code_of(Offered::Refused(shelf::SHELF_SPOILED));
+    }
+    let reading = section::read(payload);
+    match reading {
+        Reading::Sound(header) => write(words, store, payload, header, p, what / 256),
+        Reading::Refused(number) => code_of(Offered::Refused(number)),
+    }
+}
+
+// The same, apart from a repeat, which nine offers in ten are and which needs no frame. The payload is taken apart at once and its header is
+// read again, so that all comes in registers.
+fn carry_out(words: &mut [u16], store: &mut [u8], payload: &[u8], p: usize, what: u16) -> u16
+    requires { ⌜ length (now store) ≡ storeSize ⌝ }
+    requires { ⌜ (what % 256 ≡ 0 → spoiledOf (shelfAt (now words)) ≡ false) ⌝ }
+    requires { ⌜ ((h : HeaderOf) → readOf (now payload) ≡ Sound h → spoiledOf (shelfAt (now words)) ≡ false → stepOf (shelfAt (now words)) (now store) (now payload) ≡ stepBy (what / 256) p h) ⌝ }
+    ensures { λ r. ⌜ lent r (now (words .exit)) (now (store .exit)) ≡ offerLent (now (words .entry)) (now (store .entry)) (now (payload .entry)) ⌝ }
+{
+    let size = payload.len();
+    let section = &payload[0..size];
+    carried(words, store, section, p, what)
+}
+
+// The low bits of `what`.
+fn asks(passed: bool) -> u16
+    ensures { λ r. ⌜ (r ≤ 1) × (r ≡ 0 → passed ≡ true) ⌝ }
+{
+    if passed { 0 } else { 1 }
+}
+
+// Offers a sound section.
+fn offer_sound(
+    words: &mut [u16],
+    store: &mut [u8],
+    payload: &[u8],
+    header: Header,
+    passed: bool,
+) -> u16
+    requires { ⌜ (length (now words) ≡ count) × (length (now store) ≡ storeSize) × (readOf (now payload) ≡ Sound header) ⌝ }
+    requires { ⌜ (passed ≡ true → spoiledOf (shelfAt (now words)) ≡ false) ⌝ }
+    ensures { λ r. ⌜ lent r (now (words .exit)) (now (store .exit)) ≡ offerLent (now (words .entry)) (now (store .entry)) (now (payload .entry)) ⌝ }
+{
+    let step = sound_step(words, store, payload, header);
+    match step {
+        Step::Repeats => settle(words, passed, Offered::Repeat),
+        Step::Refuse(number) => settle(words, passed, Offered::Refused(number)),
+        Step::Adds(p, _) => carry_out(words, store, payload, p, ADDED + asks(passed)),
+        Step::Begins(p, _) => carry_out(words, store, payload, p, BEGAN + asks(passed)),
+        Step::BeginsAgain(p, _) => carry_out(words, store, payload, p, BEGAN_AGAIN + asks(passed)),
+    }
+}
+
+// Offers a payload to the record that the numbers are, and answers in a number whose low 8 bits are the refusal. A refused call and a
+// repeat leave numbers and store as they were; the refusals are 17, 18, then 1 to 10. What the offer comes to is found before the record is
+// asked in full, which only one that has not passed is.
+pub fn offer_code(words: &mut [u16], store: &mut [u8], payload: &[u8]) -> u16
+    ensures { λ r. ⌜ lent r (now (words .exit)) (now (store .exit)) ≡ offerLent (now (words .entry)) (now (store .entry)) (now (payload .entry)) ⌝ }
+{
+    if store.len() != berth::STORE {
+        return code_of(Offered::Refused(shelf::STORE_SIZE));
+    }
+    if words.len() != shelf::WORDS {
+        return code_of(Offered::Refused(shelf::SHELF_SPOILED));
+    }
+    let passed = shelf_check::passes(words);
+    let reading = section::read(payload);
+    match reading {
+        Reading::Sound(header) => offer_sound(words, store, payload, header, passed),
+        Reading::Refused(_) => carry_out(words, store, payload, 0, asks(passed)),
     }
 }

@@ -6,7 +6,7 @@ use Rattle.shelf.specs.Record.{placeAt, lengthAt}
 use Rattle.shelf.specs.Layout.{shelfIn}
 use Rattle.shelf.proofs.Numbers.{taken-at, version-same, version-other, last-same, last-other, length-same}
 use Rattle.shelf.proofs.Words.{sound-place}
-use Rattle.shelf_offer.proofs.Stands.{stood}
+use Rattle.shelf_offer.proofs.Stands.{stood, other-length}
 use Rattle.shelf_offer.proofs.Steps.{held-again, held-last, held-adds, held-repeats, held-differs}
 use borrow.Author.Needs.{needs}
 use Rattle.shelf_offer.proofs.held_step.Statement.{statement}
@@ -29,6 +29,7 @@ half-requires c κs = search needs
 
 returns : tie.Need-returns
 returns c =
+    λ s.
     let a = c .before .before .before .before .before .before .args in
     held-again _ _ _ _ _ (version-other (now (a .words)) (a .p) (search needs) (search needs) (search needs) (c .before .half .ensures) (c .before .before .version-of .ensures) (c .if1 .taken))
 
@@ -40,6 +41,7 @@ half-requires-2 c κs = search needs
 
 returns-2 : tie.Need-returns-2
 returns-2 c =
+    λ s.
     let a = c .before .before .before .before .before .before .before .before .before .args in
     held-last _ _ _ _ _ (version-same (now (a .words)) (a .p) (search needs) (search needs) (search needs) (c .before .before .before .before .half .ensures) (c .before .before .before .before .before .version-of .ensures) (c .before .before .before .if1 .left)) (last-other (now (a .words)) (a .p) (search needs) (search needs) (search needs) (c .before .half2 .ensures) (c .before .before .last-of .ensures) (c .if2 .taken))
 
@@ -54,26 +56,38 @@ wide16-requires c κs = search needs
 
 returns-3 : tie.Need-returns-3
 returns-3 c =
+    λ s.
     let a = c .before .before .before .before .before .before .before .before .before .before .before .before .before .args in
     let n : c .before .wide16 .result ≡ lengthAt (placeAt (shelfIn (now (a .words))) (a .p)) (a .header .number) = c .before .wide16 .ensures ∙ length-same (now (a .words)) (a .p) (search needs) (search needs) (search needs) (a .header .number) (search needs) (c .before .before .before .wide8 .ensures) (c .before .before .length-of .ensures) in
     held-adds _ _ _ _ _ (version-same (now (a .words)) (a .p) (search needs) (search needs) (search needs) (c .before .before .before .before .before .before .before .before .half .ensures) (c .before .before .before .before .before .before .before .before .before .version-of .ensures) (c .before .before .before .before .before .before .before .if1 .left)) (last-same (now (a .words)) (a .p) (search needs) (search needs) (search needs) (c .before .before .before .before .before .half2 .ensures) (c .before .before .before .before .before .before .last-of .ensures) (c .before .before .before .before .if2 .left)) (sym n ∙ c .if3 .taken)
 
+-- a held length that is not the payload's
+returns-4 : tie.Need-returns-4
+returns-4 c =
+    λ s.
+    let a = c .before .before .before .before .before .before .before .before .before .before .before .before .before .before .args in
+    let n : c .before .before .wide16 .result ≡ lengthAt (placeAt (shelfIn (now (a .words))) (a .p)) (a .header .number) = c .before .before .wide16 .ensures ∙ length-same (now (a .words)) (a .p) (search needs) (search needs) (search needs) (a .header .number) (search needs) (c .before .before .before .before .wide8 .ensures) (c .before .before .before .length-of .ensures) in
+    held-differs _ _ _ _ _ (version-same (now (a .words)) (a .p) (search needs) (search needs) (search needs) (c .before .before .before .before .before .before .before .before .before .half .ensures) (c .before .before .before .before .before .before .before .before .before .before .version-of .ensures) (c .before .before .before .before .before .before .before .before .if1 .left)) (last-same (now (a .words)) (a .p) (search needs) (search needs) (search needs) (c .before .before .before .before .before .before .half2 .ensures) (c .before .before .before .before .before .before .before .last-of .ensures) (c .before .before .before .before .before .if2 .left)) (λ z. c .before .if3 .left (n ∙ z))
+    (other-length (now (a .store)) (a .p) (search needs) (search needs) (a .header .number) (search needs) _ _ (sound-place (shelfIn (now (a .words))) s (a .p) (search needs) (taken-at (now (a .words)) (a .p) (search needs) ∙ search needs) .most (a .header .number) (search needs)) (λ z. c .if4 .taken (n ∙ z)))
+
 stands-requires : tie.Need-stands-requires
 stands-requires c κs = search needs
 
-returns-4 : tie.Need-returns-4
-returns-4 c =
-    let a = c .before .before .before .before .before .before .before .before .before .before .before .before .before .before .before .args in
-    let n : c .before .before .before .wide16 .result ≡ lengthAt (placeAt (shelfIn (now (a .words))) (a .p)) (a .header .number) = c .before .before .before .wide16 .ensures ∙ length-same (now (a .words)) (a .p) (search needs) (search needs) (search needs) (a .header .number) (search needs) (c .before .before .before .before .before .wide8 .ensures) (c .before .before .before .before .length-of .ensures) in
-    held-repeats _ _ _ _ _ (version-same (now (a .words)) (a .p) (search needs) (search needs) (search needs) (c .before .before .before .before .before .before .before .before .before .before .half .ensures) (c .before .before .before .before .before .before .before .before .before .before .before .version-of .ensures) (c .before .before .before .before .before .before .before .before .before .if1 .left)) (last-same (now (a .words)) (a .p) (search needs) (search needs) (search needs) (c .before .before .before .before .before .before .before .half2 .ensures) (c .before .before .before .before .before .before .before .before .last-of .ensures) (c .before .before .before .before .before .before .if2 .left)) (λ z. c .before .before .if3 .left (n ∙ z))
-    (stood (now (a .store)) (a .p) (search needs) (search needs) (a .header .number) (search needs) _ _ (sound-place (shelfIn (now (a .words))) (search needs) (a .p) (search needs) (taken-at (now (a .words)) (a .p) (search needs) ∙ search needs) .most (a .header .number) (search needs)) (c .before .before .before .before .before .wide8 .ensures) n (c .before .stands .ensures) (c .if4 .taken))
-
 returns-5 : tie.Need-returns-5
 returns-5 c =
-    let a = c .before .before .before .before .before .before .before .before .before .before .before .before .before .before .before .args in
-    let n : c .before .before .before .wide16 .result ≡ lengthAt (placeAt (shelfIn (now (a .words))) (a .p)) (a .header .number) = c .before .before .before .wide16 .ensures ∙ length-same (now (a .words)) (a .p) (search needs) (search needs) (search needs) (a .header .number) (search needs) (c .before .before .before .before .before .wide8 .ensures) (c .before .before .before .before .length-of .ensures) in
-    held-differs _ _ _ _ _ (version-same (now (a .words)) (a .p) (search needs) (search needs) (search needs) (c .before .before .before .before .before .before .before .before .before .before .half .ensures) (c .before .before .before .before .before .before .before .before .before .before .before .version-of .ensures) (c .before .before .before .before .before .before .before .before .before .if1 .left)) (last-same (now (a .words)) (a .p) (search needs) (search needs) (search needs) (c .before .before .before .before .before .before .before .half2 .ensures) (c .before .before .before .before .before .before .before .before .last-of .ensures) (c .before .before .before .before .before .before .if2 .left)) (λ z. c .before .before .if3 .left (n ∙ z))
-    (stood (now (a .store)) (a .p) (search needs) (search needs) (a .header .number) (search needs) _ _ (sound-place (shelfIn (now (a .words))) (search needs) (a .p) (search needs) (taken-at (now (a .words)) (a .p) (search needs) ∙ search needs) .most (a .header .number) (search needs)) (c .before .before .before .before .before .wide8 .ensures) n (c .before .stands .ensures) (c .if4 .left))
+    λ s.
+    let a = c .before .before .before .before .before .before .before .before .before .before .before .before .before .before .before .before .args in
+    let n : c .before .before .before .before .wide16 .result ≡ lengthAt (placeAt (shelfIn (now (a .words))) (a .p)) (a .header .number) = c .before .before .before .before .wide16 .ensures ∙ length-same (now (a .words)) (a .p) (search needs) (search needs) (search needs) (a .header .number) (search needs) (c .before .before .before .before .before .before .wide8 .ensures) (c .before .before .before .before .before .length-of .ensures) in
+    held-repeats _ _ _ _ _ (version-same (now (a .words)) (a .p) (search needs) (search needs) (search needs) (c .before .before .before .before .before .before .before .before .before .before .before .half .ensures) (c .before .before .before .before .before .before .before .before .before .before .before .before .version-of .ensures) (c .before .before .before .before .before .before .before .before .before .before .if1 .left)) (last-same (now (a .words)) (a .p) (search needs) (search needs) (search needs) (c .before .before .before .before .before .before .before .before .half2 .ensures) (c .before .before .before .before .before .before .before .before .before .last-of .ensures) (c .before .before .before .before .before .before .before .if2 .left)) (λ z. c .before .before .before .if3 .left (n ∙ z))
+    (stood (now (a .store)) (a .p) (search needs) (search needs) (a .header .number) (search needs) _ _ (sound-place (shelfIn (now (a .words))) s (a .p) (search needs) (taken-at (now (a .words)) (a .p) (search needs) ∙ search needs) .most (a .header .number) (search needs)) (c .before .before .before .before .before .before .wide8 .ensures) (sym (c .before .before .if4 .left) ∙ n) (c .before .stands .ensures) (c .if5 .taken))
+
+returns-6 : tie.Need-returns-6
+returns-6 c =
+    λ s.
+    let a = c .before .before .before .before .before .before .before .before .before .before .before .before .before .before .before .before .args in
+    let n : c .before .before .before .before .wide16 .result ≡ lengthAt (placeAt (shelfIn (now (a .words))) (a .p)) (a .header .number) = c .before .before .before .before .wide16 .ensures ∙ length-same (now (a .words)) (a .p) (search needs) (search needs) (search needs) (a .header .number) (search needs) (c .before .before .before .before .before .before .wide8 .ensures) (c .before .before .before .before .before .length-of .ensures) in
+    held-differs _ _ _ _ _ (version-same (now (a .words)) (a .p) (search needs) (search needs) (search needs) (c .before .before .before .before .before .before .before .before .before .before .before .half .ensures) (c .before .before .before .before .before .before .before .before .before .before .before .before .version-of .ensures) (c .before .before .before .before .before .before .before .before .before .before .if1 .left)) (last-same (now (a .words)) (a .p) (search needs) (search needs) (search needs) (c .before .before .before .before .before .before .before .before .half2 .ensures) (c .before .before .before .before .before .before .before .before .before .last-of .ensures) (c .before .before .before .before .before .before .before .if2 .left)) (λ z. c .before .before .before .if3 .left (n ∙ z))
+    (stood (now (a .store)) (a .p) (search needs) (search needs) (a .header .number) (search needs) _ _ (sound-place (shelfIn (now (a .words))) s (a .p) (search needs) (taken-at (now (a .words)) (a .p) (search needs) ∙ search needs) .most (a .header .number) (search needs)) (c .before .before .before .before .before .before .wide8 .ensures) (sym (c .before .before .if4 .left) ∙ n) (c .before .stands .ensures) (c .if5 .left))
 
 pub held-step-spec : {M : Type 1} → statement M
 held-step-spec =
@@ -89,6 +103,7 @@ held-step-spec =
     length-of-requires
     wide16-requires
     returns-3
-    stands-requires
     returns-4
-    returns-5)
+    stands-requires
+    returns-5
+    returns-6)

@@ -3,7 +3,7 @@ use mathlib.Core.Path.{_≡_, sym, ap, _∙_}
 use denote.Ref.{now}
 use lib.ListN.{length}
 use Rattle.shelf.specs.Record.{spoiledOf}
-use Rattle.shelf.proofs.Numbers.{spoiled-count, at-count}
+use Rattle.shelf.proofs.Numbers.{at-count}
 use Rattle.shelf_offer.proofs.On.{placed, place-found, free-found}
 use Rattle.shelf_offer.proofs.Steps.{sound-held, sound-begins, sound-full}
 use borrow.Author.Needs.{needs}
@@ -25,28 +25,31 @@ place-of-requires c κs = search needs
 held-step-requires : tie.Need-held-step-requires
 held-step-requires c κs =
     let a = c .before .before .before .before .before .before .args in
-    let n : length (now (a .words)) ≡ 84 = spoiled-count (now (a .words)) (search needs) in
-    ((n, search needs, ap spoiledOf (sym (at-count _ n)) ∙ search needs), ((search needs, placed (now (a .words)) n (a .header) (c .before .before .key-of .ensures) (c .before .place-of .ensures .0) (search needs)), (search needs, search needs, search needs)))
+    let n : length (now (a .words)) ≡ 84 = search needs in
+    ((n, search needs), ((search needs, placed (now (a .words)) n (a .header) (c .before .before .key-of .ensures) (c .before .place-of .ensures .0) (search needs)), (search needs, search needs, search needs, search needs)))
 
 returns : tie.Need-returns
 returns c =
+    λ s.
     let a = c .before .before .before .before .before .before .before .args in
-    let n : length (now (a .words)) ≡ 84 = spoiled-count (now (a .words)) (search needs) in
-    sound-held _ _ _ _ (place-found (now (a .words)) n (a .header) (c .before .before .before .key-of .ensures) (c .before .before .place-of .ensures .0)) (search needs) (rw (at-count (now (a .words)) n) (c .held-step .ensures))
+    let n : length (now (a .words)) ≡ 84 = search needs in
+    sound-held _ _ _ _ (place-found (now (a .words)) n (a .header) (c .before .before .before .key-of .ensures) (c .before .before .place-of .ensures .0)) (search needs) (rw (at-count (now (a .words)) n) (c .held-step .ensures (ap spoiledOf (sym (at-count (now (a .words)) n)) ∙ s)))
 
 free-of-requires : tie.Need-free-of-requires
 free-of-requires c κs = search needs
 
 returns-2 : tie.Need-returns-2
 returns-2 c =
+    λ s.
     let a = c .before .before .before .before .before .before .before .before .args in
-    let n : length (now (a .words)) ≡ 84 = spoiled-count (now (a .words)) (search needs) in
+    let n : length (now (a .words)) ≡ 84 = search needs in
     sound-begins _ _ _ _ (place-found (now (a .words)) n (a .header) (c .before .before .before .before .key-of .ensures) (c .before .before .before .place-of .ensures .0)) (search needs) (search needs) (free-found (now (a .words)) n (c .before .free-of .ensures .0)) (search needs)
 
 returns-3 : tie.Need-returns-3
 returns-3 c =
+    λ s.
     let a = c .before .before .before .before .before .before .before .before .args in
-    let n : length (now (a .words)) ≡ 84 = spoiled-count (now (a .words)) (search needs) in
+    let n : length (now (a .words)) ≡ 84 = search needs in
     sound-full _ _ _ _ (place-found (now (a .words)) n (a .header) (c .before .before .before .before .key-of .ensures) (c .before .before .before .place-of .ensures .0)) (search needs) (search needs) (free-found (now (a .words)) n (c .before .free-of .ensures .0)) (search needs) (search needs)
 
 pub sound-step-spec : {M : Type 1} → statement M
