@@ -99,12 +99,14 @@ pub fn offer(record: &mut [u16], store: &mut [u8], payload: &[u8]) -> Result<Acc
             payload.len(),
         )
     };
-    answered(word.into()).map(|did| match did {
-        1 => Accepted::Began,
-        2 => Accepted::BeganAgain,
-        3 => Accepted::Added,
-        _ => Accepted::Repeat,
-    })
+    // The four accepted answers first: the compiler then needs no branch for a repeat.
+    match word {
+        1024 => Ok(Accepted::Repeat),
+        256 => Ok(Accepted::Began),
+        512 => Ok(Accepted::BeganAgain),
+        768 => Ok(Accepted::Added),
+        refused => Err(Refusal::of(refused as u8)),
+    }
 }
 
 /// Whether every section of a table, from 0 to its last, is held. Refused: 17, 18, 14.
