@@ -5,7 +5,7 @@
 use mathlib.Core.Path.{_≡_, refl, sym, ap, _∙_}
 use mathlib.Core.List.{List}
 use mathlib.Core.Bool.{Bool, true, false}
-use Prim.Native.Nat.{ℕ, _-_}
+use Prim.Native.Nat.{ℕ, _-_, _/_, _%_}
 use native.Mathlib.Omega.{arith}
 use lib.Dec.{eqb}
 use lib.ListN.{length}
@@ -66,6 +66,13 @@ by-again what p h e = rw (ne-eqb what 3 (λ z. omega (arith, e, z)), eq-eqb what
 by-begins : (what p : ℕ) (h : Header) → (what ≡ 3 → ⊥) → (what ≡ 2 → ⊥) → stepBy what p h ≡ Begins p h
 unfolding stepBy
 by-begins what p h d e = rw (ne-eqb what 3 d, ne-eqb what 2 e)
+
+-- the number of a section that is added
+pub numbered : (payload : List ℕ) (what : ℕ) (header : Header) → readOf payload ≡ reading.Sound header → what / 2 % 16 ≡ header .number → what / 256 ≡ 3
+    → (readOf payload ≡ reading.Sound (headerOf payload)) × (what / 2 % 16 ≡ headerOf payload .number)
+numbered payload what header e q i =
+    let h = sound-facts payload header e .header in
+    (e ∙ ap reading.Sound h, q ∙ ap (λ x. x .number) h)
 
 module _ (words store payload : List ℕ) where
   abbrev shelf : Shelf

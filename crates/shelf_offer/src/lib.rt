@@ -7,7 +7,7 @@ ghost use Prim.Native.Nat.{_<_, _≤_, _/_, _%_};
 ghost use lib.ListN.{length};
 ghost use Rattle.berth.specs.Berth.{berthSize, places, sections, storeSize};
 ghost use Rattle.berth.specs.Calls.{putIn};
-ghost use Rattle.section.specs.Section.{readOf};
+ghost use Rattle.section.specs.Section.{readOf, headerOf};
 ghost use Rattle.section.specs.declared.Header.{Header as HeaderOf};
 ghost use Rattle.section.specs.declared.Reading.the-variants.{Sound};
 ghost use Rattle.shelf.specs.Record.{placeAt, spoiledOf};
@@ -168,8 +168,8 @@ fn settle(words: &[u16], passed: bool, answer: Offered) -> u16
     code_of(answer)
 }
 
-// Writes what a step says, to a record that is not spoiled.
-fn write(
+// Begins a table in a record that is not spoiled, or begins it again.
+fn begin(
     words: &mut [u16],
     store: &mut [u8],
     payload: &[u8],
@@ -178,13 +178,9 @@ fn write(
     what: u16,
 ) -> u16
     requires { ⌜ (length (now store) ≡ storeSize) × (spoiledOf (shelfAt (now words)) ≡ false) ⌝ }
-    requires { ⌜ (length (now payload) ≤ berthSize) × (stepOf (shelfAt (now words)) (now store) (now payload) ≡ stepBy what p header) ⌝ }
+    requires { ⌜ (length (now payload) ≤ berthSize) × (what ≡ 3 → ⊥) × (stepOf (shelfAt (now words)) (now store) (now payload) ≡ stepBy what p header) ⌝ }
     ensures { λ r. ⌜ lent r (now (words .exit)) (now (store .exit)) ≡ offerLent (now (words .entry)) (now (store .entry)) (now (payload .entry)) ⌝ }
 {
-    if what == ADDS {
-        add(words, store, payload, p, wide8(header.number));
-        return code_of(Offered::Added);
-    }
     if what == BEGINS_AGAIN {
         berth::wipe_where(store, p, shelf::mask_of(words, p));
         shelf_write::put_head(words, p, shelf::key_of(header), header.version, header.last);
@@ -196,29 +192,34 @@ fn write(
     code_of(Offered::Began)
 }
 
-// What is not a repeat, whole: `what` has the case of the answer from bit 8 up, and 1 in its low bits where the record has yet to be asked.
+// What is not a repeat, whole. `what` is one number: bit 0 is 1 where the record has yet to be asked, the number of a section that is added
+// stands from bit 1 up, and the case of the answer from bit 8 up.
 fn carried(words: &mut [u16], store: &mut [u8], payload: &[u8], p: usize, what: u16) -> u16
     requires { ⌜ length (now store) ≡ storeSize ⌝ }
-    requires { ⌜ (what % 256 ≡ 0 → spoiledOf (shelfAt (now words)) ≡ false) ⌝ }
-    requires { ⌜ ((h : HeaderOf) → readOf (now payload) ≡ Sound h → spoiledOf (shelfAt (now words)) ≡ false → stepOf (shelfAt (now words)) (now store) (now payload) ≡ stepBy (what / 256) p h) ⌝ }
+    requires { ⌜ (what % 2 ≡ 0 → spoiledOf (shelfAt (now words)) ≡ false) ⌝ }
+    requires { ⌜ ((h : HeaderOf) → readOf (now payload) ≡ Sound h → spoiledOf (shelfAt (now words)) ≡ false → stepOf (shelfAt (now words)) (now store) (now payload) ≡ stepBy (what / 256) p h) × (what / 256 ≡ 3 → (readOf (now payload) ≡ Sound (headerOf (now payload))) × (what / 2 % 16 ≡ headerOf (now payload) .number)) ⌝ }
     ensures { λ r. ⌜ lent r (now (words .exit)) (now (store .exit)) ≡ offerLent (now (words .entry)) (now (store .entry)) (now (payload .entry)) ⌝ }
 {
-    if spoiled(words, what % 256 == 0) {
+    if spoiled(words, what % 2 == 0) {
         return code_of(Offered::Refused(shelf::SHELF_SPOILED));
+    }
+    if what / 256 == ADDS {
+        add(words, store, payload, p, wide16(what / 2 % 16));
+        return code_of(Offered::Added);
     }
     let reading = section::read(payload);
     match reading {
-        Reading::Sound(header) => write(words, store, payload, header, p, what / 256),
+        Reading::Sound(header) => begin(words, store, payload, header, p, what / 256),
         Reading::Refused(number) => code_of(Offered::Refused(number)),
     }
 }
 
-// The same, apart from a repeat, which nine offers in ten are and which needs no frame. The payload is taken apart at once and its header is
-// read again, so that all comes in registers.
+// The same, apart from a repeat, which nine offers in ten are and which needs no frame. The payload is taken apart at once, and the header of
+// one that begins a table is read again, so that all comes in registers.
 fn carry_out(words: &mut [u16], store: &mut [u8], payload: &[u8], p: usize, what: u16) -> u16
     requires { ⌜ length (now store) ≡ storeSize ⌝ }
-    requires { ⌜ (what % 256 ≡ 0 → spoiledOf (shelfAt (now words)) ≡ false) ⌝ }
-    requires { ⌜ ((h : HeaderOf) → readOf (now payload) ≡ Sound h → spoiledOf (shelfAt (now words)) ≡ false → stepOf (shelfAt (now words)) (now store) (now payload) ≡ stepBy (what / 256) p h) ⌝ }
+    requires { ⌜ (what % 2 ≡ 0 → spoiledOf (shelfAt (now words)) ≡ false) ⌝ }
+    requires { ⌜ ((h : HeaderOf) → readOf (now payload) ≡ Sound h → spoiledOf (shelfAt (now words)) ≡ false → stepOf (shelfAt (now words)) (now store) (now payload) ≡ stepBy (what / 256) p h) × (what / 256 ≡ 3 → (readOf (now payload) ≡ Sound (headerOf (now payload))) × (what / 2 % 16 ≡ headerOf (now payload) .number)) ⌝ }
     ensures { λ r. ⌜ lent r (now (words .exit)) (now (store .exit)) ≡ offerLent (now (words .entry)) (now (store .entry)) (now (payload .entry)) ⌝ }
 {
     let size = payload.len();
@@ -226,7 +227,7 @@ fn carry_out(words: &mut [u16], store: &mut [u8], payload: &[u8], p: usize, what
     carried(words, store, section, p, what)
 }
 
-// The low bits of `what`.
+// Bit 0 of `what`.
 fn asks(passed: bool) -> u16
     ensures { λ r. ⌜ (r ≤ 1) × (r ≡ 0 → passed ≡ true) ⌝ }
 {
@@ -249,7 +250,10 @@ fn offer_sound(
     match step {
         Step::Repeats => settle(words, passed, Offered::Repeat),
         Step::Refuse(number) => settle(words, passed, Offered::Refused(number)),
-        Step::Adds(p, _) => carry_out(words, store, payload, p, ADDED + asks(passed)),
+        Step::Adds(p, _) => {
+            let what = ADDED + 2 * half(header.number) + asks(passed);
+            carry_out(words, store, payload, p, what)
+        }
         Step::Begins(p, _) => carry_out(words, store, payload, p, BEGAN + asks(passed)),
         Step::BeginsAgain(p, _) => carry_out(words, store, payload, p, BEGAN_AGAIN + asks(passed)),
     }

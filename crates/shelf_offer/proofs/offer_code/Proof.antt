@@ -45,7 +45,7 @@ asks-requires : tie.Need-asks-requires
 asks-requires c κs = search needs
 
 carry-out-requires : tie.Need-carry-out-requires
-carry-out-requires c κs = (c .before .before .before .before .before .before .before .before .before .if1 .left, ((λ z. c .before .before .before .before .before .before .passes .ensures (c .asks .ensures .1 (omega (arith, z, c .asks .ensures .0)))), leads-nowhere _ _ _ _ _ (told (c .before .before .before .before .before .read .ensures) (c .before .before .before .enum-told .given .1))))
+carry-out-requires c κs = (c .before .before .before .before .before .before .before .before .before .if1 .left, ((λ z. c .before .before .before .before .before .before .passes .ensures (c .asks .ensures .1 (omega (arith, z, c .asks .ensures .0)))), (leads-nowhere _ _ _ _ _ (told (c .before .before .before .before .before .read .ensures) (c .before .before .before .enum-told .given .1)), λ z. absurd (omega (arith, z, c .asks .ensures .0)))))
 
 same-length : tie.Need-same-length
 same-length c = search needs
