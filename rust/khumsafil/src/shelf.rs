@@ -99,13 +99,13 @@ pub fn offer(record: &mut [u16], store: &mut [u8], payload: &[u8]) -> Result<Acc
             payload.len(),
         )
     };
-    // The four accepted answers first: the compiler then needs no branch for a repeat.
-    match word {
-        1024 => Ok(Accepted::Repeat),
-        256 => Ok(Accepted::Began),
-        512 => Ok(Accepted::BeganAgain),
-        768 => Ok(Accepted::Added),
-        refused => Err(Refusal::of(refused as u8)),
+    // What was done stands from bit 8 up. A refused call did nothing, and has its number below.
+    match word >> 8 {
+        1 => Ok(Accepted::Began),
+        2 => Ok(Accepted::BeganAgain),
+        3 => Ok(Accepted::Added),
+        4 => Ok(Accepted::Repeat),
+        _ => Err(Refusal::of(word as u8)),
     }
 }
 
