@@ -11,7 +11,7 @@ use borrow.Author.Tests.{eqb-true, eqb-false}
 use Rattle.base.specs.Choice.{if_then_else_}
 use Rattle.base.proofs.Cases.{by}
 use Rattle.berth.specs.Berth.{places, sections, storeSize, put, wipedWhere}
-use Rattle.section.specs.Section.{readOf}
+use Rattle.section.specs.Section.{readOf, headerOf}
 use Rattle.section.specs.declared.Header.{Header}
 use Rattle.section.specs.declared.Reading.{Reading}
 use Rattle.section.specs.declared.Reading.the-variants as reading
@@ -56,24 +56,24 @@ module _ (a b : Shelf) (s : Same a b) (store payload : List ℕ) where
     unfolding done
     same-done (Refuse n) f = record { said = refl; store = refl; shelf = s }
     same-done Repeats f = record { said = refl; store = refl; shelf = s }
-    same-done (Begins p h) f =
-        record { said = refl; store = refl; shelf = same-with a b s fa fb p (f .0 .place) (begunPlace h (length payload)) }
-    same-done (BeginsAgain p h) f =
+    same-done (Begins p) f =
+        record { said = refl; store = refl; shelf = same-with a b s fa fb p (f .0 .place) (begunPlace (headerOf payload) (length payload)) }
+    same-done (BeginsAgain p) f =
         record {
           said = refl;
           store = ap
-              (λ x. put (wipedWhere (holds x) sections store p) p (h .number) payload)
+              (λ x. put (wipedWhere (holds x) sections store p) p (headerOf payload .number) payload)
               (s .equal p (f .0 .place) (f .1));
-          shelf = same-with a b s fa fb p (f .0 .place) (begunPlace h (length payload));
+          shelf = same-with a b s fa fb p (f .0 .place) (begunPlace (headerOf payload) (length payload));
         }
-    same-done (Adds p h) f =
+    same-done (Adds p) f =
         record {
           said = refl;
           store = refl;
           shelf = subst
-              (λ x. Same (withPlace a p (addedPlace (placeAt a p) h (length payload))) (withPlace b p (addedPlace x h (length payload))))
+              (λ x. Same (withPlace a p (addedPlace (placeAt a p) (headerOf payload) (length payload))) (withPlace b p (addedPlace x (headerOf payload) (length payload))))
               (s .equal p (f .0 .place) (f .1))
-              (same-with a b s fa fb p (f .0 .place) (addedPlace (placeAt a p) h (length payload)));
+              (same-with a b s fa fb p (f .0 .place) (addedPlace (placeAt a p) (headerOf payload) (length payload)));
         }
 
     pub same-offer : SameAfter (offerOf a store payload) (offerOf b store payload)

@@ -35,7 +35,7 @@ use Rattle.shelf_offer.specs.declared.Step.the-variants.{Refuse, Repeats
 use Rattle.shelf_offer.specs.Steps.{soundStep, stepOf, stepBy, unlessSpoiled}
 use Rattle.shelf_offer.specs.On.{leaving, offerOn}
 use Rattle.shelf_offer.specs.Answer.{offeredCode, offerLent}
-use Rattle.shelf_offer.proofs.On.{refused, added, began, began-again, begins-fit, again-fit, adds-fit}
+use Rattle.shelf_offer.proofs.On.{refused, added, began, began-again}
 use Rattle.shelf_offer.proofs.Steps.{step-sound}
 use Rattle.shelf_offer.proofs.Told.{told}
 
@@ -55,17 +55,17 @@ is-sound (reading.Refused n) = false
 pub all-of : (payload : List ℕ) → part payload 0 (length payload - 0) ≡ payload
 all-of payload = ap (part payload 0) (let n : length payload - 0 ≡ length payload = omega arith in n) ∙ part-whole payload
 
-by-adds : (what p : ℕ) (h : Header) → what ≡ 3 → stepBy what p h ≡ Adds p h
+by-adds : (what p : ℕ) → what ≡ 3 → stepBy what p ≡ Adds p
 unfolding stepBy
-by-adds what p h e = rw (eq-eqb what 3 e)
+by-adds what p e = rw (eq-eqb what 3 e)
 
-by-again : (what p : ℕ) (h : Header) → what ≡ 2 → stepBy what p h ≡ BeginsAgain p h
+by-again : (what p : ℕ) → what ≡ 2 → stepBy what p ≡ BeginsAgain p
 unfolding stepBy
-by-again what p h e = rw (ne-eqb what 3 (λ z. omega (arith, e, z)), eq-eqb what 2 e)
+by-again what p e = rw (ne-eqb what 3 (λ z. omega (arith, e, z)), eq-eqb what 2 e)
 
-by-begins : (what p : ℕ) (h : Header) → (what ≡ 3 → ⊥) → (what ≡ 2 → ⊥) → stepBy what p h ≡ Begins p h
+by-begins : (what p : ℕ) → (what ≡ 3 → ⊥) → (what ≡ 2 → ⊥) → stepBy what p ≡ Begins p
 unfolding stepBy
-by-begins what p h d e = rw (ne-eqb what 3 d, ne-eqb what 2 e)
+by-begins what p d e = rw (ne-eqb what 3 d, ne-eqb what 2 e)
 
 -- the number of a section that is added
 pub numbered : (payload : List ℕ) (what : ℕ) (header : Header) → readOf payload ≡ reading.Sound header → what / 2 % 16 ≡ header .number → what / 256 ≡ 3
@@ -117,71 +117,61 @@ module _ (words store payload : List ℕ) where
     step-found q u = sym (step-sound shelf store payload w u header e (f u)) ∙ q
 
     abbrev Leads : ℕ → ℕ → Type 0
-    Leads what p = (h : Header) → readOf payload ≡ reading.Sound h → spoiledOf shelf ≡ false → stepOf shelf store payload ≡ stepBy what p h
+    Leads what p = (h : Header) → readOf payload ≡ reading.Sound h → spoiledOf shelf ≡ false → stepOf shelf store payload ≡ stepBy what p
 
-    same-header : {h k : Header} → h ≡ headerOf payload → readOf payload ≡ reading.Sound k → h ≡ k
-    same-header {k = k} i j = i ∙ sym (sound-facts payload k j .header)
+    pub leads-adds : {p : ℕ} (what : ℕ) → r ≡ Adds p → what ≡ 3 → Leads what p
+    leads-adds {p} what q i h j u = step-found q u ∙ sym (by-adds what p i)
 
-    pub leads-adds : {what p : ℕ} {k : Header} → r ≡ Adds p k → what ≡ 3 → Leads what p
-    leads-adds {what} {p} {k} q i h j u =
-        let s = step-found q u in
-        s ∙ ap (Adds p) (same-header (adds-fit words store payload p k s .0 .header) j) ∙ sym (by-adds what p h i)
+    pub leads-again : {p : ℕ} (what : ℕ) → r ≡ BeginsAgain p → what ≡ 2 → Leads what p
+    leads-again {p} what q i h j u = step-found q u ∙ sym (by-again what p i)
 
-    pub leads-again : {what p : ℕ} {k : Header} → r ≡ BeginsAgain p k → what ≡ 2 → Leads what p
-    leads-again {what} {p} {k} q i h j u =
-        let s = step-found q u in
-        s ∙ ap (BeginsAgain p) (same-header (again-fit words store payload p k s .0 .header) j) ∙ sym (by-again what p h i)
-
-    pub leads-begins : {what p : ℕ} {k : Header} → r ≡ Begins p k → what ≡ 1 → Leads what p
-    leads-begins {what} {p} {k} q i h j u =
-        let s = step-found q u in
-        s
-        ∙ ap (Begins p) (same-header (begins-fit words store payload p k s .header) j)
-        ∙ sym (by-begins what p h (λ z. omega (arith, i, z)) (λ z. omega (arith, i, z)))
+    pub leads-begins : {p : ℕ} (what : ℕ) → r ≡ Begins p → what ≡ 1 → Leads what p
+    leads-begins {p} what q i h j u = step-found q u ∙ sym (by-begins what p (λ z. omega (arith, i, z)) (λ z. omega (arith, i, z)))
 
   -- a payload that is not sound leads nowhere
-  pub leads-nowhere : (what p : ℕ) {n : ℕ} → readOf payload ≡ reading.Refused n → (h : Header) → readOf payload ≡ reading.Sound h → spoiledOf shelf ≡ false → stepOf shelf store payload ≡ stepBy what p h
+  pub leads-nowhere : (what p : ℕ) {n : ℕ} → readOf payload ≡ reading.Refused n → (h : Header) → readOf payload ≡ reading.Sound h → spoiledOf shelf ≡ false → stepOf shelf store payload ≡ stepBy what p
   leads-nowhere what p i h j u = absurd (unlike (ap is-sound (sym j ∙ i)))
 
-  module _ (what p : ℕ) (h : Header) (s : stepOf shelf store payload ≡ stepBy what p h) where
+  module _ (what p : ℕ) (s : stepOf shelf store payload ≡ stepBy what p) where
     pub wrote-added :
         {n code : ℕ}
         {left kept : List ℕ}
         → what ≡ 3
-        → n ≡ h .number
+        → n ≡ headerOf payload .number
         → kept ≡ heldPut words p n (length payload)
         → left ≡ putIn store p n payload
         → code ≡ offeredCode Offered.Added
         → lent code kept left ≡ offerLent words store payload
-    wrote-added e m k l c = told words store payload (added words store payload p h (s ∙ by-adds what p h e) m k l) c
+    wrote-added e m k l c = told words store payload (added words store payload p (s ∙ by-adds what p e) m k l) c
 
-    pub wrote-begun :
-        {n code : ℕ}
-        {key : Key}
-        {left head kept : List ℕ}
-        → (what ≡ 3 → ⊥)
-        → (what ≡ 2 → ⊥)
-        → n ≡ h .number
-        → key ≡ keyOf h
-        → head ≡ headPut words p key (h .version) (h .last)
-        → kept ≡ heldPut head p n (length payload)
-        → left ≡ putIn store p n payload
-        → code ≡ offeredCode Offered.Began
-        → lent code kept left ≡ offerLent words store payload
-    wrote-begun d e m q i k l c = told words store payload (began words store payload p h (s ∙ by-begins what p h d e) m q i k l) c
+    module _ (h : Header) (g : h ≡ headerOf payload) where
+      pub wrote-begun :
+          {n code : ℕ}
+          {key : Key}
+          {left head kept : List ℕ}
+          → (what ≡ 3 → ⊥)
+          → (what ≡ 2 → ⊥)
+          → n ≡ h .number
+          → key ≡ keyOf h
+          → head ≡ headPut words p key (h .version) (h .last)
+          → kept ≡ heldPut head p n (length payload)
+          → left ≡ putIn store p n payload
+          → code ≡ offeredCode Offered.Began
+          → lent code kept left ≡ offerLent words store payload
+      wrote-begun d e m q i k l c = told words store payload (began words store payload p (s ∙ by-begins what p d e) (rw g at m) (rw g at q) (rw g at i) k l) c
 
-    pub wrote-again :
-        {n mask code : ℕ}
-        {key : Key}
-        {left head kept wiped : List ℕ}
-        → what ≡ 2
-        → n ≡ h .number
-        → key ≡ keyOf h
-        → head ≡ headPut words p key (h .version) (h .last)
-        → mask ≡ maskAmong words p
-        → wiped ≡ wipedWhereIn (bit mask) store p
-        → kept ≡ heldPut head p n (length payload)
-        → left ≡ putIn wiped p n payload
-        → code ≡ offeredCode Offered.BeganAgain
-        → lent code kept left ≡ offerLent words store payload
-    wrote-again e m q i j v k l c = told words store payload (began-again words store payload p h (s ∙ by-again what p h e) m q i j v k l) c
+      pub wrote-again :
+          {n mask code : ℕ}
+          {key : Key}
+          {left head kept wiped : List ℕ}
+          → what ≡ 2
+          → n ≡ h .number
+          → key ≡ keyOf h
+          → head ≡ headPut words p key (h .version) (h .last)
+          → mask ≡ maskAmong words p
+          → wiped ≡ wipedWhereIn (bit mask) store p
+          → kept ≡ heldPut head p n (length payload)
+          → left ≡ putIn wiped p n payload
+          → code ≡ offeredCode Offered.BeganAgain
+          → lent code kept left ≡ offerLent words store payload
+      wrote-again e m q i j v k l c = told words store payload (began-again words store payload p (s ∙ by-again what p e) (rw g at m) (rw g at q) (rw g at i) j v k l) c

@@ -61,26 +61,26 @@ module _ (words store payload : List ℕ) where
   size = length payload
 
   -- a step writes what the answer of what it does says
-  written-said : (s : Step) → Fits shelf store payload s → written words size s ≡ wordsBy words payload (done shelf store payload s .said)
+  written-said : (s : Step) → Fits shelf store payload s → written words payload s ≡ wordsBy words payload (done shelf store payload s .said)
   unfolding done written
   written-said (Refuse n) f = refl
   written-said Repeats f = refl
-  written-said (Begins p h) f = rw (f .1, f .0 .header)
-  written-said (BeginsAgain p h) f = rw (f .2, f .0 .header)
-  written-said (Adds p h) f = rw (f .2, f .0 .header)
+  written-said (Begins p) f = rw (f .1)
+  written-said (BeginsAgain p) f = rw (f .2)
+  written-said (Adds p) f = rw (f .2)
 
   -- what was decided, done
   pub decided :
       {r : Step}
       {x : Leaving}
       → stepOf shelf store payload ≡ r
-      → x ≡ leaving (done shelf store payload r .said) (written words size r) (done shelf store payload r .store)
+      → x ≡ leaving (done shelf store payload r .said) (written words payload r) (done shelf store payload r .store)
       → x ≡ offerOn words store payload
   unfolding offerOn
   decided e q =
       let s = stepOf shelf store payload in
       q
-      ∙ ap (λ r. leaving (done shelf store payload r .said) (written words size r) (done shelf store payload r .store)) (sym e)
+      ∙ ap (λ r. leaving (done shelf store payload r .said) (written words payload r) (done shelf store payload r .store)) (sym e)
       ∙ ap (λ v. leaving (done shelf store payload s .said) v (done shelf store payload s .store)) (written-said s (step-fits shelf store payload))
       ∙ ap (λ a. leaving (a .said) (wordsBy words payload (a .said)) (a .store)) (step-done shelf store payload)
 
@@ -92,17 +92,21 @@ module _ (words store payload : List ℕ) where
   unfolding done written
   refused n e = decided e refl
 
-  module _ (p : ℕ) (h : Header) where
-    abbrev Range : Type 0
-    Range = InRange shelf store payload p h
+  -- the header that the payload has
+  abbrev h : Header
+  h = headerOf payload
 
-    pub begins-fit : stepOf shelf store payload ≡ Begins p h → Range
+  module _ (p : ℕ) where
+    abbrev Range : Type 0
+    Range = InRange shelf store payload p
+
+    pub begins-fit : stepOf shelf store payload ≡ Begins p → Range
     begins-fit e = (subst (Fits shelf store payload) e (step-fits shelf store payload)) .0
 
-    pub again-fit : stepOf shelf store payload ≡ BeginsAgain p h → Held shelf store payload p h
+    pub again-fit : stepOf shelf store payload ≡ BeginsAgain p → Held shelf store payload p
     again-fit e = subst (Fits shelf store payload) e (step-fits shelf store payload)
 
-    pub adds-fit : stepOf shelf store payload ≡ Adds p h → Held shelf store payload p h
+    pub adds-fit : stepOf shelf store payload ≡ Adds p → Held shelf store payload p
     adds-fit e = subst (Fits shelf store payload) e (step-fits shelf store payload)
 
     -- the numbers of a record that is not spoiled
@@ -118,7 +122,7 @@ module _ (words store payload : List ℕ) where
     pub added :
         {n : ℕ}
         {left kept : List ℕ}
-        → stepOf shelf store payload ≡ Adds p h
+        → stepOf shelf store payload ≡ Adds p
         → n ≡ h .number
         → kept ≡ heldPut words p n size
         → left ≡ putIn store p n payload
@@ -148,7 +152,7 @@ module _ (words store payload : List ℕ) where
         {n : ℕ}
         {key : Key}
         {left head kept : List ℕ}
-        → stepOf shelf store payload ≡ Begins p h
+        → stepOf shelf store payload ≡ Begins p
         → n ≡ h .number
         → key ≡ keyOf h
         → head ≡ headPut words p key (h .version) (h .last)
@@ -162,7 +166,7 @@ module _ (words store payload : List ℕ) where
         {n mask : ℕ}
         {key : Key}
         {left head kept wiped : List ℕ}
-        → stepOf shelf store payload ≡ BeginsAgain p h
+        → stepOf shelf store payload ≡ BeginsAgain p
         → n ≡ h .number
         → key ≡ keyOf h
         → head ≡ headPut words p key (h .version) (h .last)
@@ -194,23 +198,23 @@ module _ (words store payload : List ℕ) where
 
   -- the table id of a header that was read from bytes is a byte
   module _ (o : Octets payload) where
-    byte-key : (h : Header) → h ≡ headerOf payload → keyOf h .table < 256
-    byte-key h e = rw e (o 0)
+    byte-key : keyOf h .table < 256
+    byte-key = o 0
 
-    begun-shelf : (p : ℕ) (h : Header) → InRange shelf store payload p h
+    begun-shelf : (p : ℕ) → InRange shelf store payload p
         → shelfAt (begunWords words p h size) ≡ withPlace shelf p (begunPlace h size)
-    begun-shelf p h f =
-        lent.begun-lent words (fits p h f) p (f .place) (keyOf h) (h .version) (h .last) (h .number) size (byte-key h (f .header)) (f .number) (omega (arith, f .least))
+    begun-shelf p f =
+        lent.begun-lent words (fits p f) p (f .place) (keyOf h) (h .version) (h .last) (h .number) size byte-key (f .number) (omega (arith, f .least))
 
-    done-shelf : (s : Step) → Fits shelf store payload s → shelfAt (written words size s) ≡ done shelf store payload s .shelf
+    done-shelf : (s : Step) → Fits shelf store payload s → shelfAt (written words payload s) ≡ done shelf store payload s .shelf
     unfolding done written
     done-shelf (Refuse n) f = refl
     done-shelf Repeats f = refl
-    done-shelf (Begins p h) f = begun-shelf p h (f .0)
-    done-shelf (BeginsAgain p h) f = begun-shelf p h (f .0)
-    done-shelf (Adds p h) g =
+    done-shelf (Begins p) f = begun-shelf p (f .0)
+    done-shelf (BeginsAgain p) f = begun-shelf p (f .0)
+    done-shelf (Adds p) g =
         let f = g .0 in
-        lent.held-lent words (fits p h f) p (f .place) (h .number) (f .number) size (omega (arith, f .least)) (taken-of words p (fits p h f) (f .place) (g .1))
+        lent.held-lent words (fits p f) p (f .place) (h .number) (f .number) size (omega (arith, f .least)) (taken-of words p (fits p f) (f .place) (g .1))
 
     pub offer-shelf : shelfAt (offerOn words store payload .words) ≡ offerOf shelf store payload .shelf
     unfolding offerOn

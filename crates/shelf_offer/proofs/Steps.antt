@@ -34,7 +34,7 @@ use Rattle.shelf.specs.Record.{keyOf}
 use Rattle.shelf_offer.specs.Steps.{heldStep, newStep, soundStep, readingStep, stepOf, done}
 use Rattle.shelf_offer.proofs.Stands.{put-at, wiped-at, stands-at}
 
-pub held-again : (place : Place) (store payload : List ℕ) (p : ℕ) (h : Header) → (place .version ≡ h .version → ⊥) → BeginsAgain p h ≡ heldStep place store payload p h
+pub held-again : (place : Place) (store payload : List ℕ) (p : ℕ) (h : Header) → (place .version ≡ h .version → ⊥) → BeginsAgain p ≡ heldStep place store payload p h
 unfolding heldStep
 held-again place store payload p h d = rw (ne-eqb _ _ d)
 
@@ -43,7 +43,7 @@ unfolding heldStep
 held-last place store payload p h v d = rw (eq-eqb _ _ v, ne-eqb _ _ d)
 
 module _ (place : Place) (store payload : List ℕ) (p : ℕ) (h : Header) (v : place .version ≡ h .version) (l : place .last ≡ h .last) where
-  pub held-adds : lengthAt place (h .number) ≡ 0 → Adds p h ≡ heldStep place store payload p h
+  pub held-adds : lengthAt place (h .number) ≡ 0 → Adds p ≡ heldStep place store payload p h
   unfolding heldStep
   held-adds z = rw (eq-eqb _ _ v, eq-eqb _ _ l, eq-eqb _ _ z)
 
@@ -70,7 +70,7 @@ module _ (shelf : Shelf) (store payload : List ℕ) (h : Header) {p : ℕ} (e : 
   unfolding soundStep
   sound-held l q = q ∙ rw (← e, ne-eqb p places (λ z. omega arith))
 
-  pub sound-begins : {free : ℕ} → places ≤ p → p ≤ places → free ≡ freeOf shelf → free < places → Begins free h ≡ soundStep shelf store payload h
+  pub sound-begins : {free : ℕ} → places ≤ p → p ≤ places → free ≡ freeOf shelf → free < places → Begins free ≡ soundStep shelf store payload h
   unfolding soundStep newStep
   sound-begins {free} l m f k = rw (← e, ← f, eq-eqb p places (omega arith), ne-eqb free places (λ z. omega arith))
 
@@ -91,9 +91,13 @@ pub below : {n : ℕ} → n ≤ places → eqb n places ≡ false → n < places
 below {n} le e = let d : n ≡ places → ⊥ = eqb-false n places e in omega (arith, d)
 
 module _ (shelf : Shelf) (store payload : List ℕ) where
-  held-done : (p : ℕ) (h : Header) → done shelf store payload (heldStep (placeAt shelf p) store payload p h) ≡ heldOf shelf store payload p h
+  -- the header that the payload has
+  abbrev h : Header
+  h = headerOf payload
+
+  held-done : (p : ℕ) → done shelf store payload (heldStep (placeAt shelf p) store payload p h) ≡ heldOf shelf store payload p h
   unfolding heldStep heldOf done
-  held-done p h =
+  held-done p =
       by (not (eqb (placeAt shelf p .version) (h .version)))
       (λ a. rw a)
       (λ a.
@@ -107,31 +111,31 @@ module _ (shelf : Shelf) (store payload : List ℕ) where
       (λ d. rw (a, b, c, d))
       (λ d. rw (a, b, c, d)))))
 
-  new-done : (h : Header) → done shelf store payload (newStep shelf store payload h) ≡ newOf shelf store payload h
+  new-done : done shelf store payload (newStep shelf store payload h) ≡ newOf shelf store payload h
   unfolding newStep newOf done
-  new-done h = by (eqb (freeOf shelf) places) (λ a. rw a) (λ a. rw a)
+  new-done = by (eqb (freeOf shelf) places) (λ a. rw a) (λ a. rw a)
 
-  sound-done : (h : Header) → done shelf store payload (soundStep shelf store payload h) ≡ soundOf shelf store payload h
+  sound-done : done shelf store payload (soundStep shelf store payload h) ≡ soundOf shelf store payload h
   unfolding soundStep soundOf
-  sound-done h =
+  sound-done =
       by (eqb (placeOf shelf (keyOf h)) places)
-      (λ a. rw a (new-done h))
-      (λ a. rw a (held-done (placeOf shelf (keyOf h)) h))
+      (λ a. rw a new-done)
+      (λ a. rw a (held-done (placeOf shelf (keyOf h))))
 
-  reading-done : (r : Reading) → done shelf store payload (readingStep shelf store payload r) ≡ readingOf shelf store payload r
+  reading-done : (r : Reading) → readOf payload ≡ r → done shelf store payload (readingStep shelf store payload r) ≡ readingOf shelf store payload r
   unfolding done
-  reading-done (reading.Sound h) = sound-done h
-  reading-done (reading.Refused n) = refl
+  reading-done (reading.Sound k) e = rw (sound-facts payload k e .header) sound-done
+  reading-done (reading.Refused n) e = refl
 
   pub step-done : done shelf store payload (stepOf shelf store payload) ≡ offerOf shelf store payload
   unfolding stepOf offerOf done
   step-done =
       by (not (eqb (length store) storeSize))
       (λ a. rw a)
-      (λ a. by (spoiledOf shelf) (λ b. rw (a, b)) (λ b. rw (a, b) (reading-done (readOf payload))))
+      (λ a. by (spoiledOf shelf) (λ b. rw (a, b)) (λ b. rw (a, b) (reading-done (readOf payload) refl)))
 
   -- the store, the place, the number and the bytes are such that a berth takes them
-  pub record InRange (p : ℕ) (h : Header) : Type 0 where
+  pub record InRange (p : ℕ) : Type 0 where
     pub whole : length store ≡ storeSize
     pub unspoiled : spoiledOf shelf ≡ false
     pub place : p < places
@@ -140,21 +144,20 @@ module _ (shelf : Shelf) (store payload : List ℕ) where
     pub last : h .last < sections
     pub least : 8 ≤ length payload
     pub size : length payload ≤ berthSize
-    pub header : h ≡ headerOf payload
 
   -- .. and a table is there, that of the section's key
-  abbrev pub Held : ℕ → Header → Type 0
-  Held p h = InRange p h × (placeAt shelf p .taken ≡ true) × (p ≡ placeOf shelf (keyOf h))
+  abbrev pub Held : ℕ → Type 0
+  Held p = InRange p × (placeAt shelf p .taken ≡ true) × (p ≡ placeOf shelf (keyOf h))
 
   abbrev pub Fits : Step → Type 0
   Fits (Refuse n) = Unit {0}
   Fits Repeats = Unit {0}
-  Fits (Begins p h) = InRange p h × (p ≡ freeOf shelf)
-  Fits (BeginsAgain p h) = Held p h
-  Fits (Adds p h) = Held p h
+  Fits (Begins p) = InRange p × (p ≡ freeOf shelf)
+  Fits (BeginsAgain p) = Held p
+  Fits (Adds p) = Held p
 
-  module _ (w : length store ≡ storeSize) (u : spoiledOf shelf ≡ false) (h : Header) (f : SoundFacts payload h) where
-    in-range : (p : ℕ) → p < places → InRange p h
+  module _ (w : length store ≡ storeSize) (u : spoiledOf shelf ≡ false) (f : SoundFacts payload h) where
+    in-range : (p : ℕ) → p < places → InRange p
     in-range p l =
         record {
           whole = w;
@@ -165,7 +168,6 @@ module _ (shelf : Shelf) (store payload : List ℕ) where
           last = omega (arith, f .last);
           least = f .least;
           size = f .most;
-          header = f .header;
         }
 
     held-fits : (p : ℕ) → p < places → placeAt shelf p .taken ≡ true → p ≡ placeOf shelf (keyOf h) → Fits (heldStep (placeAt shelf p) store payload p h)
@@ -191,7 +193,9 @@ module _ (shelf : Shelf) (store payload : List ℕ) where
         held-fits (placeOf shelf (keyOf h)) l (place-taken shelf (keyOf h) l) refl)
 
   reading-fits : length store ≡ storeSize → spoiledOf shelf ≡ false → (r : Reading) → readOf payload ≡ r → Fits (readingStep shelf store payload r)
-  reading-fits w u (reading.Sound h) e = sound-fits w u h (sound-facts payload h e)
+  reading-fits w u (reading.Sound k) e =
+      let q = sound-facts payload k e .header in
+      rw q (sound-fits w u (subst (SoundFacts payload) q (sound-facts payload k e)))
   reading-fits w u (reading.Refused n) e = tt
 
   pub step-fits : Fits (stepOf shelf store payload)

@@ -7,7 +7,7 @@ use lib.Dec.{eqb}
 use lib.ListN.{length}
 use Rattle.base.specs.Choice.{if_then_else_}
 use Rattle.base.specs.Bytes.{same}
-use Rattle.section.specs.Section.{readOf}
+use Rattle.section.specs.Section.{readOf, headerOf}
 use Rattle.section.specs.declared.Header.{Header}
 use Rattle.section.specs.declared.Reading.{Reading}
 use Rattle.section.specs.declared.Reading.the-variants as reading
@@ -26,15 +26,15 @@ use Rattle.shelf_offer.specs.On.{begunWords}
 -- key held in place p
 unfoldable pub heldStep : Place → List ℕ → List ℕ → ℕ → Header → Step
 heldStep place store payload p h =
-    if not (eqb (place .version) (h .version)) then BeginsAgain p h
+    if not (eqb (place .version) (h .version)) then BeginsAgain p
     else if not (eqb (place .last) (h .last)) then Refuse 10
-    else if not (holds place (h .number)) then Adds p h
+    else if not (holds place (h .number)) then Adds p
     else if same (standing store p (h .number) (lengthAt place (h .number))) payload then Repeats else Refuse 10
 
 module _ (shelf : Shelf) (store payload : List ℕ) where
   -- key not held
   unfoldable pub newStep : Header → Step
-  newStep h = if eqb (freeOf shelf) places then Refuse 9 else Begins (freeOf shelf) h
+  newStep h = if eqb (freeOf shelf) places then Refuse 9 else Begins (freeOf shelf)
 
   unfoldable pub soundStep : Header → Step
   soundStep h =
@@ -50,40 +50,40 @@ module _ (shelf : Shelf) (store payload : List ℕ) where
       if not (eqb (length store) storeSize) then Refuse 17
       else if spoiledOf shelf then Refuse 18 else readingStep (readOf payload)
 
-  -- what is done at each step
+  -- what is done at each step, with the header that the payload has
   unfoldable pub done : Step → After
   done (Refuse n) = no shelf store payload n
   done Repeats = record { said = Offered.Repeat; shelf = shelf; store = store }
-  done (Begins p h) =
+  done (Begins p) =
       record {
         said = Offered.Began;
-        shelf = withPlace shelf p (begunPlace h (length payload));
-        store = put store p (h .number) payload;
+        shelf = withPlace shelf p (begunPlace (headerOf payload) (length payload));
+        store = put store p (headerOf payload .number) payload;
       }
-  done (BeginsAgain p h) =
+  done (BeginsAgain p) =
       record {
         said = Offered.BeganAgain;
-        shelf = withPlace shelf p (begunPlace h (length payload));
-        store = put (wipedWhere (holds (placeAt shelf p)) sections store p) p (h .number) payload;
+        shelf = withPlace shelf p (begunPlace (headerOf payload) (length payload));
+        store = put (wipedWhere (holds (placeAt shelf p)) sections store p) p (headerOf payload .number) payload;
       }
-  done (Adds p h) =
+  done (Adds p) =
       record {
         said = Offered.Added;
-        shelf = withPlace shelf p (addedPlace (placeAt shelf p) h (length payload));
-        store = put store p (h .number) payload;
+        shelf = withPlace shelf p (addedPlace (placeAt shelf p) (headerOf payload) (length payload));
+        store = put store p (headerOf payload .number) payload;
       }
 
--- what is written into the numbers at each step, of so many bytes
-unfoldable pub written : List ℕ → ℕ → Step → List ℕ
-written words size (Refuse n) = words
-written words size Repeats = words
-written words size (Begins p h) = begunWords words p h size
-written words size (BeginsAgain p h) = begunWords words p h size
-written words size (Adds p h) = heldIn words p (h .number) size
+-- what is written into the numbers at each step
+unfoldable pub written : List ℕ → List ℕ → Step → List ℕ
+written words payload (Refuse n) = words
+written words payload Repeats = words
+written words payload (Begins p) = begunWords words p (headerOf payload) (length payload)
+written words payload (BeginsAgain p) = begunWords words p (headerOf payload) (length payload)
+written words payload (Adds p) = heldIn words p (headerOf payload .number) (length payload)
 
 -- the step that writes, by the case of its answer: 3 adds, 2 begins again, else it begins
-unfoldable pub stepBy : ℕ → ℕ → Header → Step
-stepBy what p h = if eqb what 3 then Adds p h else if eqb what 2 then BeginsAgain p h else Begins p h
+unfoldable pub stepBy : ℕ → ℕ → Step
+stepBy what p = if eqb what 3 then Adds p else if eqb what 2 then BeginsAgain p else Begins p
 
 -- an answer of a record, which is refused where that is spoiled
 unfoldable pub unlessSpoiled : Bool → Offered → Offered

@@ -51,14 +51,13 @@ fn wide16(x: u16) -> usize
     x as usize
 }
 
-// What an offer of a sound section comes to where the record is not spoiled: where the table is begun, begun again or added to, and the
-// section's header.
+// What an offer of a sound section comes to where the record is not spoiled, and in which place.
 enum Step {
     Refuse(u8),
     Repeats,
-    Begins(usize, Header),
-    BeginsAgain(usize, Header),
-    Adds(usize, Header),
+    Begins(usize),
+    BeginsAgain(usize),
+    Adds(usize),
 }
 
 // The step of a sound section whose key is held in place p.
@@ -69,7 +68,7 @@ fn held_step(words: &[u16], store: &[u8], payload: &[u8], header: Header, p: usi
     ensures { λ r. ⌜ (spoiledOf (shelfIn (now (words .entry))) ≡ false → r ≡ heldStep (placeAt (shelfIn (now (words .entry))) p) (now (store .entry)) (now (payload .entry)) p header) ⌝ }
 {
     if shelf::version_of(words, p) != half(header.version) {
-        return Step::BeginsAgain(p, header);
+        return Step::BeginsAgain(p);
     }
     if shelf::last_of(words, p) != half(header.last) {
         return Step::Refuse(DIFFERS);
@@ -77,7 +76,7 @@ fn held_step(words: &[u16], store: &[u8], payload: &[u8], header: Header, p: usi
     let number = wide8(header.number);
     let length = wide16(shelf::length_of(words, p, number));
     if length == 0 {
-        return Step::Adds(p, header);
+        return Step::Adds(p);
     }
     if length != payload.len() {
         return Step::Refuse(DIFFERS);
@@ -100,7 +99,7 @@ fn sound_step(words: &[u16], store: &[u8], payload: &[u8], header: Header) -> St
     }
     let free = shelf::free_of(words);
     if free < berth::PLACES {
-        return Step::Begins(free, header);
+        return Step::Begins(free);
     }
     Step::Refuse(NO_FREE_PLACE)
 }
@@ -178,7 +177,7 @@ fn begin(
     what: u16,
 ) -> u16
     requires { ⌜ (length (now store) ≡ storeSize) × (spoiledOf (shelfAt (now words)) ≡ false) ⌝ }
-    requires { ⌜ (length (now payload) ≤ berthSize) × (what ≡ 3 → ⊥) × (stepOf (shelfAt (now words)) (now store) (now payload) ≡ stepBy what p header) ⌝ }
+    requires { ⌜ (length (now payload) ≤ berthSize) × (what ≡ 3 → ⊥) × (header ≡ headerOf (now payload)) × (stepOf (shelfAt (now words)) (now store) (now payload) ≡ stepBy what p) ⌝ }
     ensures { λ r. ⌜ lent r (now (words .exit)) (now (store .exit)) ≡ offerLent (now (words .entry)) (now (store .entry)) (now (payload .entry)) ⌝ }
 {
     if what == BEGINS_AGAIN {
@@ -197,7 +196,7 @@ fn begin(
 fn carried(words: &mut [u16], store: &mut [u8], payload: &[u8], p: usize, what: u16) -> u16
     requires { ⌜ length (now store) ≡ storeSize ⌝ }
     requires { ⌜ (what % 2 ≡ 0 → spoiledOf (shelfAt (now words)) ≡ false) ⌝ }
-    requires { ⌜ ((h : HeaderOf) → readOf (now payload) ≡ Sound h → spoiledOf (shelfAt (now words)) ≡ false → stepOf (shelfAt (now words)) (now store) (now payload) ≡ stepBy (what / 256) p h) × (what / 256 ≡ 3 → (readOf (now payload) ≡ Sound (headerOf (now payload))) × (what / 2 % 16 ≡ headerOf (now payload) .number)) ⌝ }
+    requires { ⌜ ((h : HeaderOf) → readOf (now payload) ≡ Sound h → spoiledOf (shelfAt (now words)) ≡ false → stepOf (shelfAt (now words)) (now store) (now payload) ≡ stepBy (what / 256) p) × (what / 256 ≡ 3 → (readOf (now payload) ≡ Sound (headerOf (now payload))) × (what / 2 % 16 ≡ headerOf (now payload) .number)) ⌝ }
     ensures { λ r. ⌜ lent r (now (words .exit)) (now (store .exit)) ≡ offerLent (now (words .entry)) (now (store .entry)) (now (payload .entry)) ⌝ }
 {
     if spoiled(words, what % 2 == 0) {
@@ -219,7 +218,7 @@ fn carried(words: &mut [u16], store: &mut [u8], payload: &[u8], p: usize, what: 
 fn carry_out(words: &mut [u16], store: &mut [u8], payload: &[u8], p: usize, what: u16) -> u16
     requires { ⌜ length (now store) ≡ storeSize ⌝ }
     requires { ⌜ (what % 2 ≡ 0 → spoiledOf (shelfAt (now words)) ≡ false) ⌝ }
-    requires { ⌜ ((h : HeaderOf) → readOf (now payload) ≡ Sound h → spoiledOf (shelfAt (now words)) ≡ false → stepOf (shelfAt (now words)) (now store) (now payload) ≡ stepBy (what / 256) p h) × (what / 256 ≡ 3 → (readOf (now payload) ≡ Sound (headerOf (now payload))) × (what / 2 % 16 ≡ headerOf (now payload) .number)) ⌝ }
+    requires { ⌜ ((h : HeaderOf) → readOf (now payload) ≡ Sound h → spoiledOf (shelfAt (now words)) ≡ false → stepOf (shelfAt (now words)) (now store) (now payload) ≡ stepBy (what / 256) p) × (what / 256 ≡ 3 → (readOf (now payload) ≡ Sound (headerOf (now payload))) × (what / 2 % 16 ≡ headerOf (now payload) .number)) ⌝ }
     ensures { λ r. ⌜ lent r (now (words .exit)) (now (store .exit)) ≡ offerLent (now (words .entry)) (now (store .entry)) (now (payload .entry)) ⌝ }
 {
     let size = payload.len();
@@ -250,12 +249,12 @@ fn offer_sound(
     match step {
         Step::Repeats => settle(words, passed, Offered::Repeat),
         Step::Refuse(number) => settle(words, passed, Offered::Refused(number)),
-        Step::Adds(p, _) => {
+        Step::Adds(p) => {
             let what = ADDED + 2 * half(header.number) + asks(passed);
             carry_out(words, store, payload, p, what)
         }
-        Step::Begins(p, _) => carry_out(words, store, payload, p, BEGAN + asks(passed)),
-        Step::BeginsAgain(p, _) => carry_out(words, store, payload, p, BEGAN_AGAIN + asks(passed)),
+        Step::Begins(p) => carry_out(words, store, payload, p, BEGAN + asks(passed)),
+        Step::BeginsAgain(p) => carry_out(words, store, payload, p, BEGAN_AGAIN + asks(passed)),
     }
 }
 

@@ -45,7 +45,7 @@ same-length-3 : tie.Need-same-length-3
 same-length-3 c = search needs
 
 returns-2 : tie.Need-returns-2
-returns-2 c = let r = c .before .before .before .before .before .before .before .before .before .before .before .before .before .before .before .before .pre .1 .1 .1 (c .before .before .before .before .before .before .before .before .before .if2 .taken) in wrote-added _ _ _ _ _ _ (c .before .before .before .before .before .before .before .before .before .before .before .before .before .before .before .before .pre .1 .1 .0 _ (r .0) (told (c .before .before .before .before .before .before .before .before .before .before .before .spoiled .ensures) (c .before .before .before .before .before .before .before .before .before .before .if1 .left))) (c .before .before .before .before .before .before .before .before .before .if2 .taken) (c .before .before .before .before .before .before .wide16 .ensures ∙ r .1) (c .before .before .before .before .before .add .ensures .0) (c .before .before .before .before .before .add .ensures .1) (c .code-of2 .ensures)
+returns-2 c = let r = c .before .before .before .before .before .before .before .before .before .before .before .before .before .before .before .before .pre .1 .1 .1 (c .before .before .before .before .before .before .before .before .before .if2 .taken) in wrote-added _ _ _ _ _ (c .before .before .before .before .before .before .before .before .before .before .before .before .before .before .before .before .pre .1 .1 .0 _ (r .0) (told (c .before .before .before .before .before .before .before .before .before .before .before .spoiled .ensures) (c .before .before .before .before .before .before .before .before .before .before .if1 .left))) (c .before .before .before .before .before .before .before .before .before .if2 .taken) (c .before .before .before .before .before .before .wide16 .ensures ∙ r .1) (c .before .before .before .before .before .add .ensures .0) (c .before .before .before .before .before .add .ensures .1) (c .code-of2 .ensures)
 
 read-requires : tie.Need-read-requires
 read-requires c κs = search needs
@@ -54,7 +54,7 @@ enum-known-reading : tie.Need-enum-known-reading
 enum-known-reading c = search needs
 
 begin-requires : tie.Need-begin-requires
-begin-requires c κs = let e = told (c .before .before .before .before .before .read .ensures) (c .before .before .before .reading .given .1) in let u = told (c .before .before .before .before .before .before .before .before .spoiled .ensures) (c .before .before .before .before .before .before .before .if1 .left) in ((c .before .before .before .before .before .before .before .before .before .before .before .before .before .pre .0, u), (sound-facts _ _ e .most, c .before .before .before .before .before .before .if2 .left, c .before .before .before .before .before .before .before .before .before .before .before .before .before .pre .1 .1 .0 _ e u))
+begin-requires c κs = let e = told (c .before .before .before .before .before .read .ensures) (c .before .before .before .reading .given .1) in let u = told (c .before .before .before .before .before .before .before .before .spoiled .ensures) (c .before .before .before .before .before .before .before .if1 .left) in ((c .before .before .before .before .before .before .before .before .before .before .before .before .before .pre .0, u), (sound-facts _ _ e .most, c .before .before .before .before .before .before .if2 .left, sound-facts _ _ e .header, c .before .before .before .before .before .before .before .before .before .before .before .before .before .pre .1 .1 .0 _ e u))
 
 enum-known-reading-2 : tie.Need-enum-known-reading-2
 enum-known-reading-2 c = search needs

@@ -48,7 +48,7 @@ add-what-2 : tie.Need-add-what-2
 add-what-2 c = search needs
 
 carry-out-requires : tie.Need-carry-out-requires
-carry-out-requires c κs = let f = sound-facts _ _ (c .before .before .before .before .before .before .before .before .before .before .before .before .before .pre .0 .2) in (c .before .before .before .before .before .before .before .before .before .before .before .before .before .pre .0 .1, ((λ z. c .before .before .before .before .before .before .before .before .before .before .before .before .before .pre .1 (c .before .before .asks .ensures .1 (omega (arith, z, c .before .before .asks .ensures .0, c .before .before .before .half .ensures, f .number, f .last)))), (leads-adds _ _ _ (c .before .before .before .before .before .before .before .before .before .before .before .before .before .pre .0 .1) _ (c .before .before .before .before .before .before .before .before .before .before .before .before .before .pre .0 .2) (c .before .before .before .before .before .before .before .sound-step .ensures) (c .before .before .before .before .before .step2 .given .1) (omega (arith, c .before .before .asks .ensures .0, c .before .before .before .half .ensures, f .number, f .last)), numbered _ _ _ (c .before .before .before .before .before .before .before .before .before .before .before .before .before .pre .0 .2) (omega (arith, c .before .before .asks .ensures .0, c .before .before .before .half .ensures, f .number, f .last)))))
+carry-out-requires c κs = let f = sound-facts _ _ (c .before .before .before .before .before .before .before .before .before .before .before .before .before .pre .0 .2) in (c .before .before .before .before .before .before .before .before .before .before .before .before .before .pre .0 .1, ((λ z. c .before .before .before .before .before .before .before .before .before .before .before .before .before .pre .1 (c .before .before .asks .ensures .1 (omega (arith, z, c .before .before .asks .ensures .0, c .before .before .before .half .ensures, f .number, f .last)))), (leads-adds _ _ _ (c .before .before .before .before .before .before .before .before .before .before .before .before .before .pre .0 .1) _ (c .before .before .before .before .before .before .before .before .before .before .before .before .before .pre .0 .2) (c .before .before .before .before .before .before .before .sound-step .ensures) _ (c .before .before .before .before .before .step2 .given .1) (omega (arith, c .before .before .asks .ensures .0, c .before .before .before .half .ensures, f .number, f .last)), numbered _ _ _ (c .before .before .before .before .before .before .before .before .before .before .before .before .before .pre .0 .2) (omega (arith, c .before .before .asks .ensures .0, c .before .before .before .half .ensures, f .number, f .last)))))
 
 enum-known-step-3 : tie.Need-enum-known-step-3
 enum-known-step-3 c = search needs
@@ -60,7 +60,7 @@ add-carry-out : tie.Need-add-carry-out
 add-carry-out c = search needs
 
 carry-out-requires-2 : tie.Need-carry-out-requires-2
-carry-out-requires-2 c κs = (c .before .before .before .before .before .before .before .before .before .before .before .before .pre .0 .1, ((λ z. c .before .before .before .before .before .before .before .before .before .before .before .before .pre .1 (c .asks2 .ensures .1 (omega (arith, z, c .asks2 .ensures .0)))), (leads-begins _ _ _ (c .before .before .before .before .before .before .before .before .before .before .before .before .pre .0 .1) _ (c .before .before .before .before .before .before .before .before .before .before .before .before .pre .0 .2) (c .before .before .before .before .before .before .sound-step .ensures) (c .before .before .before .before .step3 .given .1) (omega (arith, c .asks2 .ensures .0)), λ z. absurd (omega (arith, z, c .asks2 .ensures .0)))))
+carry-out-requires-2 c κs = (c .before .before .before .before .before .before .before .before .before .before .before .before .pre .0 .1, ((λ z. c .before .before .before .before .before .before .before .before .before .before .before .before .pre .1 (c .asks2 .ensures .1 (omega (arith, z, c .asks2 .ensures .0)))), (leads-begins _ _ _ (c .before .before .before .before .before .before .before .before .before .before .before .before .pre .0 .1) _ (c .before .before .before .before .before .before .before .before .before .before .before .before .pre .0 .2) (c .before .before .before .before .before .before .sound-step .ensures) _ (c .before .before .before .before .step3 .given .1) (omega (arith, c .asks2 .ensures .0)), λ z. absurd (omega (arith, z, c .asks2 .ensures .0)))))
 
 enum-known-step-4 : tie.Need-enum-known-step-4
 enum-known-step-4 c = search needs
@@ -72,7 +72,7 @@ add-carry-out-2 : tie.Need-add-carry-out-2
 add-carry-out-2 c = search needs
 
 carry-out-requires-3 : tie.Need-carry-out-requires-3
-carry-out-requires-3 c κs = (c .before .before .before .before .before .before .before .before .before .before .before .before .pre .0 .1, ((λ z. c .before .before .before .before .before .before .before .before .before .before .before .before .pre .1 (c .asks3 .ensures .1 (omega (arith, z, c .asks3 .ensures .0)))), (leads-again _ _ _ (c .before .before .before .before .before .before .before .before .before .before .before .before .pre .0 .1) _ (c .before .before .before .before .before .before .before .before .before .before .before .before .pre .0 .2) (c .before .before .before .before .before .before .sound-step .ensures) (c .before .before .before .before .step4 .given .1) (omega (arith, c .asks3 .ensures .0)), λ z. absurd (omega (arith, z, c .asks3 .ensures .0)))))
+carry-out-requires-3 c κs = (c .before .before .before .before .before .before .before .before .before .before .before .before .pre .0 .1, ((λ z. c .before .before .before .before .before .before .before .before .before .before .before .before .pre .1 (c .asks3 .ensures .1 (omega (arith, z, c .asks3 .ensures .0)))), (leads-again _ _ _ (c .before .before .before .before .before .before .before .before .before .before .before .before .pre .0 .1) _ (c .before .before .before .before .before .before .before .before .before .before .before .before .pre .0 .2) (c .before .before .before .before .before .before .sound-step .ensures) _ (c .before .before .before .before .step4 .given .1) (omega (arith, c .asks3 .ensures .0)), λ z. absurd (omega (arith, z, c .asks3 .ensures .0)))))
 
 same-length : tie.Need-same-length
 same-length c = search needs
