@@ -3,7 +3,7 @@
 --   free-place, high-version, high-last, none-held, of-lengths   a place
 --   free-first, keys-alike   a pair
 --   all-four      the record
---   all-asked, all-in      all of the numbers, as a part of themselves
+--   all, all-asked, all-in      all of the numbers, as a part of themselves
 use mathlib.Core.Path.{_≡_, refl, sym, ap, _∙_}
 use mathlib.Core.Bool.{Bool, true, false, not, _&&_, _||_}
 use mathlib.Core.List.{List}
@@ -168,7 +168,7 @@ all-four words e f g h i j k l m n =
 
 -- all of the numbers, lent as a part of themselves
 module _ (words : List ℕ) where
-  all : part words 0 (length words - 0) ≡ words
+  pub all : part words 0 (length words - 0) ≡ words
   all = ap (part words 0) (let n : length words - 0 ≡ length words = omega arith in n) ∙ part-whole words
 
   pub all-asked : {r : Bool} → r ≡ spoiledOf (shelfAt (part words 0 (length words - 0))) → r ≡ spoiledOf (shelfAt words)

@@ -1,11 +1,12 @@
 -- What an offer leaves, told in a number, by what the code found: a store of another size, a spoiled record, or the step.
---   spoiled, unspoiled             the answer of a call that writes nothing
---   no-store, no-record, settled   a call that writes nothing, whole
+--   spoiled, unspoiled                         the answer of a call that writes nothing
+--   no-store, no-count, all-spoiled, refused-lent, settled     a call that writes nothing, whole
+--   leads-adds, leads-again, leads-begins, leads-nowhere       the step that was found is the one that the writing goes by
 --   wrote-added, wrote-begun, wrote-again      a call that writes
 use mathlib.Core.Path.{_≡_, refl, sym, ap, _∙_}
 use mathlib.Core.List.{List}
 use mathlib.Core.Bool.{Bool, true, false}
-use Prim.Native.Nat.{ℕ, _-_, _/_, _%_}
+use Prim.Native.Nat.{ℕ, _/_, _%_}
 use native.Mathlib.Omega.{arith}
 use lib.Dec.{eqb}
 use lib.ListN.{length}
@@ -16,8 +17,6 @@ use Rattle.base.proofs.Cases.{by, unlike}
 use Rattle.answers.specs.Answers.{lent}
 use Rattle.berth.specs.Berth.{storeSize}
 use Rattle.berth.specs.Calls.{putIn, wipedWhereIn}
-use Rattle.base.specs.Bytes.{part}
-use Rattle.base.proofs.Bytes.{part-whole}
 use Rattle.section.specs.Section.{readOf, headerOf}
 use Rattle.section.specs.declared.Header.{Header}
 use Rattle.section.specs.declared.Reading.{Reading}
@@ -50,10 +49,6 @@ spoiled answer s e = rw s e
 abbrev is-sound : Reading → Bool
 is-sound (reading.Sound h) = true
 is-sound (reading.Refused n) = false
-
--- all of the payload, as a part of itself
-pub all-of : (payload : List ℕ) → part payload 0 (length payload - 0) ≡ payload
-all-of payload = ap (part payload 0) (let n : length payload - 0 ≡ length payload = omega arith in n) ∙ part-whole payload
 
 by-adds : (what p : ℕ) → what ≡ 3 → stepBy what p ≡ Adds p
 unfolding stepBy

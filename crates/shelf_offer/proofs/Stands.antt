@@ -1,12 +1,11 @@
 -- The calls on berths, at a berth of a whole store and with bytes that go into it.
 --   put-at, wiped-at, stands-at, stood      what each call does there
 --   other-length                            bytes of another length do not stand there
---   length-read                             a length that was read at a section's number
 use mathlib.Core.Path.{_≡_, refl, sym, ap, _∙_}
 use mathlib.Core.List.{List}
 use mathlib.Core.Bool.{Bool, true, false}
 use Prim.Native.Nat.{ℕ, _<_, _≤_}
-use lib.ListN.{length, getD}
+use lib.ListN.{length}
 use borrow.Author.Tests.{eq-eqb, ne-eqb, lt-ltb, le-leb}
 use Rattle.base.specs.Bytes.{same}
 use Rattle.berth.specs.Berth.{berthSize, storeSize, places, sections, put, wipedWhere, standing}
@@ -49,6 +48,3 @@ module _ (store : List ℕ) (p : ℕ) (w : length store ≡ storeSize) (l : p < 
     pub other-length : (held : ℕ) (bytes : List ℕ) → held ≤ berthSize → (held ≡ length bytes → ⊥) → same (standing store p n held) bytes ≡ false
     unfolding same
     other-length held bytes h d = rw (standing-length store w p n l m held h, ne-eqb held (length bytes) d)
-
-pub length-read : (lengths : List ℕ) {n m count : ℕ} → n ≡ m → count ≡ getD lengths n 0 → count ≡ getD lengths m 0
-length-read lengths e h = rw e at h

@@ -61,11 +61,6 @@ module _ (place : Place) (store payload : List ℕ) (p : ℕ) (h : Header) (v : 
 
 -- a key that was looked for: the place is the one that was found
 module _ (shelf : Shelf) (store payload : List ℕ) (h : Header) {p : ℕ} (e : p ≡ placeOf shelf (keyOf h)) where
-  pub held-most : spoiledOf shelf ≡ false → p < places → (n : ℕ) → n < sections → lengthAt (placeAt shelf p) n ≤ berthSize
-  held-most s l n m =
-      let l' : placeOf shelf (keyOf h) < places = omega (arith, e, l) in
-      rw e (sound-place shelf s (placeOf shelf (keyOf h)) l' (place-taken shelf (keyOf h) l') .most n m)
-
   pub sound-held : {r : Step} → p < places → r ≡ heldStep (placeAt shelf p) store payload p h → r ≡ soundStep shelf store payload h
   unfolding soundStep
   sound-held l q = q ∙ rw (← e, ne-eqb p places (λ z. omega arith))

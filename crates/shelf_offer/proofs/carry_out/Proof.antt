@@ -2,7 +2,7 @@
 use mathlib.Core.Path.{_≡_, sym, ap, subst, _∙_}
 use denote.Ref.{now}
 use Rattle.shelf_offer.specs.Answer.{offerLent}
-use Rattle.shelf_offer.proofs.Left.{all-of}
+use Rattle.shelf_check.proofs.Whole.{all}
 use borrow.Author.Needs.{needs}
 use Rattle.shelf_offer.proofs.carry_out.Statement.{statement}
 use Rattle.shelf_offer.proofs.carry_out.Tie as tie
@@ -20,7 +20,7 @@ part-section-end : tie.Need-part-section-end
 part-section-end c = search needs
 
 carried-requires : tie.Need-carried-requires
-carried-requires c κs = let a = c .before .before .before .before .before .before .args in (c .before .before .before .before .before .before .pre .0, (c .before .before .before .before .before .before .pre .1 .0, rw (all-of (now (a .payload))) (c .before .before .before .before .before .before .pre .1 .1)))
+carried-requires c κs = let a = c .before .before .before .before .before .before .args in (c .before .before .before .before .before .before .pre .0, (c .before .before .before .before .before .before .pre .1 .0, rw (all (now (a .payload))) (c .before .before .before .before .before .before .pre .1 .1)))
 
 same-length : tie.Need-same-length
 same-length c = search needs
@@ -29,7 +29,7 @@ same-length-2 : tie.Need-same-length-2
 same-length-2 c = search needs
 
 returns : tie.Need-returns
-returns c = let a = c .before .before .before .before .before .before .before .before .before .before .before .args in c .before .before .before .before .carried .ensures ∙ ap (offerLent (now (a .words)) (now (a .store))) (all-of (now (a .payload)))
+returns c = let a = c .before .before .before .before .before .before .before .before .before .before .before .args in c .before .before .before .before .carried .ensures ∙ ap (offerLent (now (a .words)) (now (a .store))) (all (now (a .payload)))
 
 pub carry-out-spec : {M : Type 1} → statement M
 carry-out-spec =
