@@ -2,8 +2,9 @@
 --   at-count, spoiled-count       84 numbers are the record that is read in them; any other count is spoiled
 --   place-at, taken-at            a place of the record is a place of the numbers
 --   length-in, length-at, held-at the lengths of a taken place
---   key-at, key-told, free-told   what a search looks at
---   among-place, among-free, among-version, among-last, among-length   what is found in 84 numbers
+--   key-told, free-told           what a search looks at
+--   among-place, among-free, among-key, among-version, among-last, among-length   what is found in 84 numbers
+--   key-at                        a key's number is that of its place
 use mathlib.Core.Path.{_≡_, refl, sym, ap, _∙_}
 use mathlib.Core.Bool.{Bool, true, false, not, _&&_}
 use mathlib.Core.List.{List}
@@ -14,12 +15,12 @@ use lib.ListN.{length, getD}
 use borrow.Author.Tests.{eq-eqb, ne-eqb, eqb-true, eqb-false, le-ltb, lt-ltb, ltb-true, ltb-false}
 use Rattle.base.specs.Below.{some}
 use Rattle.base.specs.Choice.{if_then_else_}
-use Rattle.base.proofs.Cases.{by, unlike}
+use Rattle.base.proofs.Cases.{by, unlike, and-left, and-right}
 use Rattle.shelf.specs.Record.{Place, Shelf, lengthAt, holds, spoiledPlace, spoiledOf, placeAt, freePlace, fresh, hasKey, placeOf, freeOf}
 use Rattle.shelf.specs.declared.Key.{Key}
 use Rattle.base.specs.Bits.{bit}
-use Rattle.shelf.specs.Layout.{heldLength, lengthIn, lengthsIn, tableIn, takenIn, placeIn, shelfIn, shelfAt, noRecord}
-use Rattle.shelf.specs.Calls.{hasPlace, hasSection, placeAmong, freeAmong, versionAmong, lastAmong, maskAmong, lengthAmong}
+use Rattle.shelf.specs.Layout.{keyNumber, numberFor, heldLength, lengthIn, lengthsIn, tableIn, takenIn, placeIn, shelfIn, shelfAt, noRecord}
+use Rattle.shelf.specs.Calls.{hasPlace, hasSection, keyAmong, placeAmong, freeAmong, versionAmong, lastAmong, maskAmong, lengthAmong}
 use Rattle.shelf.proofs.Lists.{getD-listed}
 
 -- 84 numbers, or none
@@ -80,39 +81,20 @@ no-both true true h = absurd (h refl refl)
 no-both true false h = refl
 no-both false b h = refl
 
-off : (b : Bool) → b && false ≡ false
-off true = refl
-off false = refl
-
--- a head that begins with 256 + t is that of a taken place with table id t
-whole : (h t : ℕ) → t < 256 → eqb h (256 + t) ≡ eqb (h / 256) 1 && eqb (h % 256) t
-whole h t l =
-    by (eqb h (256 + t))
-    (λ e.
-    let q : h ≡ 256 + t = eqb-true _ _ e in
-    rw (e, eq-eqb (h / 256) 1 (omega arith), eq-eqb (h % 256) t (omega arith)))
-    (λ e. rw e (sym (no-both (eqb (h / 256) 1) (eqb (h % 256) t) (λ a b. eqb-false h (256 + t) e (omega (arith, eqb-true (h / 256) 1 a, eqb-true (h % 256) t b))))))
-
-and-swap : (a b : Bool) → a && b ≡ b && a
-and-swap true true = refl
-and-swap true false = refl
-and-swap false true = refl
-and-swap false false = refl
-
-pub key-at :
-    (words : List ℕ)
-    (p first : ℕ)
-    (key : Key)
-    → key .table < 256
-    → first ≡ 256 + key .table
-    → eqb (getD words (65 + 4 * p) 0) (key .extension) && eqb (getD words (64 + 4 * p) 0) first
-    ≡ hasKey (placeIn words p) key
-unfolding hasKey placeIn tableIn
-key-at words p first key h e =
-    rw (e, whole (getD words (64 + 4 * p) 0) (key .table) h)
-    (by (takenIn words p)
-    (λ t. rw t (and-swap (eqb (getD words (65 + 4 * p) 0) (key .extension)) (eqb (getD words (64 + 4 * p) 0 % 256) (key .table))))
-    (λ t. rw t (off (eqb (getD words (65 + 4 * p) 0) (key .extension)))))
+-- the two numbers of a head as one are a key's where the place is taken by that table
+two-parts : (a b t e : ℕ) → a < 65536 → t < 256 → eqb (a + 65536 * b) (256 + t + 65536 * e) ≡ eqb (a / 256) 1 && (eqb (a % 256) t && eqb b e)
+two-parts a b t e h l =
+    by (eqb (a + 65536 * b) (256 + t + 65536 * e))
+    (λ q.
+    let q' : a + 65536 * b ≡ 256 + t + 65536 * e = eqb-true _ _ q in
+    rw (q, eq-eqb (a / 256) 1 (omega arith), eq-eqb (a % 256) t (omega arith), eq-eqb b e (omega arith)))
+    (λ q.
+    rw q
+    (sym
+    (no-both (eqb (a / 256) 1) (eqb (a % 256) t && eqb b e)
+    (λ i k.
+    eqb-false (a + 65536 * b) (256 + t + 65536 * e) q
+    (omega (arith, eqb-true (a / 256) 1 i, eqb-true (a % 256) t (and-left (eqb (a % 256) t) (eqb b e) k), eqb-true b e (and-right (eqb (a % 256) t) (eqb b e) k)))))))
 
 -- what a search is told of place p
 pub key-told :
@@ -171,6 +153,26 @@ module _ (words : List ℕ) (p : ℕ) (fits : length words ≡ 84) (hp : p < 4) 
   pub among-length : (n : ℕ) → n < 16 → lengthAmong words p n ≡ lengthIn words p n
   unfolding lengthAmong
   among-length n h = rw (has-section n h)
+
+  pub among-key : keyAmong words p ≡ keyNumber words p
+  unfolding keyAmong
+  among-key = rw has-place
+
+  pub key-summed : {a b : ℕ} → a ≡ getD words (64 + 4 * p) 0 → b ≡ getD words (65 + 4 * p) 0 → a + 65536 * b ≡ keyAmong words p
+  key-summed e f = rw (e, f, among-key)
+
+  pub key-at :
+      {m n : ℕ}
+      (key : Key)
+      → key .table < 256
+      → getD words (64 + 4 * p) 0 < 65536
+      → m ≡ keyAmong words p
+      → n ≡ numberFor key
+      → eqb m n ≡ hasKey (placeIn words p) key
+  unfolding hasKey placeIn tableIn
+  key-at key t h i k =
+      rw (i, among-key, k, two-parts (getD words (64 + 4 * p) 0) (getD words (65 + 4 * p) 0) (key .table) (key .extension) h t)
+      (by (takenIn words p) (λ t. rw t) (λ t. rw t))
 
 -- what was read in the numbers, against what a section says
 module _ (words : List ℕ) (p : ℕ) (fits : length words ≡ 84) (hp : p < 4) (t : takenIn words p ≡ true) where

@@ -9,7 +9,7 @@ use Rattle.base.specs.Choice.{if_then_else_}
 use Rattle.berth.specs.Berth.{sections, places}
 use Rattle.shelf.specs.declared.Key.{Key}
 use Rattle.shelf.specs.Record.{placeOf, freeOf}
-use Rattle.shelf.specs.Layout.{count, atVersion, atLast, atMask, listed, lengthIn, shelfIn}
+use Rattle.shelf.specs.Layout.{count, keyNumber, atVersion, atLast, atMask, listed, lengthIn, shelfIn}
 
 -- so many numbers are a record, and it has place p
 abbrev pub hasPlace : ℕ → ℕ → Bool
@@ -25,6 +25,9 @@ placeAmong words key = if eqb (length words) count then placeOf (shelfIn words) 
 
 unfoldable pub freeAmong : List ℕ → ℕ
 freeAmong words = if eqb (length words) count then freeOf (shelfIn words) else places
+
+unfoldable pub keyAmong : List ℕ → ℕ → ℕ
+keyAmong words p = if hasPlace (length words) p then keyNumber words p else 0
 
 unfoldable pub versionAmong : List ℕ → ℕ → ℕ
 versionAmong words p = if hasPlace (length words) p then getD words (atVersion p) 0 else 0

@@ -74,6 +74,13 @@ tableIn words p =
 abbrev pub takenIn : List ℕ → ℕ → Bool
 takenIn words p = eqb (getD words (atTable p) 0 / 256) 1
 
+-- the first two numbers of a head as one; they are these where the table with a key is in the place
+abbrev pub keyNumber : List ℕ → ℕ → ℕ
+keyNumber words p = getD words (atTable p) 0 + 65536 * getD words (atExtension p) 0
+
+abbrev pub numberFor : Key → ℕ
+numberFor key = 256 + key .table + 65536 * key .extension
+
 unfoldable pub placeIn : List ℕ → ℕ → Place
 placeIn words p = if takenIn words p then tableIn words p else freePlace
 

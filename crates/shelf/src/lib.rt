@@ -10,8 +10,8 @@ ghost use lib.ListN.{length, getD};
 ghost use Rattle.berth.specs.Berth.{places, sections};
 ghost use Rattle.shelf.specs.Record.{keyOf, hasKey};
 ghost use Rattle.base.specs.Bits.{bit};
-ghost use Rattle.shelf.specs.Layout.{count, heldLength, placeIn};
-ghost use Rattle.shelf.specs.Calls.{placeAmong, freeAmong, versionAmong, lastAmong, maskAmong, lengthAmong, lengthsAmong};
+ghost use Rattle.shelf.specs.Layout.{count, heldLength, placeIn, numberFor};
+ghost use Rattle.shelf.specs.Calls.{keyAmong, placeAmong, freeAmong, versionAmong, lastAmong, maskAmong, lengthAmong, lengthsAmong};
 
 // What tells one table from another.
 pub struct Key {
@@ -53,13 +53,42 @@ fn half(x: u8) -> u16
     x as u16
 }
 
-// Whether the table with that key is in place p. The table id is compared together with the sign that the place is taken.
+fn full(x: u16) -> u32
+    ensures { λ r. ⌜ (r ≡ x) × (r < 65536) ⌝ }
+{
+    x as u32
+}
+
+// The first two numbers of the head of place p as one. They tell one table from another, and whether the place is taken.
+pub fn key_number(words: &[u16], p: usize) -> u32
+    ensures { λ r. ⌜ r ≡ keyAmong (now (words .entry)) p ⌝ }
+{
+    if words.len() != WORDS {
+        return 0;
+    }
+    if PLACES <= p {
+        return 0;
+    }
+    let table = full(words[HEADS + HEAD * p]);
+    let extension = full(words[HEADS + 1 + HEAD * p]);
+    table + 65536 * extension
+}
+
+// That number where a table with that key is in the place.
+fn number_for(key: Key) -> u32
+    ensures { λ r. ⌜ (r ≡ numberFor key) × (key .table < 256) ⌝ }
+{
+    let table = full(TAKEN + half(key.table));
+    let extension = full(key.extension);
+    table + 65536 * extension
+}
+
+// Whether the table with that key is in place p.
 fn has_key(words: &[u16], p: usize, key: Key) -> bool
     requires { ⌜ (length (now words) ≡ count) × (p < places) ⌝ }
     ensures { λ r. ⌜ r ≡ hasKey (placeIn (now (words .entry)) p) key ⌝ }
 {
-    let first = TAKEN + half(key.table);
-    (words[HEADS + 1 + HEAD * p] == key.extension) & (words[HEADS + HEAD * p] == first)
+    key_number(words, p) == number_for(key)
 }
 
 // The place of a key, or 4 where it is not held.

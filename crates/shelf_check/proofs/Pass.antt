@@ -9,7 +9,8 @@ use lib.Dec.{eqb, leb}
 use lib.ListN.{getD}
 use borrow.Author.Tests.{leb-true, eqb-false, not-true, not-false}
 use Rattle.base.proofs.Cases.{same-or, and-left, and-right, or-left, or-right}
-use Rattle.shelf_check.specs.Fine.{FineColumn, FineColumns, FineHeads, NoneAbove, OneHeld, keyNumber}
+use Rattle.shelf_check.specs.Fine.{FineColumn, FineColumns, FineHeads, NoneAbove, OneHeld}
+use Rattle.shelf.specs.Layout.{keyNumber}
 
 module _ (words : List ℕ) where
   -- a top of at most 1,016 says that the first i columns are fine

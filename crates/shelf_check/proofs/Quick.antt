@@ -19,7 +19,8 @@ use Rattle.base.specs.Bits.{bit}
 use Rattle.shelf.specs.Layout.{tableIn, takenIn, placeIn, shelfIn}
 use Rattle.base.proofs.Bits.{none-above, one-set}
 use Rattle.shelf.proofs.Numbers.{length-in}
-use Rattle.shelf_check.specs.Fine.{FineLength, FineColumns, FineHeads, NoneAbove, OneHeld, keyNumber}
+use Rattle.shelf_check.specs.Fine.{FineLength, FineColumns, FineHeads, NoneAbove, OneHeld}
+use Rattle.shelf.specs.Layout.{keyNumber}
 use Rattle.shelf_check.proofs.Four.{some-four, pairs}
 
 -- sixteen lengths

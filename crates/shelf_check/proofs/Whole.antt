@@ -24,7 +24,7 @@ use Rattle.shelf.specs.Layout.{tableIn, takenIn, placeIn, shelfIn, shelfAt}
 use Rattle.shelf.specs.Calls.{lengthAmong, lastAmong, versionAmong}
 use Rattle.base.proofs.Bits.{one-set}
 use Rattle.shelf.proofs.Numbers.{length-in, held-at, among-length, among-last, among-version, at-count, no-both}
-use Rattle.shelf_check.specs.Fine.{keyNumber}
+use Rattle.shelf.specs.Layout.{keyNumber}
 use Rattle.shelf_check.proofs.Four.{some-four, pairs}
 
 last-of : (words : List ℕ) (p n : ℕ) → n < 16 → ltb (tableIn words p .last) n ≡ ltb (getD words (67 + 4 * p) 0) n

@@ -5,7 +5,7 @@ use mathlib.Core.Path.{_≡_}
 use mathlib.Core.List.{List, [], _∷_}
 use lib.ListN.{getD}
 use Rattle.berth.specs.Berth.{berthSize, places}
-use Rattle.shelf.specs.Layout.{heads, atLength, atTable, atExtension, atLast, atMask}
+use Rattle.shelf.specs.Layout.{heads, atLength, atLast, atMask, keyNumber}
 
 -- the most that each number of the heads may be
 abbrev pub most : List ℕ
@@ -37,10 +37,6 @@ pub record NoneAbove (words : List ℕ) (p : ℕ) : Type 0 where
 pub record OneHeld (words : List ℕ) (p : ℕ) : Type 0 where
   pub some : getD words (atMask p) 0 ≡ 0 → ⊥
   pub fits : getD words (atMask p) 0 < 65536
-
--- the first two numbers of a head as one
-abbrev pub keyNumber : List ℕ → ℕ → ℕ
-keyNumber words p = getD words (atTable p) 0 + 65536 * getD words (atExtension p) 0
 
 -- in each place something is held and nothing above last, and no two heads begin alike
 pub record FineHeads (words : List ℕ) : Type 0 where

@@ -14,7 +14,7 @@ ghost use Rattle.berth.specs.Berth.{places, sections};
 ghost use Rattle.base.specs.Below.{some};
 ghost use Rattle.shelf.specs.Record.{wrongAt, spoiledPlace, alike, spoiledOf};
 ghost use Rattle.shelf.specs.Layout.{count, tableIn, placeIn, shelfIn, shelfAt};
-ghost use Rattle.shelf_check.specs.Fine.{FineColumns, FineHeads, fromLast, NoneAbove, OneHeld, keyNumber};
+ghost use Rattle.shelf_check.specs.Fine.{FineColumns, FineHeads, fromLast, NoneAbove, OneHeld};
 
 // 18 is for a version above 31, a last above 15, and a length outside 8 to 1,024.
 const HIGHEST_VERSION: u16 = 31;
@@ -143,24 +143,16 @@ fn is_empty(words: &[u16], p: usize) -> bool
     words[MASKS + p] == 0
 }
 
-// The first two numbers of a head as one.
-fn key_number(words: &[u16], p: usize) -> u32
-    requires { ⌜ (length (now words) ≡ count) × (p < places) ⌝ }
-    ensures { λ r. ⌜ r ≡ keyNumber (now (words .entry)) p ⌝ }
-{
-    full(words[HEADS + HEAD * p]) + 65536 * full(words[HEADS + 1 + HEAD * p])
-}
-
 // Whether the heads and the masks pass: in each place something is held and nothing above last, and no two heads begin alike. One
 // chain of tests with no way out in between, which the compiler makes of conditional compares and no branches.
 fn heads_pass(words: &[u16]) -> bool
     requires { ⌜ length (now words) ≡ count ⌝ }
     ensures { λ r. ⌜ (r ≡ true → FineHeads (now (words .entry))) ⌝ }
 {
-    let first = key_number(words, 0);
-    let second = key_number(words, 1);
-    let third = key_number(words, 2);
-    let fourth = key_number(words, 3);
+    let first = shelf::key_number(words, 0);
+    let second = shelf::key_number(words, 1);
+    let third = shelf::key_number(words, 2);
+    let fourth = shelf::key_number(words, 3);
     let masks_stop = (((!none_above(words) | is_empty(words, 0)) | is_empty(words, 1))
         | is_empty(words, 2))
         | is_empty(words, 3);
@@ -239,7 +231,7 @@ fn one_key(words: &[u16], p: usize, q: usize) -> bool
     if words[HEADS + HEAD * p] / 256 != 1 {
         return false;
     }
-    key_number(words, p) == key_number(words, q)
+    shelf::key_number(words, p) == shelf::key_number(words, q)
 }
 
 // Whether the record is spoiled, place by place and pair by pair.

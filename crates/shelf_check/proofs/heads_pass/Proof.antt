@@ -1,5 +1,7 @@
 -- `shelf_check::heads_pass` meets its promise: no link of its chain stops the pass.
 use Rattle.shelf_check.proofs.Pass.{heads-fine}
+use mathlib.Core.Path.{_∙_}
+use Rattle.shelf.proofs.Numbers.{among-key}
 use borrow.Author.Needs.{needs}
 use Rattle.shelf_check.proofs.heads_pass.Statement.{statement}
 use Rattle.shelf_check.proofs.heads_pass.Tie as tie
@@ -39,10 +41,10 @@ returns c =
     (c .before .before .is-empty2 .ensures)
     (c .before .is-empty3 .ensures)
     (c .is-empty4 .ensures)
-    (c .before .before .before .before .before .before .before .before .key-number .ensures)
-    (c .before .before .before .before .before .before .before .key-number2 .ensures)
-    (c .before .before .before .before .before .before .key-number3 .ensures)
-    (c .before .before .before .before .before .key-number4 .ensures)
+    (c .before .before .before .before .before .before .before .before .key-number .ensures ∙ among-key _ 0 (search needs) (search needs))
+    (c .before .before .before .before .before .before .before .key-number2 .ensures ∙ among-key _ 1 (search needs) (search needs))
+    (c .before .before .before .before .before .before .key-number3 .ensures ∙ among-key _ 2 (search needs) (search needs))
+    (c .before .before .before .before .before .key-number4 .ensures ∙ among-key _ 3 (search needs) (search needs))
 
 pub heads-pass-spec : {M : Type 1} → statement M
 heads-pass-spec =

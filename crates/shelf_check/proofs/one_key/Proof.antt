@@ -2,12 +2,14 @@ use Prim.Native.Nat.{_+_, _*_}
 use native.Mathlib.Omega.{arith}
 -- `shelf_check::one_key` meets its promise: the first place is free, or the heads are compared.
 use Rattle.shelf_check.proofs.Whole.{free-first, keys-alike}
+use mathlib.Core.Path.{_∙_}
+use Rattle.shelf.proofs.Numbers.{among-key}
 use borrow.Author.Needs.{needs}
 use Rattle.shelf_check.proofs.one_key.Statement.{statement}
 use Rattle.shelf_check.proofs.one_key.Tie as tie
 use Rattle.shelf_check.proofs.one_key.Reads as reads
 use Rattle.shelf_check.proofs.one_key.Lts as lts
-use Rattle.shelf_check.proofs.key_number.Reads as key-number-reads
+use Rattle.shelf.proofs.key_number.Reads as key-number-reads
 
 mul-if1 : tie.Need-mul-if1
 mul-if1 c = search needs
@@ -31,7 +33,7 @@ key-number-requires-2 : tie.Need-key-number-requires-2
 key-number-requires-2 c κs = search needs
 
 returns-2 : tie.Need-returns-2
-returns-2 c = keys-alike _ _ _ (c .before .before .if1 .left) (omega (arith, c .before .before .before .shared-slice-known2 .given (64 + 4 * c .before .before .before .before .before .args .p))) (omega (arith, c .before .before .before .shared-slice-known2 .given (64 + 4 * c .before .before .before .before .before .args .q))) (c .before .key-number .ensures) (c .key-number2 .ensures)
+returns-2 c = keys-alike _ _ _ (c .before .before .if1 .left) (omega (arith, c .before .before .before .shared-slice-known2 .given (64 + 4 * c .before .before .before .before .before .args .p))) (omega (arith, c .before .before .before .shared-slice-known2 .given (64 + 4 * c .before .before .before .before .before .args .q))) (c .before .key-number .ensures ∙ among-key _ _ (search needs) (search needs)) (c .key-number2 .ensures ∙ among-key _ _ (search needs) (search needs))
 
 pub one-key-spec : {M : Type 1} → statement M
 one-key-spec =
