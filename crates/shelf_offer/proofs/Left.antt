@@ -1,16 +1,16 @@
 -- What an offer leaves, told in a number, by what the code found: a store of another size, a spoiled record, or the step.
 --   spoiled, unspoiled                         the answer of a call that writes nothing
 --   no-store, no-count, all-spoiled, refused-lent, settled     a call that writes nothing, whole
---   leads-adds, leads-again, leads-begins, leads-nowhere       the step that was found is the one that the writing goes by
---   wrote-added, wrote-begun, wrote-again      a call that writes
+--   settles, leads, leads-nowhere           the step that was found is the one that the writing goes by
+--   wrote-added, wrote-begun                   a call that writes
 use mathlib.Core.Path.{_≡_, refl, sym, ap, _∙_}
 use mathlib.Core.List.{List}
 use mathlib.Core.Bool.{Bool, true, false}
-use Prim.Native.Nat.{ℕ, _/_, _%_}
+use Prim.Native.Nat.{ℕ, _+_, _*_, _/_, _%_, _<_, _≤_}
 use native.Mathlib.Omega.{arith}
 use lib.Dec.{eqb}
 use lib.ListN.{length}
-use borrow.Author.Tests.{eq-eqb, ne-eqb}
+use borrow.Author.Tests.{eq-eqb, ne-eqb, eqb-true, eqb-false}
 use Rattle.base.specs.Choice.{if_then_else_}
 use Rattle.base.specs.Bits.{bit}
 use Rattle.base.proofs.Cases.{by, unlike}
@@ -25,26 +25,25 @@ use Rattle.section.proofs.Laws.{sound-facts}
 use Rattle.shelf.specs.Record.{Shelf, keyOf, spoiledOf}
 use Rattle.shelf.specs.declared.Key.{Key}
 use Rattle.shelf.specs.Layout.{shelfAt}
-use Rattle.shelf.specs.Calls.{maskAmong}
 use Rattle.shelf.proofs.Numbers.{no-record}
 use Rattle.shelf_write.specs.Calls.{heldPut, headPut}
 use Rattle.shelf_offer.specs.declared.Offered.{Offered}
 use Rattle.shelf_offer.specs.declared.Step.{Step}
 use Rattle.shelf_offer.specs.declared.Step.the-variants.{Refuse, Repeats, Begins, BeginsAgain, Adds}
-use Rattle.shelf_offer.specs.Steps.{soundStep, stepOf, stepBy, unlessSpoiled}
+use Rattle.shelf_offer.specs.Steps.{soundStep, stepOf, stepBy, whatBy, placeBy, answerBy, goingBy, begunBy, unlessSpoiled}
 use Rattle.shelf_offer.specs.On.{leaving, offerOn}
 use Rattle.shelf_offer.specs.Answer.{offeredCode, offerLent}
-use Rattle.shelf_offer.proofs.On.{refused, added, began, began-again}
+use Rattle.shelf_offer.proofs.On.{repeated, refused, added, began, began-again}
 use Rattle.shelf_offer.proofs.Steps.{step-sound}
 use Rattle.shelf_offer.proofs.Told.{told}
 
-pub unspoiled : {code : ℕ} {b : Bool} (answer : Offered) → b ≡ false → code ≡ offeredCode answer → code ≡ offeredCode (unlessSpoiled b answer)
+pub unspoiled : {b : Bool} (number : ℕ) → b ≡ false → number ≡ unlessSpoiled b number
 unfolding unlessSpoiled
-unspoiled answer s e = rw s e
+unspoiled number s = rw s
 
-pub spoiled : {code : ℕ} {b : Bool} (answer : Offered) → b ≡ true → code ≡ offeredCode (Offered.Refused 18) → code ≡ offeredCode (unlessSpoiled b answer)
+pub spoiled : {code : ℕ} {b : Bool} (number : ℕ) → b ≡ true → code ≡ 18 → code ≡ unlessSpoiled b number
 unfolding unlessSpoiled
-spoiled answer s e = rw s e
+spoiled number s e = rw s e
 
 abbrev is-sound : Reading → Bool
 is-sound (reading.Sound h) = true
@@ -62,12 +61,28 @@ by-begins : (what p : ℕ) → (what ≡ 3 → ⊥) → (what ≡ 2 → ⊥) →
 unfolding stepBy
 by-begins what p d e = rw (ne-eqb what 3 d, ne-eqb what 2 e)
 
--- the number of a section that is added
-pub numbered : (payload : List ℕ) (what : ℕ) (header : Header) → readOf payload ≡ reading.Sound header → what / 2 % 16 ≡ header .number → what / 256 ≡ 3
-    → (readOf payload ≡ reading.Sound (headerOf payload)) × (what / 2 % 16 ≡ headerOf payload .number)
-numbered payload what header e q i =
-    let h = sound-facts payload header e .header in
-    (e ∙ ap reading.Sound h, q ∙ ap (λ x. x .number) h)
+-- what a step writes says which step it is, which number it adds, and in bit 0 nothing
+module _ (n k : ℕ) (l : n < 16) (m : k ≤ 1) where
+  by-what : (r : Step) → (whatBy r n ≡ 0 → ⊥) → r ≡ stepBy ((whatBy r n + k) / 256) (placeBy r)
+  by-what (Refuse x) d = absurd (d refl)
+  by-what Repeats d = absurd (d refl)
+  by-what (Begins p) d = sym (by-begins ((256 + k) / 256) p (λ z. omega (arith, m, z)) (λ z. omega (arith, m, z)))
+  by-what (BeginsAgain p) d = sym (by-again ((512 + k) / 256) p (omega (arith, m)))
+  by-what (Adds p) d = sym (by-adds ((768 + 2 * n + k) / 256) p (omega (arith, l, m)))
+
+  number-by : (r : Step) → (whatBy r n + k) / 256 ≡ 3 → (whatBy r n + k) / 2 % 16 ≡ n
+  number-by (Refuse x) e = absurd (omega (arith, m, e))
+  number-by Repeats e = absurd (omega (arith, m, e))
+  number-by (Begins p) e = absurd (omega (arith, m, e))
+  number-by (BeginsAgain p) e = absurd (omega (arith, m, e))
+  number-by (Adds p) e = omega (arith, l, m)
+
+  asked-by : (r : Step) → (whatBy r n + k) % 2 ≡ 0 → k ≡ 0
+  asked-by (Refuse x) e = omega (arith, m, e)
+  asked-by Repeats e = omega (arith, m, e)
+  asked-by (Begins p) e = omega (arith, m, e)
+  asked-by (BeginsAgain p) e = omega (arith, m, e)
+  asked-by (Adds p) e = omega (arith, m, e)
 
 module _ (words store payload : List ℕ) where
   abbrev shelf : Shelf
@@ -90,38 +105,69 @@ module _ (words store payload : List ℕ) where
   pub no-count : {code : ℕ} → length store ≡ storeSize → (length words ≡ 84 → ⊥) → code ≡ offeredCode (Offered.Refused 18) → lent code words store ≡ offerLent words store payload
   no-count w d e = all-spoiled w (no-record words d) e
 
-  pub settled :
-      {code : ℕ}
+  settled :
+      {code number : ℕ}
       (answer : Offered)
       → length store ≡ storeSize
-      → code ≡ offeredCode (unlessSpoiled (spoiledOf shelf) answer)
+      → number ≡ offeredCode answer
+      → code ≡ unlessSpoiled (spoiledOf shelf) number
       → (spoiledOf shelf ≡ false → leaving answer words store ≡ offerOn words store payload)
       → lent code words store ≡ offerLent words store payload
   unfolding unlessSpoiled
-  settled answer w e f =
+  settled answer w q e f =
       by (spoiledOf shelf)
       (λ s. all-spoiled w s (rw s at e))
-      (λ s. told words store payload (f s) (rw s at e))
+      (λ s. told words store payload (f s) ((rw s at e) ∙ q))
 
   pub refused-lent : {code : ℕ} (n : ℕ) → stepOf shelf store payload ≡ Refuse n → code ≡ offeredCode (Offered.Refused n) → lent code words store ≡ offerLent words store payload
   refused-lent n s e = told words store payload (refused words store payload n s) e
+
+  -- a step that writes nothing leaves all as it was
+  still : (r : Step) (n : ℕ) → whatBy r n ≡ 0 → stepOf shelf store payload ≡ r → leaving (answerBy r) words store ≡ offerOn words store payload
+  still (Refuse x) n z e = refused words store payload x e
+  still Repeats n z e = repeated words store payload e
+  still (Begins p) n z e = absurd (omega (arith, z))
+  still (BeginsAgain p) n z e = absurd (omega (arith, z))
+  still (Adds p) n z e = absurd (omega (arith, z))
 
   -- the step that was found is the one that the writing goes by
   module _ (w : length store ≡ storeSize) (header : Header) (e : readOf payload ≡ reading.Sound header) {r : Step} (f : spoiledOf shelf ≡ false → r ≡ soundStep shelf store payload header) where
     pub step-found : {t : Step} → r ≡ t → spoiledOf shelf ≡ false → stepOf shelf store payload ≡ t
     step-found q u = sym (step-sound shelf store payload w u header e (f u)) ∙ q
 
-    abbrev Leads : ℕ → ℕ → Type 0
-    Leads what p = (h : Header) → readOf payload ≡ reading.Sound h → spoiledOf shelf ≡ false → stepOf shelf store payload ≡ stepBy what p
+    module _ {what : ℕ} (i : what ≡ whatBy r (header .number)) where
+      -- it settles the offer
+      pub settles :
+          {code number : ℕ}
+          {answer : Offered}
+          → answer ≡ answerBy r
+          → number ≡ offeredCode answer
+          → what ≡ 0
+          → code ≡ unlessSpoiled (spoiledOf shelf) number
+          → lent code words store ≡ offerLent words store payload
+      settles {answer = answer} a q z c =
+          settled answer w q c (λ u. ap (λ x. leaving x words store) a ∙ still r (header .number) (sym i ∙ z) (step-found refl u))
 
-    pub leads-adds : {p : ℕ} (what : ℕ) → r ≡ Adds p → what ≡ 3 → Leads what p
-    leads-adds {p} what q i h j u = step-found q u ∙ sym (by-adds what p i)
-
-    pub leads-again : {p : ℕ} (what : ℕ) → r ≡ BeginsAgain p → what ≡ 2 → Leads what p
-    leads-again {p} what q i h j u = step-found q u ∙ sym (by-again what p i)
-
-    pub leads-begins : {p : ℕ} (what : ℕ) → r ≡ Begins p → what ≡ 1 → Leads what p
-    leads-begins {p} what q i h j u = step-found q u ∙ sym (by-begins what p (λ z. omega (arith, i, z)) (λ z. omega (arith, i, z)))
+      -- it is carried out: what is handed on says where and which, and whether the record has yet to be asked
+      pub leads :
+          {k p : ℕ}
+          → p ≡ placeBy r
+          → (what ≡ 0 → ⊥)
+          → k ≤ 1
+          → (k ≡ 0 → spoiledOf shelf ≡ false)
+          → ((what + k) % 2 ≡ 0 → spoiledOf shelf ≡ false)
+          × (((h : Header) → readOf payload ≡ reading.Sound h → spoiledOf shelf ≡ false → stepOf shelf store payload ≡ stepBy ((what + k) / 256) p)
+          × ((what + k) / 256 ≡ 3 → (readOf payload ≡ reading.Sound (headerOf payload)) × ((what + k) / 2 % 16 ≡ headerOf payload .number)))
+      leads {k} {p} q d m s =
+          let g = sound-facts payload header e in
+          let n = header .number in
+          let l : n < 16 = omega (arith, g .number, g .last) in (
+            λ z. s (asked-by n k l m r (let z' : (whatBy r n + k) % 2 ≡ 0 = rw i at z in z')),
+            (
+              (λ h j u. step-found refl u ∙ by-what n k l m r (λ z. d (i ∙ z)) ∙ rw (i, q)),
+              λ z. (e ∙ ap reading.Sound (g .header), rw i (number-by n k l m r (let z' : (whatBy r n + k) / 256 ≡ 3 = rw i at z in z')) ∙ ap (λ x. x .number) (g .header)),
+            ),
+          )
 
   -- a payload that is not sound leads nowhere
   pub leads-nowhere : (what p : ℕ) {n : ℕ} → readOf payload ≡ reading.Refused n → (h : Header) → readOf payload ≡ reading.Sound h → spoiledOf shelf ≡ false → stepOf shelf store payload ≡ stepBy what p
@@ -141,32 +187,29 @@ module _ (words store payload : List ℕ) where
 
     module _ (h : Header) (g : h ≡ headerOf payload) where
       pub wrote-begun :
-          {n code : ℕ}
-          {key : Key}
-          {left head kept : List ℕ}
-          → (what ≡ 3 → ⊥)
-          → (what ≡ 2 → ⊥)
-          → n ≡ h .number
-          → key ≡ keyOf h
-          → head ≡ headPut words p key (h .version) (h .last)
-          → kept ≡ heldPut head p n (length payload)
-          → left ≡ putIn store p n payload
-          → code ≡ offeredCode Offered.Began
-          → lent code kept left ≡ offerLent words store payload
-      wrote-begun d e m q i k l c = told words store payload (began words store payload p (s ∙ by-begins what p d e) (rw g at m) (rw g at q) (rw g at i) k l) c
-
-      pub wrote-again :
           {n mask code : ℕ}
           {key : Key}
+          {answer : Offered}
           {left head kept wiped : List ℕ}
-          → what ≡ 2
+          → (what ≡ 3 → ⊥)
           → n ≡ h .number
           → key ≡ keyOf h
           → head ≡ headPut words p key (h .version) (h .last)
-          → mask ≡ maskAmong words p
+          → mask ≡ goingBy words p what
           → wiped ≡ wipedWhereIn (bit mask) store p
           → kept ≡ heldPut head p n (length payload)
           → left ≡ putIn wiped p n payload
-          → code ≡ offeredCode Offered.BeganAgain
+          → answer ≡ begunBy what
+          → code ≡ offeredCode answer
           → lent code kept left ≡ offerLent words store payload
-      wrote-again e m q i j v k l c = told words store payload (began-again words store payload p (s ∙ by-again what p e) (rw g at m) (rw g at q) (rw g at i) j v k l) c
+      unfolding goingBy begunBy
+      wrote-begun d m q i j v k l a c =
+          by (eqb what 2)
+          (λ t.
+          told words store payload
+          (began-again words store payload p (s ∙ by-again what p (eqb-true what 2 t)) (rw g at m) (rw g at q) (rw g at i) (rw t at j) v k l)
+          (c ∙ ap offeredCode (rw t at a)))
+          (λ t.
+          told words store payload
+          (began words store payload p (s ∙ by-begins what p d (eqb-false what 2 t)) (rw g at m) (rw g at q) (rw g at i) (rw t at j) v k l)
+          (c ∙ ap offeredCode (rw t at a)))

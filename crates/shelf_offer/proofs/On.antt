@@ -32,7 +32,7 @@ use Rattle.shelf_offer.specs.declared.Step.the-variants.{Refuse, Repeats
 use Rattle.shelf_offer.specs.Offer.{begunPlace, offerOf}
 use Rattle.shelf_offer.specs.Steps.{stepOf, done, written}
 use Rattle.shelf_offer.specs.On.{Leaving, leaving, begunWords, wordsBy, offerOn}
-use Rattle.shelf_offer.proofs.Stands.{put-at, wiped-at}
+use Rattle.shelf_offer.proofs.Stands.{put-at, wiped-at, wiped-none}
 use Rattle.shelf_offer.proofs.Steps.{InRange, Held, Fits, step-done, step-fits}
 
 -- a taken place of the record is one of the numbers
@@ -149,18 +149,24 @@ module _ (words store payload : List ℕ) where
         held-left head m w f k ∙ ap (λ v. heldIn v p (h .number) size) e
 
     pub began :
-        {n : ℕ}
+        {n mask : ℕ}
         {key : Key}
-        {left head kept : List ℕ}
+        {left head kept wiped : List ℕ}
         → stepOf shelf store payload ≡ Begins p
         → n ≡ h .number
         → key ≡ keyOf h
         → head ≡ headPut words p key (h .version) (h .last)
+        → mask ≡ 0
+        → wiped ≡ wipedWhereIn (bit mask) store p
         → kept ≡ heldPut head p n size
-        → left ≡ putIn store p n payload
+        → left ≡ putIn wiped p n payload
         → leaving Offered.Began kept left ≡ offerOn words store payload
     unfolding done written
-    began e m q d k s = let f = begins-fit e in decided e (rw (begun-left m q d f k, put-left store m (f .whole) f s))
+    began {wiped = wiped} e m q d i v k s =
+        let f = begins-fit e in
+        let v' : wiped ≡ store = v ∙ ap (λ x. wipedWhereIn (bit x) store p) i ∙ wiped-none store p (f .whole) (f .place) in
+        let w : length wiped ≡ storeSize = ap length v' ∙ f .whole in
+        decided e (rw (begun-left m q d f k, put-left wiped m w f s, v'))
 
     pub began-again :
         {n mask : ℕ}

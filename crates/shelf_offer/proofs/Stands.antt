@@ -1,21 +1,38 @@
 -- The calls on berths, at a berth of a whole store and with bytes that go into it.
---   put-at, wiped-at, stands-at, stood      what each call does there
+--   put-at, wiped-at, wiped-none, stands-at, stood      what each call does there
 --   other-length                            bytes of another length do not stand there
 use mathlib.Core.Path.{_≡_, refl, sym, ap, _∙_}
 use mathlib.Core.List.{List}
 use mathlib.Core.Bool.{Bool, true, false}
-use Prim.Native.Nat.{ℕ, _<_, _≤_}
+use Prim.Native.Nat.{ℕ, zero, suc, _<_, _≤_}
+use native.Mathlib.Omega.{arith}
+use lib.Pow.{pow-pos}
 use lib.ListN.{length}
 use borrow.Author.Tests.{eq-eqb, ne-eqb, lt-ltb, le-leb}
+use Rattle.base.specs.Bits.{bit}
 use Rattle.base.specs.Bytes.{same}
+use Rattle.base.proofs.Bits.{set-big}
+use Rattle.base.proofs.Cases.{by}
 use Rattle.berth.specs.Berth.{berthSize, storeSize, places, sections, put, wipedWhere, standing}
 use Rattle.berth.proofs.Berths.{standing-length}
 use Rattle.berth.specs.Calls.{isPlace, isBerth, goesIn, putIn, wipedWhereIn, standsIn}
+
+no-bit : (k : ℕ) → bit 0 k ≡ false
+no-bit k = by (bit 0 k) (λ t. absurd (omega (arith, set-big 0 k t, pow-pos k))) (λ f. f)
 
 module _ (store : List ℕ) (p : ℕ) (w : length store ≡ storeSize) (l : p < places) where
   pub wiped-at : (picks : ℕ → Bool) → wipedWhereIn picks store p ≡ wipedWhere picks sections store p
   unfolding wipedWhereIn isPlace
   wiped-at picks = rw (eq-eqb (length store) storeSize w, lt-ltb p places l)
+
+  none-picked : (k : ℕ) → wipedWhere (bit 0) k store p ≡ store
+  unfolding wipedWhere
+  none-picked zero = refl
+  none-picked (suc k) = rw (no-bit k) (none-picked k)
+
+  -- a mask without bits picks no berth
+  pub wiped-none : wipedWhereIn (bit 0) store p ≡ store
+  wiped-none = wiped-at (bit 0) ∙ none-picked sections
 
   module _ (n : ℕ) (m : n < sections) where
     pub put-at : (bytes : List ℕ) → length bytes ≤ berthSize → putIn store p n bytes ≡ put store p n bytes

@@ -1,6 +1,6 @@
 -- Offering in two parts, as the code goes about it: the step that an offer comes to, and what is then done. `Offer` and `On` have the whole; laws say
 -- that it is these two.
-use Prim.Native.Nat.{ℕ}
+use Prim.Native.Nat.{ℕ, _+_, _*_}
 use mathlib.Core.List.{List}
 use mathlib.Core.Bool.{Bool, not}
 use lib.Dec.{eqb}
@@ -20,6 +20,7 @@ use Rattle.shelf_offer.specs.declared.Step.{Step}
 use Rattle.shelf_offer.specs.declared.Step.the-variants.{Refuse, Repeats, Begins, BeginsAgain, Adds}
 use Rattle.shelf_offer.specs.Offer.{After, begunPlace, addedPlace, no}
 use Rattle.shelf.specs.Record.{keyOf}
+use Rattle.shelf.specs.Calls.{maskAmong}
 use Rattle.shelf_write.specs.Writes.{heldIn}
 use Rattle.shelf_offer.specs.On.{begunWords}
 
@@ -81,10 +82,40 @@ written words payload (Begins p) = begunWords words p (headerOf payload) (length
 written words payload (BeginsAgain p) = begunWords words p (headerOf payload) (length payload)
 written words payload (Adds p) = heldIn words p (headerOf payload .number) (length payload)
 
+-- the answer of a step, and the place that it writes in
+abbrev pub answerBy : Step → Offered
+answerBy (Refuse n) = Offered.Refused n
+answerBy Repeats = Offered.Repeat
+answerBy (Begins p) = Offered.Began
+answerBy (BeginsAgain p) = Offered.BeganAgain
+answerBy (Adds p) = Offered.Added
+
+abbrev pub placeBy : Step → ℕ
+placeBy (Refuse n) = 0
+placeBy Repeats = 0
+placeBy (Begins p) = p
+placeBy (BeginsAgain p) = p
+placeBy (Adds p) = p
+
+-- what a step writes, as one number: from bit 8 up the case of its answer, from bit 1 up the number of a section that is added; 0 where it writes nothing
+abbrev pub whatBy : Step → ℕ → ℕ
+whatBy (Refuse n) number = 0
+whatBy Repeats number = 0
+whatBy (Begins p) number = 256
+whatBy (BeginsAgain p) number = 512
+whatBy (Adds p) number = 768 + 2 * number
+
 -- the step that writes, by the case of its answer: 3 adds, 2 begins again, else it begins
 unfoldable pub stepBy : ℕ → ℕ → Step
 stepBy what p = if eqb what 3 then Adds p else if eqb what 2 then BeginsAgain p else Begins p
 
--- an answer of a record, which is refused where that is spoiled
-unfoldable pub unlessSpoiled : Bool → Offered → Offered
-unlessSpoiled spoiled answer = if spoiled then Offered.Refused 18 else answer
+-- of a table that begins, by that case: the held sections that give way, as bits, and the answer
+unfoldable pub goingBy : List ℕ → ℕ → ℕ → ℕ
+goingBy words p what = if eqb what 2 then maskAmong words p else 0
+
+unfoldable pub begunBy : ℕ → Offered
+begunBy what = if eqb what 2 then Offered.BeganAgain else Offered.Began
+
+-- the number of an answer, which is 18 where the record is spoiled
+unfoldable pub unlessSpoiled : Bool → ℕ → ℕ
+unlessSpoiled spoiled number = if spoiled then 18 else number

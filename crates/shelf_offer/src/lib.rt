@@ -13,7 +13,7 @@ ghost use Rattle.section.specs.declared.Reading.the-variants.{Sound};
 ghost use Rattle.shelf.specs.Record.{placeAt, spoiledOf};
 ghost use Rattle.shelf.specs.Layout.{count, takenIn, shelfIn, shelfAt};
 ghost use Rattle.shelf_write.specs.Calls.{heldPut};
-ghost use Rattle.shelf_offer.specs.Steps.{heldStep, soundStep, stepOf, stepBy, unlessSpoiled};
+ghost use Rattle.shelf_offer.specs.Steps.{heldStep, soundStep, stepOf, stepBy, whatBy, placeBy, answerBy, goingBy, begunBy, unlessSpoiled};
 ghost use Rattle.answers.specs.Answers.{lent};
 ghost use Rattle.shelf_offer.specs.Answer.{offeredCode, offerLent};
 
@@ -156,15 +156,35 @@ fn spoiled(words: &[u16], passed: bool) -> bool
     shelf_check::is_spoiled(words)
 }
 
-// The answer of an offer that writes nothing.
-fn settle(words: &[u16], passed: bool, answer: Offered) -> u16
+// The answer of an offer that writes nothing, which is that number where the record is not spoiled.
+fn settle(words: &[u16], passed: bool, number: u16) -> u16
     requires { ⌜ (passed ≡ true → spoiledOf (shelfAt (now words)) ≡ false) ⌝ }
-    ensures { λ r. ⌜ r ≡ offeredCode (unlessSpoiled (spoiledOf (shelfAt (now (words .entry)))) answer) ⌝ }
+    ensures { λ r. ⌜ r ≡ unlessSpoiled (spoiledOf (shelfAt (now (words .entry)))) number ⌝ }
 {
     if spoiled(words, passed) {
         return code_of(Offered::Refused(shelf::SHELF_SPOILED));
     }
-    code_of(answer)
+    number
+}
+
+// The held sections that give way where a table begins: all, where it begins again.
+fn going(words: &[u16], p: usize, what: u16) -> u16
+    ensures { λ r. ⌜ r ≡ goingBy (now (words .entry)) p what ⌝ }
+{
+    if what == BEGINS_AGAIN {
+        return shelf::mask_of(words, p);
+    }
+    0
+}
+
+// What is answered then.
+fn begun(what: u16) -> Offered
+    ensures { λ r. ⌜ r ≡ begunBy what ⌝ }
+{
+    if what == BEGINS_AGAIN {
+        return Offered::BeganAgain;
+    }
+    Offered::Began
 }
 
 // Begins a table in a record that is not spoiled, or begins it again.
@@ -180,15 +200,10 @@ fn begin(
     requires { ⌜ (length (now payload) ≤ berthSize) × (what ≡ 3 → ⊥) × (header ≡ headerOf (now payload)) × (stepOf (shelfAt (now words)) (now store) (now payload) ≡ stepBy what p) ⌝ }
     ensures { λ r. ⌜ lent r (now (words .exit)) (now (store .exit)) ≡ offerLent (now (words .entry)) (now (store .entry)) (now (payload .entry)) ⌝ }
 {
-    if what == BEGINS_AGAIN {
-        berth::wipe_where(store, p, shelf::mask_of(words, p));
-        shelf_write::put_head(words, p, shelf::key_of(header), header.version, header.last);
-        add(words, store, payload, p, wide8(header.number));
-        return code_of(Offered::BeganAgain);
-    }
+    berth::wipe_where(store, p, going(words, p, what));
     shelf_write::put_head(words, p, shelf::key_of(header), header.version, header.last);
     add(words, store, payload, p, wide8(header.number));
-    code_of(Offered::Began)
+    code_of(begun(what))
 }
 
 // What is not a repeat, whole. `what` is one number: bit 0 is 1 where the record has yet to be asked, the number of a section that is added
@@ -233,6 +248,45 @@ fn asks(passed: bool) -> u16
     if passed { 0 } else { 1 }
 }
 
+// The rest of `what`, which is 0 where a step writes nothing.
+fn what_by(step: Step, number: u8) -> u16
+    ensures { λ r. ⌜ (r ≡ whatBy step number) × (r < 1280) ⌝ }
+{
+    match step {
+        Step::Repeats => 0,
+        Step::Refuse(_) => 0,
+        Step::Begins(_) => BEGAN,
+        Step::BeginsAgain(_) => BEGAN_AGAIN,
+        Step::Adds(_) => ADDED + 2 * half(number),
+    }
+}
+
+// The place that a step writes in.
+fn place_by(step: Step) -> usize
+    ensures { λ r. ⌜ r ≡ placeBy step ⌝ }
+{
+    match step {
+        Step::Repeats => 0,
+        Step::Refuse(_) => 0,
+        Step::Begins(p) => p,
+        Step::BeginsAgain(p) => p,
+        Step::Adds(p) => p,
+    }
+}
+
+// The answer of a step.
+fn answer_by(step: Step) -> Offered
+    ensures { λ r. ⌜ r ≡ answerBy step ⌝ }
+{
+    match step {
+        Step::Repeats => Offered::Repeat,
+        Step::Refuse(number) => Offered::Refused(number),
+        Step::Begins(_) => Offered::Began,
+        Step::BeginsAgain(_) => Offered::BeganAgain,
+        Step::Adds(_) => Offered::Added,
+    }
+}
+
 // Offers a sound section.
 fn offer_sound(
     words: &mut [u16],
@@ -246,16 +300,11 @@ fn offer_sound(
     ensures { λ r. ⌜ lent r (now (words .exit)) (now (store .exit)) ≡ offerLent (now (words .entry)) (now (store .entry)) (now (payload .entry)) ⌝ }
 {
     let step = sound_step(words, store, payload, header);
-    match step {
-        Step::Repeats => settle(words, passed, Offered::Repeat),
-        Step::Refuse(number) => settle(words, passed, Offered::Refused(number)),
-        Step::Adds(p) => {
-            let what = ADDED + 2 * half(header.number) + asks(passed);
-            carry_out(words, store, payload, p, what)
-        }
-        Step::Begins(p) => carry_out(words, store, payload, p, BEGAN + asks(passed)),
-        Step::BeginsAgain(p) => carry_out(words, store, payload, p, BEGAN_AGAIN + asks(passed)),
+    let what = what_by(step, header.number);
+    if what == 0 {
+        return settle(words, passed, code_of(answer_by(step)));
     }
+    carry_out(words, store, payload, place_by(step), what + asks(passed))
 }
 
 // Offers a payload to the record that the numbers are, and answers in a number whose low 8 bits are the refusal. A refused call and a
