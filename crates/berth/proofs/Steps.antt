@@ -1,5 +1,5 @@
 -- What the steps of the code come to.
---   gather, same-other, same-more, same-end       a difference is gathered byte by byte
+--   xor-same, or-both, gather, same-other, same-more, same-end       a difference is gathered byte by byte
 --   filled, wiped-back, put-back, viewed          a part is filled, comes back to the store, is looked at
 --   has-place, has-berth, is-place, is-berth      what the tests for a place and for a berth say
 --   wiped-done, put-done, stands-done, copied-done, seen-length      a call that names a berth
@@ -27,24 +27,29 @@ use Rattle.base.specs.Bits.{bit}
 use Rattle.base.proofs.Cases.{by, and-left, and-right}
 use Rattle.base.proofs.Below.{every-next, every-each}
 
-pub xor-none : (x y : ℕ) → bitXor x y ≡ 0 → x ≡ y
+xor-none : (x y : ℕ) → bitXor x y ≡ 0 → x ≡ y
 xor-none x y e = omega (arith, xor-add-and x y, and-le-l x y, and-le-r x y, e)
 
-or-none : (d x : ℕ) → bitOr d x ≡ 0 → (d ≡ 0) × (x ≡ 0)
-or-none d x e = omega (arith, or-add-and d x, and-le-l d x, and-le-r d x, e)
+or-none : (d x : ℕ) → bitOr d x ≡ 0 → d ≡ 0
+or-none d x e = omega (arith, or-add-and d x, and-le-r d x, e)
+
+-- two bytes differ in no bit exactly when they are equal
+pub xor-same : (x y : ℕ) → eqb (bitXor x y) 0 ≡ eqb x y
+xor-same x y =
+    by (eqb x y)
+    (λ t. rw (t, eqb-true x y t, xor-self y))
+    (λ f. rw (f, ne-eqb (bitXor x y) 0 (λ z. eqb-false x y f (xor-none x y z))))
+
+-- two differences have no bit exactly when neither has one
+pub or-both : (a b : ℕ) → eqb (bitOr a b) 0 ≡ eqb a 0 && eqb b 0
+or-both a b =
+    by (eqb a 0)
+    (λ t. rw (t, eqb-true a 0 t, or-zero-l b))
+    (λ f. rw (f, ne-eqb (bitOr a b) 0 (λ z. eqb-false a 0 f (or-none a b z))))
 
 -- no difference yet and none here
 pub gather : (d x y : ℕ) → eqb (bitOr d (bitXor x y)) 0 ≡ eqb d 0 && eqb x y
-gather d x y =
-    by (eqb (bitOr d (bitXor x y)) 0)
-    (λ t.
-    let z = or-none d (bitXor x y) (eqb-true (bitOr d (bitXor x y)) 0 t) in
-    rw (t, eq-eqb d 0 (z .0), eq-eqb x y (xor-none x y (z .1))))
-    (λ f. by (eqb d 0)
-    (λ t. by (eqb x y)
-    (λ u. absurd (eqb-false (bitOr d (bitXor x y)) 0 f (rw (eqb-true d 0 t, eqb-true x y u) (or-zero-l (bitXor y y) ∙ xor-self y))))
-    (λ u. rw (f, t, u)))
-    (λ t. rw (f, t)))
+gather d x y = or-both d (bitXor x y) ∙ rw (xor-same x y)
 
 pub filled : (whole now : List ℕ) (i : ℕ) → i ≤ length whole → length whole ≤ i → now ≡ replicate i 0 ++ drop i whole → now ≡ zeros (length whole)
 unfolding zeros

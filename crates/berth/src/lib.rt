@@ -72,27 +72,51 @@ fn each_equal(a: &[u8], b: &[u8]) -> bool
 // The bytes of a piece that is compared at once.
 const PIECE: usize = 64;
 
-fn most(a: u8, b: u8) -> u8
+// The bytes of a piece of the shortest sections, which have at least as many.
+const SHORT_PIECE: usize = 8;
+
+// Two differences as one, which is none exactly when both are. Of a short piece every bit is kept, so that the compiler compares
+// the 8 bytes as one number; of any other the greater, which it finds of many bytes at a time.
+fn gathered(a: u8, b: u8, piece: usize) -> u8
     ensures { λ r. ⌜ eqb r 0 ≡ (eqb a 0 && eqb b 0) ⌝ }
 {
+    if piece == SHORT_PIECE {
+        return a | b;
+    }
     if a < b { b } else { a }
 }
 
-// The greatest difference of the 64 bytes from a place on, which the compiler finds in a few wide steps.
-fn difference_from(a: &[u8], b: &[u8], from: usize) -> u8
-    requires { ⌜ (from + 64 ≤ length (now a)) × (from + 64 ≤ length (now b)) ⌝ }
-    ensures { λ r. ⌜ eqb r 0 ≡ every 64 (λ k. eqb (byte (now (a .entry)) (from + k)) (byte (now (b .entry)) (from + k))) ⌝ }
+// The difference of the bytes of a piece from a place on, which the compiler finds in a few wide steps.
+fn difference_from(a: &[u8], b: &[u8], from: usize, piece: usize) -> u8
+    requires { ⌜ (from + piece ≤ length (now a)) × (from + piece ≤ length (now b)) ⌝ }
+    ensures { λ r. ⌜ eqb r 0 ≡ every piece (λ k. eqb (byte (now (a .entry)) (from + k)) (byte (now (b .entry)) (from + k))) ⌝ }
 {
     let mut difference = 0u8;
     let mut i: usize = 0;
-    while i < PIECE {
-        difference = most(difference, a[from + i] ^ b[from + i]);
+    while i < piece {
+        difference = gathered(difference, a[from + i] ^ b[from + i], piece);
         i += 1;
     }
     difference
 }
 
-// Whether two runs of bytes are the same throughout. From 64 to 128 bytes are two pieces of 64, which may overlap.
+// Whether two runs of a piece's bytes, or up to twice as many, are the same throughout. They are two pieces, which may overlap:
+// the last is compared, and then the first, unless they are one and the same.
+fn by_pieces(a: &[u8], b: &[u8], piece: usize) -> bool
+    requires { ⌜ (length (now a) ≡ length (now b)) × (piece ≤ length (now a)) × (length (now a) ≤ piece + piece) ⌝ }
+    ensures { λ r. ⌜ r ≡ same (now (a .entry)) (now (b .entry)) ⌝ }
+{
+    let size = a.len();
+    if difference_from(a, b, size - piece, piece) != 0 {
+        return false;
+    }
+    if size == piece {
+        return true;
+    }
+    difference_from(a, b, 0, piece) == 0
+}
+
+// Whether two runs of bytes are the same throughout. From 64 to 128 bytes are two pieces of 64, and from 8 to 16 two of 8.
 fn equal(a: &[u8], b: &[u8]) -> bool
     ensures { λ r. ⌜ r ≡ same (now (a .entry)) (now (b .entry)) ⌝ }
 {
@@ -100,19 +124,18 @@ fn equal(a: &[u8], b: &[u8]) -> bool
         return false;
     }
     let size = a.len();
-    if size < PIECE {
+    if PIECE <= size {
+        if size <= 2 * PIECE {
+            return by_pieces(a, b, PIECE);
+        }
         return each_equal(a, b);
     }
-    if 2 * PIECE < size {
-        return each_equal(a, b);
+    if SHORT_PIECE <= size {
+        if size <= 2 * SHORT_PIECE {
+            return by_pieces(a, b, SHORT_PIECE);
+        }
     }
-    if difference_from(a, b, size - PIECE) != 0 {
-        return false;
-    }
-    if size == PIECE {
-        return true;
-    }
-    difference_from(a, b, 0) == 0
+    each_equal(a, b)
 }
 
 // Zeroes size bytes from a place on.
