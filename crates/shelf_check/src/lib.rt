@@ -14,7 +14,10 @@ ghost use Rattle.berth.specs.Berth.{places, sections};
 ghost use Rattle.base.specs.Below.{some};
 ghost use Rattle.shelf.specs.Record.{wrongAt, spoiledPlace, alike, spoiledOf};
 ghost use Rattle.shelf.specs.Layout.{count, tableIn, placeIn, shelfIn, shelfAt};
+ghost use Rattle.shelf_check.specs.Unless.{unlessSpoiled};
 ghost use Rattle.shelf_check.specs.Fine.{FineColumns, FineHeads, fromLast, NoneAbove, OneHeld};
+
+const SPOILED: u16 = shelf::SHELF_SPOILED as u16;
 
 // 18 is for a version above 31, a last above 15, and a length outside 8 to 1,024.
 const HIGHEST_VERSION: u16 = 31;
@@ -259,23 +262,40 @@ fn in_full(words: &[u16]) -> bool
     each_asked(numbers)
 }
 
+// Whether the record that the numbers are is spoiled: by the pass, and where that does not say no, in full.
+fn is_bad(words: &[u16]) -> bool
+    ensures { λ r. ⌜ r ≡ spoiledOf (shelfAt (now (words .entry))) ⌝ }
+{
+    if words.len() != WORDS {
+        return in_full(words);
+    }
+    if heads_pass(words) & lengths_pass(words) {
+        return false;
+    }
+    in_full(words)
+}
+
+// The number, or 18 where the record that the numbers are is spoiled. A call that has its answer ends by this one, and so needs no frame.
+pub fn unless_spoiled(words: &[u16], number: u16) -> u16
+    ensures { λ r. ⌜ r ≡ unlessSpoiled (spoiledOf (shelfAt (now (words .entry)))) number ⌝ }
+{
+    let count = words.len();
+    let numbers = &words[0..count];
+    if is_bad(numbers) {
+        return SPOILED;
+    }
+    number
+}
+
 // Whether the record that the numbers are is spoiled. Any other count of numbers than 84 is.
 pub fn is_spoiled(words: &[u16]) -> bool
     ensures { λ r. ⌜ r ≡ spoiledOf (shelfAt (now (words .entry))) ⌝ }
 {
-    let count = words.len();
-    let numbers = &words[0..count];
-    if count != WORDS {
-        return in_full(numbers);
-    }
-    if heads_pass(numbers) & lengths_pass(numbers) {
-        return false;
-    }
-    in_full(numbers)
+    unless_spoiled(words, 0) != 0
 }
 
 // Whether one pass shows that the record is not spoiled. Numbers of a free place may stop it, so that its no says nothing.
-// is_spoiled asks the two parts by itself, so that the compiler can put them into both.
+// is_bad asks the two parts by itself, so that the compiler can put them into both.
 pub fn passes(words: &[u16]) -> bool
     ensures { λ r. ⌜ (r ≡ true → spoiledOf (shelfAt (now (words .entry))) ≡ false) ⌝ }
 {

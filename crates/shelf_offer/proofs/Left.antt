@@ -1,5 +1,4 @@
 -- What an offer leaves, told in a number, by what the code found: a store of another size, a spoiled record, or the step.
---   spoiled, unspoiled                         the answer of a call that writes nothing
 --   no-store, no-count, all-spoiled, refused-lent, settled     a call that writes nothing, whole
 --   settles, leads, leads-nowhere           the step that was found is the one that the writing goes by
 --   wrote-added, wrote-begun                   a call that writes
@@ -30,20 +29,13 @@ use Rattle.shelf_write.specs.Calls.{heldPut, headPut}
 use Rattle.shelf_offer.specs.declared.Offered.{Offered}
 use Rattle.shelf_offer.specs.declared.Step.{Step}
 use Rattle.shelf_offer.specs.declared.Step.the-variants.{Refuse, Repeats, Begins, BeginsAgain, Adds}
-use Rattle.shelf_offer.specs.Steps.{soundStep, stepOf, stepBy, whatBy, placeBy, answerBy, goingBy, begunBy, unlessSpoiled}
+use Rattle.shelf_offer.specs.Steps.{soundStep, stepOf, stepBy, whatBy, placeBy, answerBy, goingBy, begunBy}
+use Rattle.shelf_check.specs.Unless.{unlessSpoiled}
 use Rattle.shelf_offer.specs.On.{leaving, offerOn}
 use Rattle.shelf_offer.specs.Answer.{offeredCode, offerLent}
 use Rattle.shelf_offer.proofs.On.{repeated, refused, added, began, began-again}
 use Rattle.shelf_offer.proofs.Steps.{step-sound}
 use Rattle.shelf_offer.proofs.Told.{told}
-
-pub unspoiled : {b : Bool} (number : ℕ) → b ≡ false → number ≡ unlessSpoiled b number
-unfolding unlessSpoiled
-unspoiled number s = rw s
-
-pub spoiled : {code : ℕ} {b : Bool} (number : ℕ) → b ≡ true → code ≡ 18 → code ≡ unlessSpoiled b number
-unfolding unlessSpoiled
-spoiled number s e = rw s e
 
 abbrev is-sound : Reading → Bool
 is-sound (reading.Sound h) = true

@@ -1,5 +1,5 @@
--- Offering in two parts, as the code goes about it: the step that an offer comes to, and what is then done. `Offer` and `On` have the whole; laws say
--- that it is these two.
+-- Offering in two parts, as the code goes about it: the step that an offer comes to, and what is then done. `Offer` and `On` have the whole, and
+-- it is proved that the two parts are it (`step-done`, `decided`).
 use Prim.Native.Nat.{ℕ, _+_, _*_}
 use mathlib.Core.List.{List}
 use mathlib.Core.Bool.{Bool, not}
@@ -82,7 +82,7 @@ written words payload (Begins p) = begunWords words p (headerOf payload) (length
 written words payload (BeginsAgain p) = begunWords words p (headerOf payload) (length payload)
 written words payload (Adds p) = heldIn words p (headerOf payload .number) (length payload)
 
--- the answer of a step, and the place that it writes in
+-- the answer of a step, and the place that it writes in; 0 means nothing where it writes nothing
 abbrev pub answerBy : Step → Offered
 answerBy (Refuse n) = Offered.Refused n
 answerBy Repeats = Offered.Repeat
@@ -97,7 +97,8 @@ placeBy (Begins p) = p
 placeBy (BeginsAgain p) = p
 placeBy (Adds p) = p
 
--- what a step writes, as one number: from bit 8 up the case of its answer, from bit 1 up the number of a section that is added; 0 where it writes nothing
+-- what a step writes, as one number: the kind of its answer from bit 8 up, 1 began, 2 began again, 3 added; the number of a section that is added,
+-- which is at most 15, from bit 1 up; bit 0 is left for whether the record has yet to be asked. 0 where it writes nothing
 abbrev pub whatBy : Step → ℕ → ℕ
 whatBy (Refuse n) number = 0
 whatBy Repeats number = 0
@@ -105,17 +106,13 @@ whatBy (Begins p) number = 256
 whatBy (BeginsAgain p) number = 512
 whatBy (Adds p) number = 768 + 2 * number
 
--- the step that writes, by the case of its answer: 3 adds, 2 begins again, else it begins
+-- the step that writes, by the kind of its answer, which is whatBy / 256: 3 adds, 2 begins again, 1 begins. What writes nothing has no kind
 unfoldable pub stepBy : ℕ → ℕ → Step
-stepBy what p = if eqb what 3 then Adds p else if eqb what 2 then BeginsAgain p else Begins p
+stepBy kind p = if eqb kind 3 then Adds p else if eqb kind 2 then BeginsAgain p else Begins p
 
--- of a table that begins, by that case: the held sections that give way, as bits, and the answer
+-- of a table that begins, by that kind: the held sections that give way, as bits, and the answer
 unfoldable pub goingBy : List ℕ → ℕ → ℕ → ℕ
-goingBy words p what = if eqb what 2 then maskAmong words p else 0
+goingBy words p kind = if eqb kind 2 then maskAmong words p else 0
 
 unfoldable pub begunBy : ℕ → Offered
-begunBy what = if eqb what 2 then Offered.BeganAgain else Offered.Began
-
--- the number of an answer, which is 18 where the record is spoiled
-unfoldable pub unlessSpoiled : Bool → ℕ → ℕ
-unlessSpoiled spoiled number = if spoiled then 18 else number
+begunBy kind = if eqb kind 2 then Offered.BeganAgain else Offered.Began

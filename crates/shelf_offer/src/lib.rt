@@ -13,7 +13,8 @@ ghost use Rattle.section.specs.declared.Reading.the-variants.{Sound};
 ghost use Rattle.shelf.specs.Record.{placeAt, spoiledOf};
 ghost use Rattle.shelf.specs.Layout.{count, takenIn, shelfIn, shelfAt};
 ghost use Rattle.shelf_write.specs.Calls.{heldPut};
-ghost use Rattle.shelf_offer.specs.Steps.{heldStep, soundStep, stepOf, stepBy, whatBy, placeBy, answerBy, goingBy, begunBy, unlessSpoiled};
+ghost use Rattle.shelf_offer.specs.Steps.{heldStep, soundStep, stepOf, stepBy, whatBy, placeBy, answerBy, goingBy, begunBy};
+ghost use Rattle.shelf_check.specs.Unless.{unlessSpoiled};
 ghost use Rattle.answers.specs.Answers.{lent};
 ghost use Rattle.shelf_offer.specs.Answer.{offeredCode, offerLent};
 
@@ -116,14 +117,14 @@ fn add(words: &mut [u16], store: &mut [u8], payload: &[u8], p: usize, n: usize)
     berth::put(store, p, n, payload);
 }
 
-// The cases of an accepted offer.
+// The kinds of an offer that writes.
 const BEGINS: u16 = 1;
 
 const BEGINS_AGAIN: u16 = 2;
 
 const ADDS: u16 = 3;
 
-// The answers as numbers: the case from bit 8 up.
+// The answers as numbers: the kind from bit 8 up.
 const BEGAN: u16 = 256 * BEGINS;
 
 const BEGAN_AGAIN: u16 = 256 * BEGINS_AGAIN;
@@ -161,27 +162,27 @@ fn settle(words: &[u16], passed: bool, number: u16) -> u16
     requires { ⌜ (passed ≡ true → spoiledOf (shelfAt (now words)) ≡ false) ⌝ }
     ensures { λ r. ⌜ r ≡ unlessSpoiled (spoiledOf (shelfAt (now (words .entry)))) number ⌝ }
 {
-    if spoiled(words, passed) {
-        return code_of(Offered::Refused(shelf::SHELF_SPOILED));
+    if passed {
+        return number;
     }
-    number
+    shelf_check::unless_spoiled(words, number)
 }
 
 // The held sections that give way where a table begins: all, where it begins again.
-fn going(words: &[u16], p: usize, what: u16) -> u16
-    ensures { λ r. ⌜ r ≡ goingBy (now (words .entry)) p what ⌝ }
+fn going(words: &[u16], p: usize, kind: u16) -> u16
+    ensures { λ r. ⌜ r ≡ goingBy (now (words .entry)) p kind ⌝ }
 {
-    if what == BEGINS_AGAIN {
+    if kind == BEGINS_AGAIN {
         return shelf::mask_of(words, p);
     }
     0
 }
 
 // What is answered then.
-fn begun(what: u16) -> Offered
-    ensures { λ r. ⌜ r ≡ begunBy what ⌝ }
+fn begun(kind: u16) -> Offered
+    ensures { λ r. ⌜ r ≡ begunBy kind ⌝ }
 {
-    if what == BEGINS_AGAIN {
+    if kind == BEGINS_AGAIN {
         return Offered::BeganAgain;
     }
     Offered::Began
@@ -194,20 +195,20 @@ fn begin(
     payload: &[u8],
     header: Header,
     p: usize,
-    what: u16,
+    kind: u16,
 ) -> u16
     requires { ⌜ (length (now store) ≡ storeSize) × (spoiledOf (shelfAt (now words)) ≡ false) ⌝ }
-    requires { ⌜ (length (now payload) ≤ berthSize) × (what ≡ 3 → ⊥) × (header ≡ headerOf (now payload)) × (stepOf (shelfAt (now words)) (now store) (now payload) ≡ stepBy what p) ⌝ }
+    requires { ⌜ (length (now payload) ≤ berthSize) × (kind ≡ 3 → ⊥) × (header ≡ headerOf (now payload)) × (stepOf (shelfAt (now words)) (now store) (now payload) ≡ stepBy kind p) ⌝ }
     ensures { λ r. ⌜ lent r (now (words .exit)) (now (store .exit)) ≡ offerLent (now (words .entry)) (now (store .entry)) (now (payload .entry)) ⌝ }
 {
-    berth::wipe_where(store, p, going(words, p, what));
+    berth::wipe_where(store, p, going(words, p, kind));
     shelf_write::put_head(words, p, shelf::key_of(header), header.version, header.last);
     add(words, store, payload, p, wide8(header.number));
-    code_of(begun(what))
+    code_of(begun(kind))
 }
 
 // What is not a repeat, whole. `what` is one number: bit 0 is 1 where the record has yet to be asked, the number of a section that is added
-// stands from bit 1 up, and the case of the answer from bit 8 up.
+// stands from bit 1 up, and the kind of the answer from bit 8 up.
 fn carried(words: &mut [u16], store: &mut [u8], payload: &[u8], p: usize, what: u16) -> u16
     requires { ⌜ length (now store) ≡ storeSize ⌝ }
     requires { ⌜ (what % 2 ≡ 0 → spoiledOf (shelfAt (now words)) ≡ false) ⌝ }

@@ -1,0 +1,8 @@
+-- The number of an answer, by whether the record is spoiled.
+use Prim.Native.Nat.{ℕ}
+use mathlib.Core.Bool.{Bool}
+use Rattle.base.specs.Choice.{if_then_else_}
+
+-- 18 where it is, and that number where it is not
+unfoldable pub unlessSpoiled : Bool → ℕ → ℕ
+unlessSpoiled spoiled number = if spoiled then 18 else number
