@@ -21,14 +21,7 @@ pub const BIT_48: u64 = 281474976710656;
 // What a call answers that was done and has nothing else to tell.
 pub const DONE: u8 = 0;
 
-// A byte, as a number of refusal is one, in 16 bits.
-pub fn wide(n: u8) -> u16
-    ensures { λ r. ⌜ r ≡ n ⌝ }
-{
-    n as u16
-}
-
-// The same in 32 bits.
+// A byte, as a number of refusal is one, in 32 bits.
 pub fn wider(n: u8) -> u32
     ensures { λ r. ⌜ r ≡ n ⌝ }
 {

@@ -27,18 +27,12 @@ fn word_if(there: bool, word: u32) -> u32
     if there { word } else { 0 }
 }
 
-fn wide(x: u32) -> usize
-    ensures { λ r. ⌜ r ≡ x ⌝ }
-{
-    x as usize
-}
-
 // The words with one more behind those that are held, and with the states; the places past it are zeros. Where 32 are held the
 // words are as they were.
 pub fn hold(states: u32, h: Held, words: [u32; SIZE]) -> [u32; SIZE]
     ensures { λ r. ⌜ r ≡ holding states h words ⌝ }
 {
-    let n = wide(words[COUNT]);
+    let n = base::wide32(words[COUNT]);
     if HELD <= n {
         return words;
     }

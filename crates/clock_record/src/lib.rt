@@ -195,17 +195,11 @@ fn two_alike(n: usize, words: &[u32; SIZE]) -> bool
     two_same(n, &codes)
 }
 
-fn wide(x: u32) -> usize
-    ensures { λ r. ⌜ r ≡ x ⌝ }
-{
-    x as usize
-}
-
 // Whether a record is spoiled.
 pub fn is_spoiled(words: &[u32; SIZE]) -> bool
     ensures { λ r. ⌜ r ≡ spoiled (bookIn (now (words .entry))) ⌝ }
 {
-    let n = wide(words[COUNT]);
+    let n = base::wide32(words[COUNT]);
     if HELD < n {
         return true;
     }

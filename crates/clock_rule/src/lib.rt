@@ -73,24 +73,18 @@ fn act(action: Action, state: State) -> State
     RULE[i][j]
 }
 
-fn wide(x: u8) -> usize
-    ensures { λ r. ⌜ r ≡ x ⌝ }
-{
-    x as usize
-}
-
 // Whether there is no such application: they are numbered from 0.
 pub fn is_above(application: u8) -> bool
     ensures { λ r. ⌜ r ≡ above application ⌝ }
 {
-    APPLICATIONS <= wide(application)
+    APPLICATIONS <= base::wide8(application)
 }
 
 // The applications after an action on one of them. An action on none of them changes none.
 pub fn apply(apps: [App; APPLICATIONS], application: u8, action: Action) -> [App; APPLICATIONS]
     ensures { λ r. ⌜ r ≡ applied apps application action ⌝ }
 {
-    let at = wide(application);
+    let at = base::wide8(application);
     let mut next = apps;
     if at < APPLICATIONS {
         let app = next[at];

@@ -101,10 +101,10 @@ impl Text {
         requires { ⌜ self .size + 47 ≤ room ⌝ }
         ensures { λ r. ⌜ Grew (headLine h) 47 self r ⌝ }
     {
-        let table = self.field(b"table ", answers::wide(h.table));
+        let table = self.field(b"table ", base::half(h.table));
         let key = table.field(b" key ", h.extension);
-        let version = key.field(b" version ", answers::wide(h.version));
-        let last = version.field(b" last ", answers::wide(h.last));
+        let version = key.field(b" version ", base::half(h.version));
+        let last = version.field(b" last ", base::half(h.last));
         last.byte(NEWLINE)
     }
 
@@ -137,7 +137,7 @@ impl Text {
         requires { ⌜ self .size + 14 ≤ room ⌝ }
         ensures { λ r. ⌜ Grew (refusedLine n) 14 self r ⌝ }
     {
-        let refused = self.field(b"refused ", answers::wide(n));
+        let refused = self.field(b"refused ", base::half(n));
         refused.byte(NEWLINE)
     }
     // The line of one section, where the file holds it.
@@ -151,7 +151,7 @@ impl Text {
         if length == 0 {
             return self;
         }
-        self.section_line(answers::wide(n), length)
+        self.section_line(base::half(n), length)
     }
 
     // The line of one number that the file lacks.
@@ -163,7 +163,7 @@ impl Text {
         let at = n as usize;
         let length = lengths[at];
         if length == 0 {
-            return self.missing_line(answers::wide(n));
+            return self.missing_line(base::half(n));
         }
         self
     }

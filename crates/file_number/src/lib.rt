@@ -39,7 +39,7 @@ pub fn read_number(file: &[u8], at: usize) -> Number
     let low = file[at];
     let second = at + 1;
     if low < GROUP {
-        let value = answers::wide(low);
+        let value = base::half(low);
         return Number::Value(value, second);
     }
     if end <= second {
@@ -51,7 +51,7 @@ pub fn read_number(file: &[u8], at: usize) -> Number
     }
     let third = second + 1;
     if middle < GROUP {
-        let value = answers::wide(low % GROUP) + answers::wide(middle) * SECOND;
+        let value = base::half(low % GROUP) + base::half(middle) * SECOND;
         return Number::Value(value, third);
     }
     if end <= third {
@@ -64,9 +64,9 @@ pub fn read_number(file: &[u8], at: usize) -> Number
     if HIGHEST_THIRD < high {
         return Number::Refused(BAD_NUMBER);
     }
-    let value = answers::wide(low % GROUP)
-        + answers::wide(middle % GROUP) * SECOND
-        + answers::wide(high) * THIRD;
+    let value = base::half(low % GROUP)
+        + base::half(middle % GROUP) * SECOND
+        + base::half(high) * THIRD;
     let next = third + 1;
     Number::Value(value, next)
 }

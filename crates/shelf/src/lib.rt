@@ -47,18 +47,6 @@ pub const WORDS: usize = MASKS + PLACES;
 // Added to the table id of a taken place.
 pub const TAKEN: u16 = 256;
 
-fn half(x: u8) -> u16
-    ensures { λ r. ⌜ (r ≡ x) × (r < 256) ⌝ }
-{
-    x as u16
-}
-
-fn full(x: u16) -> u32
-    ensures { λ r. ⌜ (r ≡ x) × (r < 65536) ⌝ }
-{
-    x as u32
-}
-
 // The first two numbers of the head of place p as one. They tell one table from another, and whether the place is taken.
 pub fn key_number(words: &[u16], p: usize) -> u32
     ensures { λ r. ⌜ r ≡ keyAmong (now (words .entry)) p ⌝ }
@@ -69,8 +57,8 @@ pub fn key_number(words: &[u16], p: usize) -> u32
     if PLACES <= p {
         return 0;
     }
-    let table = full(words[HEADS + HEAD * p]);
-    let extension = full(words[HEADS + 1 + HEAD * p]);
+    let table = base::full(words[HEADS + HEAD * p]);
+    let extension = base::full(words[HEADS + 1 + HEAD * p]);
     table + 65536 * extension
 }
 
@@ -78,8 +66,8 @@ pub fn key_number(words: &[u16], p: usize) -> u32
 fn number_for(key: Key) -> u32
     ensures { λ r. ⌜ (r ≡ numberFor key) × (key .table < 256) ⌝ }
 {
-    let table = full(TAKEN + half(key.table));
-    let extension = full(key.extension);
+    let table = base::full(TAKEN + base::half(key.table));
+    let extension = base::full(key.extension);
     table + 65536 * extension
 }
 

@@ -61,12 +61,6 @@ pub fn held_in(words: &[u16], size: usize, key: Key) -> Holding
     Holding::In(p)
 }
 
-fn wide(x: u16) -> usize
-    ensures { λ r. ⌜ r ≡ x ⌝ }
-{
-    x as usize
-}
-
 // The lowest number from 0 to the last whose bit is 0, or one more than the last.
 fn first_gap(mask: u16, last: usize) -> usize
     requires { ⌜ last < sections ⌝ }
@@ -90,7 +84,7 @@ pub fn copy_section(words: &[u16], store: &[u8], key: Key, n: u8, out: &mut [u8]
     match holding {
         Holding::Refused(no) => Copied::Refused(no),
         Holding::In(p) => {
-            let count = wide(shelf::length_of(words, p, n as usize));
+            let count = base::wide(shelf::length_of(words, p, n as usize));
             if count == 0 {
                 return Copied::Refused(SECTION_NOT_HELD);
             }
@@ -111,7 +105,7 @@ pub fn complete(words: &[u16], store: &[u8], key: Key) -> Whole
     match holding {
         Holding::Refused(no) => Whole::Refused(no),
         Holding::In(p) => {
-            let last = wide(shelf::last_of(words, p));
+            let last = base::wide(shelf::last_of(words, p));
             if first_gap(shelf::mask_of(words, p), last) <= last {
                 Whole::Incomplete
             } else {
@@ -129,7 +123,7 @@ pub fn lowest_missing(words: &[u16], store: &[u8], key: Key) -> Missing
     match holding {
         Holding::Refused(no) => Missing::Refused(no),
         Holding::In(p) => {
-            let last = wide(shelf::last_of(words, p));
+            let last = base::wide(shelf::last_of(words, p));
             let n = first_gap(shelf::mask_of(words, p), last);
             if n <= last {
                 Missing::Number(n as u8)
@@ -157,7 +151,7 @@ pub fn complete_code(words: &[u16], store: &[u8], key: Key) -> u16
 {
     let answer = complete(words, store, key);
     match answer {
-        Whole::Refused(n) => answers::wide(n),
+        Whole::Refused(n) => base::half(n),
         Whole::Complete => COMPLETE,
         Whole::Incomplete => INCOMPLETE,
     }

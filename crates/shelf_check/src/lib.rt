@@ -70,23 +70,11 @@ fn highest(top: u16, a: u16, b: u16, c: u16, d: u16) -> u16
     higher(top, of_four)
 }
 
-fn full(x: u16) -> u32
-    ensures { λ r. ⌜ (r ≡ x) × (r < 65536) ⌝ }
-{
-    x as u32
-}
-
-fn wide(x: u16) -> usize
-    ensures { λ r. ⌜ r ≡ x ⌝ }
-{
-    x as usize
-}
-
 // A length less 8, around the end, so that one bound serves for 8 to 1,024.
 fn less_eight(x: u16) -> u16
     ensures { λ r. ⌜ (r ≤ 1016 → (8 ≤ x) × (x ≤ 1024)) ⌝ }
 {
-    ((full(x) + 65528) % 65536) as u16
+    ((base::full(x) + 65528) % 65536) as u16
 }
 
 fn beyond(x: u16, most: u16) -> u16
@@ -182,7 +170,7 @@ fn wrong_at(words: &[u16], p: usize, n: usize) -> bool
     if length == 0 {
         return false;
     }
-    if wide(shelf::last_of(words, p)) < n {
+    if base::wide(shelf::last_of(words, p)) < n {
         return true;
     }
     if length < SHORTEST {

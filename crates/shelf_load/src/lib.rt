@@ -23,12 +23,6 @@ pub enum Loaded {
 
 pub const KEY_HELD: u8 = 13;
 
-fn wide(x: u16) -> usize
-    ensures { λ r. ⌜ r ≡ x ⌝ }
-{
-    x as usize
-}
-
 // Whether there is a section of that size which lies, from its start on, in a file of a length.
 fn lies(total: usize, start: usize, size: usize) -> bool
     ensures { λ r. ⌜ r ≡ liesIn total start size ⌝ }
@@ -59,7 +53,7 @@ fn store_each(
     }
     let mut n: usize = 0;
     while n < count {
-        let size = wide(lengths[n]);
+        let size = base::wide(lengths[n]);
         let start = starts[n];
         if lies(file.len(), start, size) {
             let end = start + size;

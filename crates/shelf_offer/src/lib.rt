@@ -34,24 +34,6 @@ pub const NO_FREE_PLACE: u8 = 9;
 
 pub const DIFFERS: u8 = 10;
 
-fn half(x: u8) -> u16
-    ensures { λ r. ⌜ r ≡ x ⌝ }
-{
-    x as u16
-}
-
-fn wide8(x: u8) -> usize
-    ensures { λ r. ⌜ r ≡ x ⌝ }
-{
-    x as usize
-}
-
-fn wide16(x: u16) -> usize
-    ensures { λ r. ⌜ r ≡ x ⌝ }
-{
-    x as usize
-}
-
 // What an offer of a sound section comes to where the record is not spoiled, and in which place.
 enum Step {
     Refuse(u8),
@@ -68,14 +50,14 @@ fn held_step(words: &[u16], store: &[u8], payload: &[u8], header: Header, p: usi
     requires { ⌜ (header .number < sections) × (header .version < 32) × (header .last < 16) × (length (now payload) ≤ berthSize) ⌝ }
     ensures { λ r. ⌜ (spoiledOf (shelfIn (now (words .entry))) ≡ false → r ≡ heldStep (placeAt (shelfIn (now (words .entry))) p) (now (store .entry)) (now (payload .entry)) p header) ⌝ }
 {
-    if shelf::version_of(words, p) != half(header.version) {
+    if shelf::version_of(words, p) != base::half(header.version) {
         return Step::BeginsAgain(p);
     }
-    if shelf::last_of(words, p) != half(header.last) {
+    if shelf::last_of(words, p) != base::half(header.last) {
         return Step::Refuse(DIFFERS);
     }
-    let number = wide8(header.number);
-    let length = wide16(shelf::length_of(words, p, number));
+    let number = base::wide8(header.number);
+    let length = base::wide(shelf::length_of(words, p, number));
     if length == 0 {
         return Step::Adds(p);
     }
@@ -142,7 +124,7 @@ fn code_of(answer: Offered) -> u16
         Offered::Added => ADDED,
         Offered::Began => BEGAN,
         Offered::BeganAgain => BEGAN_AGAIN,
-        Offered::Refused(n) => answers::wide(n),
+        Offered::Refused(n) => base::half(n),
     }
 }
 
@@ -203,7 +185,7 @@ fn begin(
 {
     berth::wipe_where(store, p, going(words, p, kind));
     shelf_write::put_head(words, p, shelf::key_of(header), header.version, header.last);
-    add(words, store, payload, p, wide8(header.number));
+    add(words, store, payload, p, base::wide8(header.number));
     code_of(begun(kind))
 }
 
@@ -219,7 +201,7 @@ fn carried(words: &mut [u16], store: &mut [u8], payload: &[u8], p: usize, what: 
         return code_of(Offered::Refused(shelf::SHELF_SPOILED));
     }
     if what / 256 == ADDS {
-        add(words, store, payload, p, wide16(what / 2 % 16));
+        add(words, store, payload, p, base::wide(what / 2 % 16));
         return code_of(Offered::Added);
     }
     let reading = section::read(payload);
@@ -258,7 +240,7 @@ fn what_by(step: Step, number: u8) -> u16
         Step::Refuse(_) => 0,
         Step::Begins(_) => BEGAN,
         Step::BeginsAgain(_) => BEGAN_AGAIN,
-        Step::Adds(_) => ADDED + 2 * half(number),
+        Step::Adds(_) => ADDED + 2 * base::half(number),
     }
 }
 

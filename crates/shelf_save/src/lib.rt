@@ -36,12 +36,6 @@ const THREE_GROUPS: u16 = 16384;
 // The form and the count take a group each.
 const FRONT: usize = 2;
 
-fn wide(x: u16) -> usize
-    ensures { λ r. ⌜ r ≡ x ⌝ }
-{
-    x as usize
-}
-
 // How many bytes a number takes.
 fn number_size(n: u16) -> usize
     ensures { λ r. ⌜ (r ≡ length (spelt n)) × (r ≤ 3) ⌝ }
@@ -62,7 +56,7 @@ fn section_size(size: u16) -> usize
     if size == 0 {
         return 0;
     }
-    number_size(size) + wide(size)
+    number_size(size) + base::wide(size)
 }
 
 fn section_count(size: u16) -> u16
@@ -115,7 +109,7 @@ fn write_held(store: &[u8], p: usize, n: usize, size: u16, out: &mut [u8], at: u
         return at;
     }
     let start = write_at(size, out, at);
-    let count = wide(size);
+    let count = base::wide(size);
     berth::copy_out(store, p, n, count, &mut out[start..]);
     start + count
 }

@@ -17,12 +17,6 @@ ghost use Rattle.shelf.specs.Layout.{count};
 ghost use Rattle.shelf_write.specs.Writes.{heldIn, rowIn, freshNumber};
 ghost use Rattle.shelf_write.specs.Calls.{heldPut, headPut, freedPut, freshPut};
 
-fn half(x: u8) -> u16
-    ensures { λ r. ⌜ (r ≡ x) × (r < 256) ⌝ }
-{
-    x as u16
-}
-
 fn with_bit(mask: u16, n: usize) -> u16
     requires { ⌜ n < sections ⌝ }
     ensures { λ r. ⌜ r ≡ bitOr mask (2 ^ n) ⌝ }
@@ -80,10 +74,10 @@ pub fn put_head(words: &mut [u16], p: usize, key: Key, version: u8, last: u8)
     put_row(
         words,
         p,
-        TAKEN + half(key.table),
+        TAKEN + base::half(key.table),
         key.extension,
-        half(version),
-        half(last),
+        base::half(version),
+        base::half(last),
         0,
     );
 }

@@ -20,18 +20,18 @@ abbrev μ-loop : tie.MeasureT-loop
 long : (c : tie.Start Inv-loop μ-loop) → length (c .args .t3) ≡ 67
 long c = search needs
 
-array-read-wide : tie.Need-array-read-wide Inv-loop μ-loop
-array-read-wide c = omega arith
+array-read-wide32 : tie.Need-array-read-wide32 Inv-loop μ-loop
+array-read-wide32 c = omega arith
 
-wide-requires : tie.Need-wide-requires Inv-loop μ-loop
-wide-requires c κs = search needs
+wide32-requires : tie.Need-wide32-requires Inv-loop μ-loop
+wide32-requires c κs = search needs
 
 returns : tie.Need-returns Inv-loop μ-loop
-returns c = let g = c .before .before .args in hold-full (g .t3) (g .states) (g .h) (c .before .wide .result) (c .before .wide .ensures) (c .if1 .taken)
+returns c = let g = c .before .before .args in hold-full (g .t3) (g .states) (g .h) (c .before .wide32 .result) (c .before .wide32 .ensures) (c .if1 .taken)
 
 loop-holds : tie.Need-loop-holds Inv-loop μ-loop
 loop-holds c = let g = c .before .before .args in
-    (omega arith, long (c .before .before), long (c .before .before), put-start (g .t3) (g .t3) (take (c .before .wide .result) (heldsIn (g .t3))))
+    (omega arith, long (c .before .before), long (c .before .before), put-start (g .t3) (g .t3) (take (c .before .wide32 .result) (heldsIn (g .t3))))
 
 mul-word-if : tie.Need-mul-word-if Inv-loop μ-loop
 mul-word-if c = omega arith
@@ -98,7 +98,7 @@ loop-again c = let o = c .before .before .before .loop in let g = c .before .bef
   omega arith,
   o .inv .1,
   simp length-set (o .inv .2),
-  keep-step (g .t3) (o .next) (c .before .before .before .before .before .wide .result) (o .i) (o .inv .2) (omega arith) (o .inv .3) (c .before .word-if .result) (c .word-if2 .result) (c .before .word-if .ensures) (c .word-if2 .ensures),
+  keep-step (g .t3) (o .next) (c .before .before .before .before .before .wide32 .result) (o .i) (o .inv .2) (omega arith) (o .inv .3) (c .before .word-if .result) (c .word-if2 .result) (c .before .word-if .ensures) (c .word-if2 .ensures),
 )
 
 mark-requires : tie.Need-mark-requires Inv-loop μ-loop
@@ -141,8 +141,8 @@ array-write-next-6 : tie.Need-array-write-next-6 Inv-loop μ-loop
 array-write-next-6 c = omega (arith, c .before .before .before .loop .inv, c .before .before .before .before .if1 .left)
 
 returns-2 : tie.Need-returns-2 Inv-loop μ-loop
-returns-2 c = let o = c .before .before .before .loop in let g = c .before .before .before .before .before .before .args in let n = c .before .before .before .before .before .wide .result in
-    hold-words (g .t3) (g .states) (g .h) n (c .mark .result) (o .next) (o .inv .1) (c .before .before .before .before .before .wide .ensures) (c .before .before .before .before .if1 .left) (c .mark .ensures)
+returns-2 c = let o = c .before .before .before .loop in let g = c .before .before .before .before .before .before .args in let n = c .before .before .before .before .before .wide32 .result in
+    hold-words (g .t3) (g .states) (g .h) n (c .mark .result) (o .next) (o .inv .1) (c .before .before .before .before .before .wide32 .ensures) (c .before .before .before .before .if1 .left) (c .mark .ensures)
     (put-done (g .t3) (o .next) (take n (heldsIn (g .t3))) (o .i) (o .inv .2) (o .inv .3) (omega (arith, o .inv)))
 
 pub hold-spec : {M : Type 1} → statement M
@@ -151,8 +151,8 @@ hold-spec =
     (tie.spec
     Inv-loop
     μ-loop
-    array-read-wide
-    wide-requires
+    array-read-wide32
+    wide32-requires
     returns
     loop-holds
     mul-word-if

@@ -6,15 +6,15 @@ use borrow.Author.Needs.{needs}
 use Rattle.clock_record.proofs.is_spoiled.Statement.{statement}
 use Rattle.clock_record.proofs.is_spoiled.Tie as tie
 
-element-copy-out-wide : tie.Need-element-copy-out-wide
-element-copy-out-wide c = search needs
+element-copy-out-wide32 : tie.Need-element-copy-out-wide32
+element-copy-out-wide32 c = search needs
 
-wide-requires : tie.Need-wide-requires
-wide-requires c κs = search needs
+wide32-requires : tie.Need-wide32-requires
+wide32-requires c κs = search needs
 
 returns : tie.Need-returns
 unfolding spoiledBy
-returns c = rw (lt-ltb _ _ (rw (c .before .wide .ensures) at (c .if1 .taken)))
+returns c = rw (lt-ltb _ _ (rw (c .before .wide32 .ensures) at (c .if1 .taken)))
 
 element-copy-out-any-wrong : tie.Need-element-copy-out-any-wrong
 element-copy-out-any-wrong c = search needs
@@ -25,7 +25,7 @@ any-wrong-requires c κs = search needs
 returns-2 : tie.Need-returns-2
 unfolding spoiledBy
 returns-2 c =
-    let n = c .before .before .before .before .wide .ensures in
+    let n = c .before .before .before .before .wide32 .ensures in
     rw (le-ltb _ _ (rw n at (c .before .before .before .if1 .left)), rw n at (told (c .before .any-wrong .ensures) (c .if2 .taken)))
 
 two-alike-requires : tie.Need-two-alike-requires
@@ -34,7 +34,7 @@ two-alike-requires c κs = search needs
 returns-3 : tie.Need-returns-3
 unfolding spoiledBy
 returns-3 c =
-    let n = c .before .before .before .before .before .wide .ensures in
+    let n = c .before .before .before .before .before .wide32 .ensures in
     rw (le-ltb _ _ (rw n at (c .before .before .before .before .if1 .left)), rw n at (told (c .before .before .any-wrong .ensures) (c .before .if2 .left)))
     (rw n at (c .two-alike .ensures))
 
@@ -42,8 +42,8 @@ pub is-spoiled-spec : {M : Type 1} → statement M
 is-spoiled-spec =
     tie.close
     (tie.spec
-    element-copy-out-wide
-    wide-requires
+    element-copy-out-wide32
+    wide32-requires
     returns
     element-copy-out-any-wrong
     any-wrong-requires

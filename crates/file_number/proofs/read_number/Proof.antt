@@ -13,11 +13,11 @@ shared-slice-read-low c = search needs
 add-second : tie.Need-add-second
 add-second c = search needs
 
-wide-requires : tie.Need-wide-requires
-wide-requires c κs = search needs
+half-requires : tie.Need-half-requires
+half-requires c κs = search needs
 
 returns-2 : tie.Need-returns-2
-returns-2 c = rw (c .wide .ensures) (search (needs, one))
+returns-2 c = rw (c .half .ensures .0) (search (needs, one))
 
 returns-3 : tie.Need-returns-3
 returns-3 c = search (needs, none-2)
@@ -31,11 +31,11 @@ returns-4 c = search (needs, zero-2)
 add-third : tie.Need-add-third
 add-third c = search needs
 
-wide-requires-2 : tie.Need-wide-requires-2
-wide-requires-2 c κs = search needs
+half-requires-2 : tie.Need-half-requires-2
+half-requires-2 c κs = search needs
 
-wide-requires-3 : tie.Need-wide-requires-3
-wide-requires-3 c κs = search needs
+half-requires-3 : tie.Need-half-requires-3
+half-requires-3 c κs = search needs
 
 mul-value : tie.Need-mul-value
 mul-value c = search needs
@@ -44,7 +44,7 @@ add-value : tie.Need-add-value
 add-value c = search needs
 
 returns-5 : tie.Need-returns-5
-returns-5 c = rw (c .before .wide2 .ensures, c .wide3 .ensures) (search (needs, two))
+returns-5 c = rw (c .before .half2 .ensures .0, c .half3 .ensures .0) (search (needs, two))
 
 returns-6 : tie.Need-returns-6
 returns-6 c = search (needs, none-3)
@@ -58,11 +58,11 @@ returns-7 c = search (needs, zero-3)
 returns-8 : tie.Need-returns-8
 returns-8 c = search (needs, above-3)
 
-wide-requires-4 : tie.Need-wide-requires-4
-wide-requires-4 c κs = search needs
+half-requires-4 : tie.Need-half-requires-4
+half-requires-4 c κs = search needs
 
-wide-requires-5 : tie.Need-wide-requires-5
-wide-requires-5 c κs = search needs
+half-requires-5 : tie.Need-half-requires-5
+half-requires-5 c κs = search needs
 
 mul-value-2 : tie.Need-mul-value-2
 mul-value-2 c = search needs
@@ -70,8 +70,8 @@ mul-value-2 c = search needs
 add-value-2 : tie.Need-add-value-2
 add-value-2 c = search needs
 
-wide-requires-6 : tie.Need-wide-requires-6
-wide-requires-6 c κs = search needs
+half-requires-6 : tie.Need-half-requires-6
+half-requires-6 c κs = search needs
 
 mul-value-3 : tie.Need-mul-value-3
 mul-value-3 c = search needs
@@ -83,7 +83,7 @@ add-next : tie.Need-add-next
 add-next c = search needs
 
 returns-9 : tie.Need-returns-9
-returns-9 c = rw (c .before .before .wide4 .ensures, c .before .wide5 .ensures, c .wide6 .ensures) (search (needs, three))
+returns-9 c = rw (c .before .before .half4 .ensures .0, c .before .half5 .ensures .0, c .half6 .ensures .0) (search (needs, three))
 
 pub read-number-spec : {M : Type 1} → statement M
 read-number-spec =
@@ -92,14 +92,14 @@ read-number-spec =
     returns
     shared-slice-read-low
     add-second
-    wide-requires
+    half-requires
     returns-2
     returns-3
     shared-slice-read-middle
     returns-4
     add-third
-    wide-requires-2
-    wide-requires-3
+    half-requires-2
+    half-requires-3
     mul-value
     add-value
     returns-5
@@ -107,11 +107,11 @@ read-number-spec =
     shared-slice-read-high
     returns-7
     returns-8
-    wide-requires-4
-    wide-requires-5
+    half-requires-4
+    half-requires-5
     mul-value-2
     add-value-2
-    wide-requires-6
+    half-requires-6
     mul-value-3
     add-value-3
     add-next

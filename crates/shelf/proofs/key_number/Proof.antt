@@ -7,7 +7,7 @@ use Rattle.shelf.proofs.key_number.Statement.{statement}
 use Rattle.shelf.proofs.key_number.Tie as tie
 use Rattle.shelf.proofs.key_number.Reads as reads
 use Rattle.shelf.proofs.key_number.Lts as lts
-use Rattle.shelf.proofs.full.Reads as full-reads
+use Rattle.base.proofs.full.Reads as full-reads
 
 returns : tie.Need-returns
 unfolding keyAmong

@@ -11,7 +11,7 @@ use Rattle.shelf_ask.proofs.complete.Reads as reads
 use Rattle.shelf_ask.proofs.complete.Lts as lts
 use Rattle.shelf_ask.proofs.first_gap.Reads as first-gap-reads
 use Rattle.shelf_ask.proofs.held_in.Reads as held-in-reads
-use Rattle.shelf_ask.proofs.wide.Reads as wide-reads
+use Rattle.base.proofs.wide.Reads as wide-reads
 use Rattle.shelf.proofs.last_of.Reads as last-of-reads
 use Rattle.shelf.proofs.mask_of.Reads as mask-of-reads
 

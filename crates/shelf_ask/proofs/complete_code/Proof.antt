@@ -7,7 +7,7 @@ use Rattle.shelf_ask.proofs.complete_code.Statement.{statement}
 use Rattle.shelf_ask.proofs.complete_code.Tie as tie
 use Rattle.shelf_ask.proofs.complete_code.Reads as reads
 use Rattle.shelf_ask.proofs.complete_code.Lts as lts
-use Rattle.answers.proofs.wide.Reads as wide-reads
+use Rattle.base.proofs.half.Reads as half-reads
 use Rattle.shelf_ask.proofs.complete.Reads as complete-reads
 
 complete-requires : tie.Need-complete-requires
@@ -16,8 +16,8 @@ complete-requires c κs = search needs
 enum-known-answer : tie.Need-enum-known-answer
 enum-known-answer c = search needs
 
-wide-requires : tie.Need-wide-requires
-wide-requires c κs = search needs
+half-requires : tie.Need-half-requires
+half-requires c κs = search needs
 
 enum-told : tie.Need-enum-told
 enum-told c = search needs
@@ -26,7 +26,7 @@ enum-told-2 : tie.Need-enum-told-2
 enum-told-2 c = search needs
 
 returns : tie.Need-returns
-returns c = whole-told _ _ _ (c .before .before .before .before .complete .ensures) (c .wide .ensures ∙ sym (ap wholeCode (c .before .before .answer .given .1)))
+returns c = whole-told _ _ _ (c .before .before .before .before .complete .ensures) (c .half .ensures .0 ∙ sym (ap wholeCode (c .before .before .answer .given .1)))
 
 returns-2 : tie.Need-returns-2
 returns-2 c = whole-told _ _ _ (c .before .before .complete .ensures) (sym (ap wholeCode (c .enum-told .given .1)))
@@ -40,7 +40,7 @@ complete-code-spec =
     (tie.spec
     complete-requires
     enum-known-answer
-    wide-requires
+    half-requires
     enum-told
     enum-told-2
     returns

@@ -10,7 +10,7 @@ use Rattle.shelf_ask.proofs.copy_section.Tie as tie
 use Rattle.shelf_ask.proofs.copy_section.Reads as reads
 use Rattle.shelf_ask.proofs.copy_section.Lts as lts
 use Rattle.shelf_ask.proofs.held_in.Reads as held-in-reads
-use Rattle.shelf_ask.proofs.wide.Reads as wide-reads
+use Rattle.base.proofs.wide.Reads as wide-reads
 use Rattle.berth.proofs.copy_out.Reads as copy-out-reads
 use Rattle.shelf.proofs.length_of.Reads as length-of-reads
 

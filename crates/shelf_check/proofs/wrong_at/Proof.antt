@@ -7,7 +7,7 @@ use Rattle.shelf_check.proofs.wrong_at.Reads as reads
 use Rattle.shelf_check.proofs.wrong_at.Lts as lts
 use Rattle.shelf.proofs.last_of.Reads as last-of-reads
 use Rattle.shelf.proofs.length_of.Reads as length-of-reads
-use Rattle.shelf_check.proofs.wide.Reads as wide-reads
+use Rattle.base.proofs.wide.Reads as wide-reads
 
 length-of-requires : tie.Need-length-of-requires
 length-of-requires c κs = search needs

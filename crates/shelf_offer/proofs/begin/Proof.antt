@@ -11,7 +11,7 @@ use Rattle.shelf_offer.proofs.add.Reads as add-reads
 use Rattle.shelf_offer.proofs.begun.Reads as begun-reads
 use Rattle.shelf_offer.proofs.code_of.Reads as code-of-reads
 use Rattle.shelf_offer.proofs.going.Reads as going-reads
-use Rattle.shelf_offer.proofs.wide8.Reads as wide8-reads
+use Rattle.base.proofs.wide8.Reads as wide8-reads
 use Rattle.shelf_write.proofs.put_head.Reads as put-head-reads
 
 going-requires : tie.Need-going-requires

@@ -14,7 +14,7 @@ use Rattle.section.proofs.read.Reads as read-reads
 use Rattle.shelf_offer.proofs.spoiled.Reads as spoiled-reads
 use Rattle.shelf_offer.proofs.code_of.Reads as code-of-reads
 use Rattle.shelf_offer.proofs.add.Reads as add-reads
-use Rattle.shelf_offer.proofs.wide16.Reads as wide16-reads
+use Rattle.base.proofs.wide.Reads as wide-reads
 use Rattle.shelf_offer.proofs.begin.Reads as begin-reads
 
 spoiled-requires : tie.Need-spoiled-requires
@@ -29,8 +29,8 @@ same-length c = search needs
 returns : tie.Need-returns
 returns c = all-spoiled _ _ _ (c .before .before .before .before .before .before .before .pre .0) (told (c .before .before .spoiled .ensures) (c .before .if1 .taken)) (c .code-of .ensures)
 
-wide16-requires : tie.Need-wide16-requires
-wide16-requires c κs = search needs
+wide-requires : tie.Need-wide-requires
+wide-requires c κs = search needs
 
 add-requires : tie.Need-add-requires
 add-requires c κs = sound-facts _ _ (c .before .before .before .before .before .before .before .before .before .before .pre .1 .1 .1 (c .before .before .before .if2 .taken) .0) .most
@@ -45,7 +45,7 @@ same-length-3 : tie.Need-same-length-3
 same-length-3 c = search needs
 
 returns-2 : tie.Need-returns-2
-returns-2 c = let r = c .before .before .before .before .before .before .before .before .before .before .before .before .before .before .before .before .pre .1 .1 .1 (c .before .before .before .before .before .before .before .before .before .if2 .taken) in wrote-added _ _ _ _ _ (c .before .before .before .before .before .before .before .before .before .before .before .before .before .before .before .before .pre .1 .1 .0 _ (r .0) (told (c .before .before .before .before .before .before .before .before .before .before .before .spoiled .ensures) (c .before .before .before .before .before .before .before .before .before .before .if1 .left))) (c .before .before .before .before .before .before .before .before .before .if2 .taken) (c .before .before .before .before .before .before .wide16 .ensures ∙ r .1) (c .before .before .before .before .before .add .ensures .0) (c .before .before .before .before .before .add .ensures .1) (c .code-of2 .ensures)
+returns-2 c = let r = c .before .before .before .before .before .before .before .before .before .before .before .before .before .before .before .before .pre .1 .1 .1 (c .before .before .before .before .before .before .before .before .before .if2 .taken) in wrote-added _ _ _ _ _ (c .before .before .before .before .before .before .before .before .before .before .before .before .before .before .before .before .pre .1 .1 .0 _ (r .0) (told (c .before .before .before .before .before .before .before .before .before .before .before .spoiled .ensures) (c .before .before .before .before .before .before .before .before .before .before .if1 .left))) (c .before .before .before .before .before .before .before .before .before .if2 .taken) (c .before .before .before .before .before .before .wide .ensures ∙ r .1) (c .before .before .before .before .before .add .ensures .0) (c .before .before .before .before .before .add .ensures .1) (c .code-of2 .ensures)
 
 read-requires : tie.Need-read-requires
 read-requires c κs = search needs
@@ -85,7 +85,7 @@ carried-spec =
     code-of-requires
     same-length
     returns
-    wide16-requires
+    wide-requires
     add-requires
     code-of-requires-2
     same-length-2

@@ -8,7 +8,7 @@ use Rattle.shelf_offer.proofs.what_by.Statement.{statement}
 use Rattle.shelf_offer.proofs.what_by.Tie as tie
 use Rattle.shelf_offer.proofs.what_by.Reads as reads
 use Rattle.shelf_offer.proofs.what_by.Lts as lts
-use Rattle.shelf_offer.proofs.half.Reads as half-reads
+use Rattle.base.proofs.half.Reads as half-reads
 
 enum-told : tie.Need-enum-told
 enum-told c = search needs
@@ -49,7 +49,7 @@ returns-4 c = search needs
 returns-5 : tie.Need-returns-5
 returns-5 c =
     let a = c .before .before .before .args in
-    (ap (λ n. 768 + 2 * n) (c .half .ensures) ∙ ap (λ s. whatBy s (a .number)) (sym (c .before .enum-told5 .given .1)), search needs)
+    (ap (λ n. 768 + 2 * n) (c .half .ensures .0) ∙ ap (λ s. whatBy s (a .number)) (sym (c .before .enum-told5 .given .1)), search needs)
 
 pub what-by-spec : {M : Type 1} → statement M
 what-by-spec =

@@ -7,7 +7,7 @@ use Rattle.shelf_write.proofs.put_head.Statement.{statement}
 use Rattle.shelf_write.proofs.put_head.Tie as tie
 use Rattle.shelf_write.proofs.put_head.Reads as reads
 use Rattle.shelf_write.proofs.put_head.Lts as lts
-use Rattle.shelf_write.proofs.half.Reads as half-reads
+use Rattle.base.proofs.half.Reads as half-reads
 use Rattle.shelf_write.proofs.put_row.Reads as put-row-reads
 
 returns : tie.Need-returns

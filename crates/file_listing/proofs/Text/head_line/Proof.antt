@@ -8,8 +8,8 @@ use Rattle.file_listing.proofs.Text.head_line.Tie as tie
 slice-aggregate-field : tie.Need-slice-aggregate-field
 slice-aggregate-field c = search needs
 
-wide-requires : tie.Need-wide-requires
-wide-requires c κs = search needs
+half-requires : tie.Need-half-requires
+half-requires c κs = search needs
 
 field-requires : tie.Need-field-requires
 field-requires c κs = search needs
@@ -23,8 +23,8 @@ field-requires-2 c κs = search needs
 slice-aggregate-field-3 : tie.Need-slice-aggregate-field-3
 slice-aggregate-field-3 c = search needs
 
-wide-requires-2 : tie.Need-wide-requires-2
-wide-requires-2 c κs = search needs
+half-requires-2 : tie.Need-half-requires-2
+half-requires-2 c κs = search needs
 
 field-requires-3 : tie.Need-field-requires-3
 field-requires-3 c κs = search needs
@@ -32,8 +32,8 @@ field-requires-3 c κs = search needs
 slice-aggregate-field-4 : tie.Need-slice-aggregate-field-4
 slice-aggregate-field-4 c = search needs
 
-wide-requires-3 : tie.Need-wide-requires-3
-wide-requires-3 c κs = search needs
+half-requires-3 : tie.Need-half-requires-3
+half-requires-3 c κs = search needs
 
 field-requires-4 : tie.Need-field-requires-4
 field-requires-4 c κs = search needs
@@ -44,9 +44,9 @@ byte-requires c κs = search needs
 returns : tie.Need-returns
 unfolding headLine
 returns c =
-    let table = rw (c .before .before .before .before .before .before .before .before .before .before .wide .ensures) at (c .before .before .before .before .before .before .before .before .before .field .ensures) in
-    let version = rw (c .before .before .before .before .before .wide2 .ensures) at (c .before .before .before .before .field3 .ensures) in
-    let last = rw (c .before .before .wide3 .ensures) at (c .before .field4 .ensures) in
+    let table = rw (c .before .before .before .before .before .before .before .before .before .before .half .ensures .0) at (c .before .before .before .before .before .before .before .before .before .field .ensures) in
+    let version = rw (c .before .before .before .before .before .half2 .ensures .0) at (c .before .before .before .before .field3 .ensures) in
+    let last = rw (c .before .before .half3 .ensures .0) at (c .before .field4 .ensures) in
     then table (then (c .before .before .before .before .before .before .before .field2 .ensures) (then version (then last (c .byte .ensures))))
 
 pub head-line-spec : {M : Type 1} → statement M
@@ -54,15 +54,15 @@ head-line-spec =
     tie.close
     (tie.spec
     slice-aggregate-field
-    wide-requires
+    half-requires
     field-requires
     slice-aggregate-field-2
     field-requires-2
     slice-aggregate-field-3
-    wide-requires-2
+    half-requires-2
     field-requires-3
     slice-aggregate-field-4
-    wide-requires-3
+    half-requires-3
     field-requires-4
     byte-requires
     returns)

@@ -10,14 +10,14 @@ mul-length c = search needs
 array-read-length : tie.Need-array-read-length
 array-read-length c = search needs
 
-wide-requires : tie.Need-wide-requires
-wide-requires c κs = search needs
+half-requires : tie.Need-half-requires
+half-requires c κs = search needs
 
 missing-line-requires : tie.Need-missing-line-requires
 missing-line-requires c κs = search needs
 
 returns : tie.Need-returns
-returns c = a-missing _ _ _ _ _ (c .before .before .if1 .taken) (c .before .wide .ensures) (c .missing-line .ensures)
+returns c = a-missing _ _ _ _ _ (c .before .before .if1 .taken) (c .before .half .ensures .0) (c .missing-line .ensures)
 
 returns-2 : tie.Need-returns-2
 returns-2 c = no-missing _ _ _ (c .if1 .left)
@@ -25,4 +25,4 @@ returns-2 c = no-missing _ _ _ (c .if1 .left)
 pub missing-of-spec : {M : Type 1} → statement M
 missing-of-spec =
     tie.close
-    (tie.spec mul-length array-read-length wide-requires missing-line-requires returns returns-2)
+    (tie.spec mul-length array-read-length half-requires missing-line-requires returns returns-2)

@@ -8,8 +8,8 @@ use Rattle.file_listing.proofs.Text.refused_line.Tie as tie
 slice-aggregate-field : tie.Need-slice-aggregate-field
 slice-aggregate-field c = search needs
 
-wide-requires : tie.Need-wide-requires
-wide-requires c κs = search needs
+half-requires : tie.Need-half-requires
+half-requires c κs = search needs
 
 field-requires : tie.Need-field-requires
 field-requires c κs = search needs
@@ -19,8 +19,8 @@ byte-requires c κs = search needs
 
 returns : tie.Need-returns
 unfolding refusedLine
-returns c = then (rw (c .before .before .wide .ensures) at (c .before .field .ensures)) (c .byte .ensures)
+returns c = then (rw (c .before .before .half .ensures .0) at (c .before .field .ensures)) (c .byte .ensures)
 
 pub refused-line-spec : {M : Type 1} → statement M
 refused-line-spec =
-    tie.close (tie.spec slice-aggregate-field wide-requires field-requires byte-requires returns)
+    tie.close (tie.spec slice-aggregate-field half-requires field-requires byte-requires returns)
