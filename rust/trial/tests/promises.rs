@@ -57,7 +57,7 @@ fn declared_in_rattle(line: &str) -> Option<String> {
     None
 }
 
-/// All names of the tree: crates, definitions, statements, functions, types, constants and must-fail edits.
+/// All names of the tree: crates, definitions, statements, functions, types, constants and wrong programs.
 fn names(root: &Path) -> BTreeSet<String> {
     let crates = root.join("crates");
     let mut names = BTreeSet::new();
@@ -86,11 +86,15 @@ fn names(root: &Path) -> BTreeSet<String> {
         );
     }
     files_below(&crates, "edit", &mut files);
-    names.extend(
-        files
-            .iter()
-            .map(|f| f.file_stem().unwrap().to_string_lossy().into_owned()),
-    );
+    for file in files {
+        names.extend(
+            fs::read_to_string(&file)
+                .unwrap()
+                .lines()
+                .filter_map(|l| l.strip_prefix("program: "))
+                .map(str::to_string),
+        );
+    }
     names
 }
 
