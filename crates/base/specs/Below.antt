@@ -1,6 +1,6 @@
 -- Tests over the numbers below n.
 use Prim.Native.Nat.{ℕ, zero, suc}
-use mathlib.Core.Bool.{Bool, true, false, _||_, _&&_, not}
+use mathlib.Core.Bool.{Bool, true, false, _||_, _&&_}
 use Rattle.base.specs.Choice.{if_then_else_}
 use lib.Dec.{ltb}
 

@@ -1,4 +1,4 @@
--- How a definition chooses: by a test, or by a table of refusals that is read from the top as document 01's is.
+-- How a definition chooses: by a test, or by a table of refusals that is read from the top, its rows in document 01's order.
 use Prim.Native.Nat.{ℕ}
 use mathlib.Core.List.{List, [], _∷_}
 use mathlib.Core.Bool.{Bool, true, false}

@@ -21,7 +21,7 @@ abbrev pub None : List Rule → Type 0
 None [] = Unit {0}
 None (w ∷ ws) = ¬ (w .holds) × None ws
 
--- the rows above the one of that number
+-- the rows above the one of that number; all, where none has it
 abbrev pub above : ℕ → List Rule → List Rule
 above n [] = []
 above n (w ∷ ws) = if eqb (w .no) n then [] else (w ∷ above n ws)

@@ -1,4 +1,4 @@
--- Document 01, "The shelf": the store as berths. What is said of a berth is said over its size.
+-- Document 01, "The shelf": the store as berths. Where a berth begins and how it is filled is said over its size.
 use Prim.Native.Nat.{ℕ, zero, suc, _+_, _-_, _*_}
 use mathlib.Core.List.{List, _++_}
 use mathlib.Core.Bool.{Bool}
@@ -26,7 +26,7 @@ storeSize = places * (sections * berthSize)
 abbrev pub beginsAt : ℕ → ℕ → ℕ → ℕ
 beginsAt size p n = size * (sections * p + n)
 
--- the store with other bytes from a place on
+-- the store with other bytes at a place, as many as are given
 unfoldable pub laid : List ℕ → ℕ → List ℕ → List ℕ
 laid store at bytes = take at store ++ (bytes ++ drop (at + length bytes) store)
 

@@ -1,5 +1,5 @@
--- What this layer's calls find, on any numbers: what is no record has no place, and what is asked of no place is 0. Of a free place it is
--- what happens to stand there, and means nothing.
+-- What this layer's calls find, on any numbers: what is no record has no place, and what is asked of no place is 0. (`shelfAt` reads what is no
+-- record as a spoiled one; no call gets past 18 there.) A free place is read in the same way as a taken one, and it means nothing.
 use Prim.Native.Nat.{ℕ}
 use mathlib.Core.List.{List}
 use mathlib.Core.Bool.{Bool, _&&_}

@@ -70,11 +70,11 @@ tableIn words p =
       lengths = lengthsIn words p;
     }
 
--- a place is taken where its head begins with 256 to 511; nothing else is read of one that is free
+-- a place is taken where its head begins with 256 to 511; with any other number it is free, and nothing else is read of it
 abbrev pub takenIn : List ℕ → ℕ → Bool
 takenIn words p = eqb (getD words (atTable p) 0 / 256) 1
 
--- the first two numbers of a head as one; they are these where the table with a key is in the place
+-- the first two numbers of a head as one: of numbers of 16 bits it is numberFor of a key exactly where the table with that key is in the place
 abbrev pub keyNumber : List ℕ → ℕ → ℕ
 keyNumber words p = getD words (atTable p) 0 + 65536 * getD words (atExtension p) 0
 

@@ -6,12 +6,13 @@ use mathlib.Core.Path.{_≡_}
 use Prim.Native.Nat.{_<_}
 use lib.Dec.{ltb, eqb}
 use lib.ListN.{getD, set, replicate}
-use Rattle.base.specs.Below.{some, every, lowest}
+use Rattle.base.specs.Below.{some, lowest}
 use Rattle.section.specs.declared.Header.{Header}
 use Rattle.berth.specs.Berth.{places, sections, berthSize}
 use Rattle.shelf.specs.declared.Key.{Key}
 
--- a place: free, or a table with the byte length of each of its sixteen sections; 0 where a section is not held
+-- a place: free, or a table with the byte length of each of its sixteen sections; 0 where a section is not held. A held length 0, which is wrong,
+-- cannot be said so: Layout reads it as another that is
 pub record Place : Type 0 where
   pub taken : Bool
   pub key : Key
@@ -19,6 +20,7 @@ pub record Place : Type 0 where
   pub last : ℕ
   pub lengths : List ℕ
 
+-- four places; what is read in numbers has four, of sixteen lengths each
 pub record Shelf : Type 0 where
   pub places : List Place
 

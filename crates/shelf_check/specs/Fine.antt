@@ -1,6 +1,6 @@
--- What the quick pass shows of the numbers, whether a place is taken or not. Enough for a record that is not spoiled, and not the words
--- of 18 themselves.
-use Prim.Native.Nat.{ℕ, _+_, _*_, _/_, _%_, _^_, _<_, _≤_}
+-- What the quick pass shows of the numbers, whether a place is taken or not. Of 84 numbers it is enough for a record that is not spoiled, and not
+-- the words of 18 themselves.
+use Prim.Native.Nat.{ℕ, _+_, _/_, _%_, _^_, _<_, _≤_}
 use mathlib.Core.Path.{_≡_}
 use mathlib.Core.List.{List, [], _∷_}
 use lib.ListN.{getD}
@@ -25,7 +25,7 @@ pub record FineColumn (words : List ℕ) (k : ℕ) : Type 0 where
 abbrev pub FineColumns : List ℕ → Type 0
 FineColumns words = (k : ℕ) → k < 16 → FineColumn words k
 
--- the mask of a place from its last number on
+-- the mask of a place from its last number on, as far as a shift of 32 bits goes
 abbrev pub fromLast : List ℕ → ℕ → ℕ
 fromLast words p = getD words (atMask p) 0 / 2 ^ (getD words (atLast p) 0 % 32)
 
@@ -33,12 +33,12 @@ fromLast words p = getD words (atMask p) 0 / 2 ^ (getD words (atLast p) 0 % 32)
 pub record NoneAbove (words : List ℕ) (p : ℕ) : Type 0 where
   pub low : fromLast words p ≤ 1
 
--- something is held
+-- something is held, and the mask has 16 bits
 pub record OneHeld (words : List ℕ) (p : ℕ) : Type 0 where
   pub some : getD words (atMask p) 0 ≡ 0 → ⊥
   pub fits : getD words (atMask p) 0 < 65536
 
--- in each place something is held and nothing above last, and no two heads begin alike
+-- in each place something is held and nothing above last, and no two heads have the same first two numbers
 pub record FineHeads (words : List ℕ) : Type 0 where
   pub low : (p : ℕ) → p < places → NoneAbove words p
   pub held : (p : ℕ) → p < places → OneHeld words p

@@ -1,4 +1,4 @@
--- The number of an answer, by whether the record is spoiled.
+-- The number of an answer, by whether the record is spoiled; 17 comes before it and is decided by then.
 use Prim.Native.Nat.{ℕ}
 use mathlib.Core.Bool.{Bool}
 use Rattle.base.specs.Choice.{if_then_else_}

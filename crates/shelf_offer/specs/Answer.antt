@@ -1,4 +1,4 @@
--- The number and the values of the answer to an offer, in the number that crosses the boundary.
+-- The number of the answer to an offer, as it crosses the boundary: a case or a refusal, and no other values.
 use Prim.Native.Nat.{ℕ}
 use mathlib.Core.List.{List}
 use lib.Dec.{eqb}

@@ -1,7 +1,7 @@
--- Document 01, "Offering a sound section": the answer, the next record and the store, for every record, store and payload.
+-- Document 01, "Offering a sound section": the answer, the next record and the store, for every record of four places, store and payload.
 use Prim.Native.Nat.{ℕ}
 use mathlib.Core.List.{List}
-use mathlib.Core.Bool.{Bool, true, not}
+use mathlib.Core.Bool.{true, not}
 use lib.Dec.{eqb}
 use lib.ListN.{length, set, replicate}
 use Rattle.base.specs.Choice.{if_then_else_}
@@ -12,7 +12,6 @@ use Rattle.section.specs.declared.Reading.{Reading}
 use Rattle.section.specs.declared.Reading.the-variants.{Sound, Refused}
 use Rattle.berth.specs.Berth.{sections, places, storeSize, put, wipedWhere, standing}
 use Rattle.shelf.specs.Record.{keyOf, placeAt, withPlace, lengthAt, holds, spoiledOf, placeOf, freeOf}
-use Rattle.shelf.specs.declared.Key.{Key}
 use Rattle.shelf.specs.Record.{Place}
 use Rattle.shelf.specs.Record.{Shelf}
 use Rattle.shelf_offer.specs.declared.Offered.{Offered}

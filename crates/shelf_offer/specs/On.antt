@@ -1,5 +1,5 @@
 -- An offer on lent numbers: the answer and the store are those of the offer to the record that the numbers are; what is written into
--- the numbers goes by the answer.
+-- the numbers goes by the answer, and the record that they then are is the offer's (`offer-shelf`).
 use Prim.Native.Nat.{ℕ}
 use mathlib.Core.List.{List}
 use lib.ListN.{length}

@@ -1,5 +1,5 @@
 -- What the shelf's calls write into a record's numbers.
-use Prim.Native.Nat.{ℕ, _+_, _-_, _*_, _/_, _%_, _^_}
+use Prim.Native.Nat.{ℕ, _+_, _-_, _/_, _%_, _^_}
 use mathlib.Core.List.{List}
 use lib.Bits.{bitOr}
 use lib.Dec.{eqb, ltb}
@@ -17,8 +17,8 @@ unfoldable pub rowIn : List ℕ → ℕ → ℕ → ℕ → ℕ → ℕ → ℕ 
 rowIn words p a b c d mask =
     set (set (set (set (set words (atTable p) a) (atExtension p) b) (atVersion p) c) (atLast p) d) (atMask p) mask
 
--- place p is free by the first number of its head; that the rest is 0, 0, 0 and the mask 1 means nothing to 18, and lets the quick pass say
--- yes
+-- place p is free by the first number of its head, which is p so that no two heads begin alike; that the rest is 0, 0, 0 and the mask 1 means
+-- nothing to 18. The quick pass says yes of such a place while its lengths are from 8 to 1,024
 abbrev pub freedIn : List ℕ → ℕ → List ℕ
 freedIn words p = rowIn words p p 0 0 0 1
 
@@ -26,7 +26,7 @@ freedIn words p = rowIn words p p 0 0 0 1
 abbrev pub headIn : List ℕ → ℕ → Key → ℕ → ℕ → List ℕ
 headIn words p key version last = rowIn words p (256 + key .table) (key .extension) version last 0
 
--- number k of a fresh record: no length is below 8, the head of place p is p, 0, 0, 0 and each mask is 1
+-- number k of a fresh record: each length is 8, the head of place p is p, 0, 0, 0 and each mask is 1
 abbrev pub freshNumber : ℕ → ℕ
 freshNumber k = if ltb k heads then 8 else if ltb k masks then (if eqb (k % 4) 0 then (k - heads) / 4 else 0) else 1
 
