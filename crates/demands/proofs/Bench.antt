@@ -16,7 +16,7 @@ use Rattle.shelf_laws.specs.State.{copyOut, wholeIn}
 use Rattle.shelf_laws.specs.History.{OfBytes, copy, afterAll}
 use Rattle.shelf_laws.proofs.Octets.{octets-cons}
 use Rattle.shelf_laws.proofs.Ranges.{CopyRange}
-use Rattle.writer.specs.Writer.{most, lastOf, bodyAt, sectionOf, written}
+use Rattle.writer.specs.Writer.{longestBody, lastOf, bodyAt, sectionOf, written}
 use Rattle.writer.specs.declared.Label.{Label}
 use Rattle.writer.proofs.Laws.{last-le}
 use Rattle.writer_laws.specs.Offers as layer
@@ -40,7 +40,7 @@ octets-eight a b c d e f g h s la lb lc ld le lf lg lh o =
     (octets-cons e (f ∷ g ∷ h ∷ s) le (octets-cons f (g ∷ h ∷ s) lf (octets-cons g (h ∷ s) lg (octets-cons h s lh o)))))))
 
 -- a section that is written for a label and a body of bytes is of bytes
-section-octets : (label : Label) (body : List ℕ) → label .version ≤ 31 → length body ≤ most → InBytes label body
+section-octets : (label : Label) (body : List ℕ) → label .version ≤ 31 → length body ≤ longestBody → InBytes label body
     → (k : ℕ) → k ≤ lastOf (length body) → Octets (written label body k)
 unfolding written sectionOf bodyAt
 section-octets label body five fits b k known =
@@ -54,7 +54,7 @@ section-octets label body five fits b k known =
     t (omega arith) (omega arith) (omega arith) (omega arith) (omega arith) (omega arith) (omega arith)
     (octets-part body (1016 * k) 1016 (b .octets))
 
-offers-octets : (label : Label) (body : List ℕ) → label .version ≤ 31 → length body ≤ most → InBytes label body
+offers-octets : (label : Label) (body : List ℕ) → label .version ≤ 31 → length body ≤ longestBody → InBytes label body
     → (ks : List ℕ) → ((k : ℕ) → List·Memᴰ k ks → k ≤ lastOf (length body)) → OfBytes (layer.offersOf label body ks)
 offers-octets label body five fits b [] known = tt
 offers-octets label body five fits b (k ∷ ks) known = (
@@ -82,14 +82,14 @@ body-same c r = go (c .said) r
 
 pub complete-table : CompleteTable
 complete-table label body five fits ks any h e =
-    by-complete h (layer.keyOf label)
-    (ap (λ cs. wholeIn (afterAll cs) (layer.keyOf label)) e ∙ order.complete-table label body five fits ks any)
+    by-complete h (layer.labelKey label)
+    (ap (λ cs. wholeIn (afterAll cs) (layer.labelKey label)) e ∙ order.complete-table label body five fits ks any)
 
 pub hands-out : HandsOut
 hands-out label body five fits ks any h e k known output room =
-    reply-after h (copy (layer.keyOf label) k output)
+    reply-after h (copy (layer.labelKey label) k output)
     ∙ ap ask-answer.copyOut
-    (ap (λ cs. copyOut (afterAll cs) (layer.keyOf label) k output) e ∙ order.hands-out label body five fits ks any k known output room)
+    (ap (λ cs. copyOut (afterAll cs) (layer.labelKey label) k output) e ∙ order.hands-out label body five fits ks any k known output room)
 
 bodies-same : (h : History) (key : Key) (output : List ℕ) (n : ℕ) → bodiesAfter h key output n ≡ layer.bodiesAfter (h .calls) key output n
 bodies-same h key output zero = refl
@@ -101,6 +101,6 @@ bodies-same h key output (suc n) =
 
 pub bodies-back : BodiesBack
 bodies-back label body five fits ks any h e output room =
-    bodies-same h (layer.keyOf label) output (lastOf (length body) + 1)
-    ∙ ap (λ cs. layer.bodiesAfter cs (layer.keyOf label) output (lastOf (length body) + 1)) e
+    bodies-same h (layer.labelKey label) output (lastOf (length body) + 1)
+    ∙ ap (λ cs. layer.bodiesAfter cs (layer.labelKey label) output (lastOf (length body) + 1)) e
     ∙ order.bodies-back label body five fits ks any output room

@@ -10,7 +10,7 @@ use Rattle.answers.specs.Answers.{Out, sizeIn, filled}
 use Rattle.shelf.specs.declared.Key.{Key}
 use Rattle.writer.specs.Writer.{lastOf, written}
 use Rattle.writer.specs.declared.Label.{Label}
-use Rattle.writer_laws.specs.Offers.{keyOf, offersOf}
+use Rattle.writer_laws.specs.Offers.{labelKey, offersOf}
 use Rattle.writer_laws.specs.Laws.{InAnyOrder}
 use Rattle.shelf_histories.specs.History.{Loan, Sized, History, wholeAfter, copyAfter}
 use Rattle.demands.specs.Shelf.{complete}
@@ -33,7 +33,7 @@ CanBeOffered =
 
 -- the table is called complete
 abbrev pub CompleteTable : Type 0
-CompleteTable = InAnyOrder (λ label body ks. (h : History) → Offering label body ks h → wholeAfter h (keyOf label) ≡ complete)
+CompleteTable = InAnyOrder (λ label body ks. (h : History) → Offering label body ks h → wholeAfter h (labelKey label) ≡ complete)
 
 -- each section is handed out as it was written
 abbrev pub HandsOut : Type 0
@@ -45,7 +45,7 @@ HandsOut =
     → k ≤ lastOf (length body)
     → (output : List ℕ)
     → length (written label body k) ≤ length output
-    → copyAfter h (keyOf label) k output ≡ filled (written label body k) output)
+    → copyAfter h (labelKey label) k output ≡ filled (written label body k) output)
 
 -- the body of a section that is handed out, past the header's eight bytes
 abbrev pub bodyOf : Out → List ℕ
@@ -64,4 +64,4 @@ BodiesBack =
     → Offering label body ks h
     → (output : List ℕ)
     → 1024 ≤ length output
-    → bodiesAfter h (keyOf label) output (lastOf (length body) + 1) ≡ body)
+    → bodiesAfter h (labelKey label) output (lastOf (length body) + 1) ≡ body)

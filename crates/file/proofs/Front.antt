@@ -7,7 +7,7 @@ use Prim.Native.Nat.{ℕ, _<_, _≤_}
 use borrow.Author.Tests.{lt-ltb, le-ltb, eq-eqb, ne-eqb}
 use Rattle.file_number.specs.Number.{numberAt}
 use Rattle.file_number.specs.declared.Number.{Number}
-use Rattle.file.specs.Layout.{form, fewest, most}
+use Rattle.file.specs.Layout.{form, fewest, mostCounted}
 use Rattle.file.specs.Scan.{refused, nothing, sectionsOf, countOf, scanOf}
 
 module _ (file : List ℕ) (at : ℕ) where
@@ -20,10 +20,10 @@ module _ (file : List ℕ) (at : ℕ) where
 
     module _ (f : 1 ≤ count) where
       pub many : 16 < count → refused 12 ≡ countOf file (numberAt file at)
-      many l = rw (e, le-ltb count fewest f, lt-ltb most count l)
+      many l = rw (e, le-ltb count fewest f, lt-ltb mostCounted count l)
 
       pub counted : count ≤ 16 → sectionsOf count file (nothing next) ≡ countOf file (numberAt file at)
-      counted l = rw (e, le-ltb count fewest f, le-ltb most count l)
+      counted l = rw (e, le-ltb count fewest f, le-ltb mostCounted count l)
 
 module _ (file : List ℕ) where
   pub no-form : (n : ℕ) → numberAt file 0 ≡ Number.Refused n → refused n ≡ scanOf file

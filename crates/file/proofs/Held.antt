@@ -17,7 +17,7 @@ use Rattle.section.specs.declared.Header.{Header}
 use Rattle.section.specs.declared.Reading.{Reading}
 use Rattle.file_number.specs.Number.{numberAt}
 use Rattle.file_number.specs.declared.Number.{Number}
-use Rattle.file.specs.Layout.{form, fewest, most, shortest, longest, sameTable}
+use Rattle.file.specs.Layout.{form, fewest, mostCounted, shortest, longest, sameTable}
 use Rattle.file.specs.Scan.{Seen, refused, nothing, firstOf, added, sectionAt, sectionsOf, followOf, countOf, formOf, scanOf}
 use Rattle.file.specs.declared.Part.{Part}
 use Rattle.file.specs.declared.Scan.{Scan}
@@ -36,26 +36,26 @@ pub record Lies (file : List ℕ) (first : Header) (n start size : ℕ) : Type 0
 
 -- by number, nothing or a section
 pub record Holds (file : List ℕ) (first : Header) (starts lengths : List ℕ) : Type 0 where
-  pub places : length starts ≡ most
-  pub sizes : length lengths ≡ most
+  pub places : length starts ≡ mostCounted
+  pub sizes : length lengths ≡ mostCounted
   pub last : first .last ≤ 15
   pub some : (n : ℕ) × (shortest ≤ getD lengths n 0)
   pub each : (n : ℕ) → (getD lengths n 0 ≡ 0) ⊎ Lies file first n (getD starts n 0) (getD lengths n 0)
 
 -- no section is held
 abbrev pub blank : List ℕ
-blank = replicate most 0
+blank = replicate mostCounted 0
 
 pub none-held : (n : ℕ) → getD blank n 0 ≡ 0
 none-held n =
-    by (ltb n most)
-    (λ t. getD-replicate most n 0 0 (ltb-true _ _ t))
+    by (ltb n mostCounted)
+    (λ t. getD-replicate mostCounted n 0 0 (ltb-true _ _ t))
     (λ f. let l : length blank ≤ n = ltb-false _ _ f in List·getD-eq-default blank 0 l)
 
 -- before the first section there is no table yet
 pub record Good (file : List ℕ) (seen : Seen) : Type 0 where
-  pub places : length (seen .starts) ≡ most
-  pub sizes : length (seen .lengths) ≡ most
+  pub places : length (seen .starts) ≡ mostCounted
+  pub sizes : length (seen .lengths) ≡ mostCounted
   pub begins : seen .begun ≡ false → seen .lengths ≡ blank
   pub last : seen .begun ≡ true → seen .first .last ≤ 15
   pub some : seen .begun ≡ true → (n : ℕ) × (shortest ≤ getD (seen .lengths) n 0)
@@ -64,7 +64,7 @@ pub record Good (file : List ℕ) (seen : Seen) : Type 0 where
 
 module _ (file : List ℕ) (first h : Header) (start size : ℕ) (at : ℕ)
     (e : sectionAt file at ≡ Part.Section h start size) (s : sameTable first h ≡ true) (starts lengths : List ℕ)
-    (places : length starts ≡ most) (sizes : length lengths ≡ most) where
+    (places : length starts ≡ mostCounted) (sizes : length lengths ≡ mostCounted) where
   abbrev Here : ℕ → Type 0
   Here n =
       (getD (set lengths (h .number) size) n 0 ≡ 0)
@@ -103,7 +103,7 @@ good-added file seen h start size e s g =
           λ _.
           let f = found h start size file (seen .next) e in
           let k = sound-number (part file start size) h (f .sound) in
-          let z : length (seen .lengths) ≡ most = g .sizes in
+          let z : length (seen .lengths) ≡ mostCounted = g .sizes in
           let low : h .number < length (seen .lengths) = omega arith in
           (h .number, rw (getD-set-same (seen .lengths) (h .number) size 0 low) (f .low));
       each =
@@ -150,7 +150,7 @@ sections-held file (suc left) seen g b = go (sections-held file left) (sectionAt
 count-held : (file : List ℕ) (n : Number) → Answers file (countOf file n)
 count-held file (Number.Refused n) = no-answer file n
 count-held file (Number.Value count next) =
-    by (ltb count fewest || ltb most count)
+    by (ltb count fewest || ltb mostCounted count)
     (λ t. rw t (no-answer file 12))
     (λ f.
     let some : fewest ≤ count = ltb-false _ _ (or-left (ltb count fewest) _ f) in

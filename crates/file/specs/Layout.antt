@@ -20,8 +20,8 @@ form = 1
 abbrev pub fewest : ℕ
 fewest = 1
 
-abbrev pub most : ℕ
-most = mostSections
+abbrev pub mostCounted : ℕ
+mostCounted = mostSections
 
 -- a section has 8 to 1,024 bytes
 abbrev pub shortest : ℕ
@@ -32,7 +32,7 @@ longest = largestSection
 
 -- the largest file, 16,418 bytes: one each for form and count, and for each section two for its length
 abbrev pub largestFile : ℕ
-largestFile = 2 + most * (2 + longest)
+largestFile = 2 + mostCounted * (2 + longest)
 
 -- each section's byte length and its bytes
 unfoldable pub listed : List (List ℕ) → List ℕ
@@ -66,4 +66,4 @@ Rising first lowest (s ∷ ss) =
 -- the sections of a table, as a file holds them
 abbrev pub SoundTable : List (List ℕ) → Type 0
 SoundTable [] = ⊥
-SoundTable (s ∷ ss) = (length (s ∷ ss) ≤ most) × Rising (headerOf s) 0 (s ∷ ss)
+SoundTable (s ∷ ss) = (length (s ∷ ss) ≤ mostCounted) × Rising (headerOf s) 0 (s ∷ ss)

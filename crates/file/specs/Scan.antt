@@ -13,7 +13,7 @@ use Rattle.section.specs.declared.Header.{Header}
 use Rattle.section.specs.declared.Reading.{Reading}
 use Rattle.file_number.specs.Number.{numberAt}
 use Rattle.file_number.specs.declared.Number.{Number}
-use Rattle.file.specs.Layout.{form, fewest, most, shortest, longest, chosen, sameTable}
+use Rattle.file.specs.Layout.{form, fewest, mostCounted, shortest, longest, chosen, sameTable}
 use Rattle.file.specs.declared.Part.{Part}
 use Rattle.file.specs.declared.Scan.{Scan}
 use Rattle.file.specs.declared.Scanned.{Scanned}
@@ -30,7 +30,7 @@ pub record Seen : Type 0 where
 
 -- a refused file gives the number alone
 abbrev pub refused : ℕ → Scanned
-refused n = record { answer = Scan.Refused n; starts = replicate most 0; lengths = replicate most 0 }
+refused n = record { answer = Scan.Refused n; starts = replicate mostCounted 0; lengths = replicate mostCounted 0 }
 
 -- the table that the sections read are
 abbrev pub accepted : Seen → Scanned
@@ -48,8 +48,8 @@ nothing at =
       first = noHeader;
       lowest = 0;
       next = at;
-      starts = replicate most 0;
-      lengths = replicate most 0;
+      starts = replicate mostCounted 0;
+      lengths = replicate mostCounted 0;
     }
 
 -- the first section's header, which may be this one's
@@ -102,7 +102,7 @@ sectionsOf (suc more) file seen = followOf (sectionsOf more file) seen (sectionA
 abbrev pub countOf : List ℕ → Number → Scanned
 countOf file (Number.Refused n) = refused n
 countOf file (Number.Value count next) =
-    first refused (12 if (ltb count fewest || ltb most count) ∷ []) (sectionsOf count file (nothing next))
+    first refused (12 if (ltb count fewest || ltb mostCounted count) ∷ []) (sectionsOf count file (nothing next))
 
 -- 11; 12: form not 1
 abbrev pub formOf : List ℕ → Number → Scanned
@@ -114,12 +114,12 @@ unfoldable pub scanOf : List ℕ → Scanned
 scanOf file = formOf file (numberAt file 0)
 
 -- section n is held, where its length is not 0
-abbrev pub holds : List ℕ → ℕ → Bool
-holds lengths n = not (eqb (getD lengths n 0) 0)
+abbrev pub foundAt : List ℕ → ℕ → Bool
+foundAt lengths n = not (eqb (getD lengths n 0) 0)
 
 -- the sections that were found in a file, by rising number
 unfoldable pub foundIn : List ℕ → List ℕ → List ℕ → List (List ℕ)
-foundIn file starts lengths = chosen most (holds lengths) (λ n. part file (getD starts n 0) (getD lengths n 0))
+foundIn file starts lengths = chosen mostCounted (foundAt lengths) (λ n. part file (getD starts n 0) (getD lengths n 0))
 
 -- the table that the file was read as
 abbrev pub tableIn : List ℕ → List (List ℕ)

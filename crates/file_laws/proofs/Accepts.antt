@@ -18,8 +18,8 @@ use Rattle.file_number.specs.Number.{spelling, spelt, numberIn, numberAt}
 use Rattle.file_number.specs.declared.Number.{Number}
 use Rattle.file_number.proofs.OneSpelling.{read-spelt}
 use Rattle.file_number.proofs.Bounds.{spelt-some}
-use Rattle.file.specs.Layout.{form, most, shortest, longest, listed, fileOf, chosen, sameTable, Rising, SoundTable}
-use Rattle.file.specs.Scan.{Seen, accepted, nothing, firstOf, added, readingOf, sectionAt, sectionsOf, scanOf, holds, foundIn, tableIn}
+use Rattle.file.specs.Layout.{form, mostCounted, shortest, longest, listed, fileOf, chosen, sameTable, Rising, SoundTable}
+use Rattle.file.specs.Scan.{Seen, accepted, nothing, firstOf, added, readingOf, sectionAt, sectionsOf, scanOf, foundAt, foundIn, tableIn}
 use Rattle.file.specs.declared.Part.{Part}
 use Rattle.file.specs.declared.Scan.{Scan}
 use Rattle.file.proofs.Parts.{read-as}
@@ -60,8 +60,8 @@ module _ (file s rest : List ℕ) (at : ℕ) (here : drop at file ≡ spelt (len
 
 -- no section is seen yet from the lowest allowed number on
 pub record Clear (seen : Seen) : Type 0 where
-  pub places : length (seen .starts) ≡ most
-  pub sizes : length (seen .lengths) ≡ most
+  pub places : length (seen .starts) ≡ mostCounted
+  pub sizes : length (seen .lengths) ≡ mostCounted
   pub none : (k : ℕ) → seen .lowest ≤ k → getD (seen .lengths) k 0 ≡ 0
 
 module _ (file : List ℕ) (seen : Seen) (c : Clear seen) (h : Header) (start size : ℕ) (rises : seen .lowest ≤ h .number) (few : h .number ≤ 15) where
@@ -73,7 +73,7 @@ module _ (file : List ℕ) (seen : Seen) (c : Clear seen) (h : Header) (start si
         none = λ k l. getD-set-other (seen .lengths) (h .number) k size 0 (λ e. omega arith) ∙ c .none k (omega arith);
       }
 
-  held-none : (lengths : List ℕ) (k : ℕ) → getD lengths k 0 ≡ 0 → holds lengths k ≡ false
+  held-none : (lengths : List ℕ) (k : ℕ) → getD lengths k 0 ≡ 0 → foundAt lengths k ≡ false
   held-none lengths k e = rw (eq-eqb (getD lengths k 0) 0 e)
 
   found-added : (s : List ℕ) → part file start size ≡ s → (size ≡ 0 → ⊥)
@@ -83,8 +83,8 @@ module _ (file : List ℕ) (seen : Seen) (c : Clear seen) (h : Header) (start si
   found-added s e z =
       let lengths = set (seen .lengths) (h .number) size in
       let starts = set (seen .starts) (h .number) start in
-      let q : length (seen .lengths) ≡ most = c .sizes in
-      let q' : length (seen .starts) ≡ most = c .places in
+      let q : length (seen .lengths) ≡ mostCounted = c .sizes in
+      let q' : length (seen .starts) ≡ mostCounted = c .places in
       let l : h .number < length (seen .lengths) = omega arith in
       let l' : h .number < length (seen .starts) = omega arith in
       let a : getD lengths (h .number) 0 ≡ size = getD-set-same (seen .lengths) (h .number) size 0 l in
@@ -93,10 +93,10 @@ module _ (file : List ℕ) (seen : Seen) (c : Clear seen) (h : Header) (start si
       = λ k d. getD-set-other (seen .lengths) (h .number) k size 0 d in
       let other' : (k : ℕ) → (k ≡ h .number → ⊥) → getD starts k 0 ≡ getD (seen .starts) k 0
       = λ k d. getD-set-other (seen .starts) (h .number) k start 0 d in
-      chosen-added (holds (seen .lengths)) (holds lengths)
+      chosen-added (foundAt (seen .lengths)) (foundAt lengths)
       (λ n. part file (getD (seen .starts) n 0) (getD (seen .lengths) n 0))
       (λ n. part file (getD starts n 0) (getD lengths n 0))
-      (h .number) most (omega arith)
+      (h .number) mostCounted (omega arith)
       (λ k m. held-none (seen .lengths) k (c .none k (omega arith)))
       (λ k m. held-none lengths k (other k (λ d. omega arith) ∙ c .none k (omega arith)))
       (ap (λ n. not (eqb n 0)) a ∙ ap not (ne-eqb size 0 z))
@@ -216,10 +216,10 @@ module _ (ss : List (List ℕ)) where
   unfolding fileOf
   form-here = read-spelt form (omega arith) (spelt (length ss) ++ listed ss) 0
 
-  count-here : length ss ≤ most → numberAt (fileOf ss) count-at ≡ Number.Value (length ss) (first-at (length ss))
+  count-here : length ss ≤ mostCounted → numberAt (fileOf ss) count-at ≡ Number.Value (length ss) (first-at (length ss))
   count-here few = ap (λ d. numberIn d count-at) counts-here ∙ read-spelt (length ss) (omega arith) (listed ss) count-at
 
-  scan-front : 1 ≤ length ss → length ss ≤ most → scanOf (fileOf ss) ≡ sectionsOf (length ss) (fileOf ss) (nothing (first-at (length ss)))
+  scan-front : 1 ≤ length ss → length ss ≤ mostCounted → scanOf (fileOf ss) ≡ sectionsOf (length ss) (fileOf ss) (nothing (first-at (length ss)))
   scan-front some few =
       sym (formed (fileOf ss) form count-at form-here refl)
       ∙ sym (counted (fileOf ss) count-at (length ss) (first-at (length ss)) (count-here few) some few)

@@ -27,7 +27,7 @@ use Rattle.file_number.specs.declared.Number.{Number}
 use Rattle.file_number.proofs.OneSpelling.{read-spelt}
 use Rattle.file_number.proofs.Bounds.{within}
 use Rattle.file_number.proofs.Unreadable.{unreadable-exactly, only-11}
-use Rattle.file.specs.Layout.{form, fewest, most, shortest, longest, listed, sameTable, Rising}
+use Rattle.file.specs.Layout.{form, fewest, mostCounted, shortest, longest, listed, sameTable, Rising}
 use Rattle.file.specs.Scan.{Seen, refused, nothing, firstOf, added, readingOf, lengthOf, sectionAt, sectionsOf, followOf, countOf, formOf, scanOf}
 use Rattle.file.specs.declared.Part.{Part}
 use Rattle.file.specs.declared.Scan.{Scan}
@@ -369,10 +369,10 @@ module _ (file : List ℕ) where
     counted-fault next i f (Number.Value n at) q e =
         let h : file ≡ spelt form ++ (spelt n ++ drop at file) = f ∙ ap (λ l. spelt form ++ l) (spelt-here file b next n at q) in
         let k = within file next n at q in
-        by (ltb n fewest || ltb most n)
+        by (ltb n fewest || ltb mostCounted n)
         (λ t.
         subst (Fault file) (one-number 12 m (rw t at e))
-        (Fault.count-not-1-to-16 n (drop at file) h (k .0) (outside n fewest most t)))
+        (Fault.count-not-1-to-16 n (drop at file) h (k .0) (outside n fewest mostCounted t)))
         (λ t.
         goes n [] (drop at file) (nothing at)
         (record {

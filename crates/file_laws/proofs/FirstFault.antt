@@ -22,7 +22,7 @@ use Rattle.section.specs.declared.Reading.{Reading}
 use Rattle.file_number.specs.Number.{largest, spelling, spelt, groups, worth, cutOff, notShortest, numberIn}
 use Rattle.file_number.specs.declared.Number.{Number}
 use Rattle.file_number.proofs.OneSpelling.{read-spelt}
-use Rattle.file.specs.Layout.{form, fewest, most, shortest, longest, listed, sameTable, Rising}
+use Rattle.file.specs.Layout.{form, fewest, mostCounted, shortest, longest, listed, sameTable, Rising}
 use Rattle.file.specs.Scan.{Seen, refused, nothing, firstOf, readingOf, lengthOf, sectionAt, sectionsOf, scanOf}
 use Rattle.file.specs.declared.Part.{Part}
 use Rattle.file.proofs.Sections.{faulty, other, fallen}
@@ -130,7 +130,7 @@ pub record Behind (file rest : List ℕ) (ss : List (List ℕ)) (left : ℕ) : T
   pub first : (h : Header) → firstOf seen h ≡ firstOr h ss
   pub lowest : seen .lowest ≡ lowestAfter 0 ss
 
-module _ (n : ℕ) (some : fewest ≤ n) (few : n ≤ most) (body : List ℕ) where
+module _ (n : ℕ) (some : fewest ≤ n) (few : n ≤ mostCounted) (body : List ℕ) where
   -- a file with that count, and what stands after it
   abbrev counts : List ℕ
   counts = spelt form ++ (spelt n ++ body)
@@ -154,7 +154,7 @@ module _ (n : ℕ) (some : fewest ≤ n) (few : n ≤ most) (body : List ℕ) wh
       ∙ sym (counted counts count-at n (first-at n)
       (ap (λ d. numberIn d count-at) count-here ∙ read-spelt n (omega arith) body count-at) some few)
 
-module _ (s : List ℕ) (ss : List (List ℕ)) (rest : List ℕ) (n : ℕ) (some : fewest ≤ n) (few : n ≤ most) (more : length (s ∷ ss) ≤ n)
+module _ (s : List ℕ) (ss : List (List ℕ)) (rest : List ℕ) (n : ℕ) (some : fewest ≤ n) (few : n ≤ mostCounted) (more : length (s ∷ ss) ≤ n)
     (rising : Rising (headerOf s) 0 (s ∷ ss)) where
   abbrev file : List ℕ
   file = counts n some few (listed (s ∷ ss) ++ rest)

@@ -19,7 +19,7 @@ use Rattle.section.specs.declared.Reading.{Reading}
 use Rattle.file_number.specs.Number.{groups, cutOff, numberIn, numberAt}
 use Rattle.file_number.specs.declared.Number.{Number}
 use Rattle.file_number.proofs.Reading.{one-in, zero-in, two-in, zero-in-3, three-in, above-in}
-use Rattle.file.specs.Layout.{form, fewest, most, shortest, longest, largestFile, sameTable}
+use Rattle.file.specs.Layout.{form, fewest, mostCounted, shortest, longest, largestFile, sameTable}
 use Rattle.file.specs.Scan.{Seen, nothing, firstOf, added, readingOf, lengthOf, sectionAt, sectionsOf, followOf, countOf, formOf, scanOf}
 use Rattle.file.specs.declared.Part.{Part}
 
@@ -189,10 +189,10 @@ module _ (file : List ℕ) (long : largestFile < length file) where
       go : (m : Number) → ((n next : ℕ) → m ≡ Number.Value n next → Near at n next) → countOf front m ≡ countOf file m
       go (Number.Refused n) near = refl
       go (Number.Value count next) near =
-          by (ltb count fewest || ltb most count)
+          by (ltb count fewest || ltb mostCounted count)
           (λ t. rw t)
           (λ t.
-          let few : count ≤ most = ltb-false _ _ (or-right (ltb count fewest) _ t) in
+          let few : count ≤ mostCounted = ltb-false _ _ (or-right (ltb count fewest) _ t) in
           let close : next ≤ at + 1 = near count next refl .0 (omega arith) in
           rw t (sections count (nothing next) (omega arith)))
 

@@ -12,7 +12,7 @@ use Rattle.section.specs.declared.Header.{Header}
 use Rattle.section.specs.declared.Reading.{Reading}
 use Rattle.file_number.specs.Number.{spelling, spelt}
 use Rattle.file_number.proofs.Bounds.{spelt-1-long, spelt-2-long}
-use Rattle.file.specs.Layout.{form, most, shortest, longest, largestFile, listed, fileOf, sameTable, Rising, SoundTable}
+use Rattle.file.specs.Layout.{form, mostCounted, shortest, longest, largestFile, listed, fileOf, sameTable, Rising, SoundTable}
 use Rattle.file.proofs.Found.{sound-size}
 
 listed-short : (first : Header) (lowest : ℕ) (ss : List (List ℕ)) → Rising first lowest ss → length (listed ss) ≤ 1026 * length ss
@@ -29,7 +29,7 @@ unfolding fileOf
 largest-file [] t = absurd t
 largest-file (s ∷ ss) t =
     let f : length (spelt form) ≡ 1 = spelt-1-long form (omega arith) in
-    let n : length (s ∷ ss) ≤ most = t .0 in
+    let n : length (s ∷ ss) ≤ mostCounted = t .0 in
     let c : length (spelt (length (s ∷ ss))) ≡ 1 = spelt-1-long (length (s ∷ ss)) (omega arith) in
     let l : length (listed (s ∷ ss)) ≤ 1026 * length (s ∷ ss) = listed-short (headerOf s) 0 (s ∷ ss) (t .1) in
     simp length-append (omega arith)

@@ -18,7 +18,7 @@ use Rattle.section.specs.declared.Reading.{Reading}
 use Rattle.file_number.specs.Number.{spelt, numberAt, Bytes}
 use Rattle.file_number.specs.declared.Number.{Number}
 use Rattle.file_number.proofs.OneSpelling.{only-spelt}
-use Rattle.file.specs.Layout.{form, fewest, most, listed, fileOf, sameTable, Rising, SoundTable}
+use Rattle.file.specs.Layout.{form, fewest, mostCounted, listed, fileOf, sameTable, Rising, SoundTable}
 use Rattle.file.specs.Scan.{Seen, refused, nothing, firstOf, added, sectionAt, sectionsOf, followOf, countOf, formOf, scanOf}
 use Rattle.file.specs.declared.Part.{Part}
 use Rattle.file.specs.declared.Scan.{Scan}
@@ -143,7 +143,7 @@ module _ (file : List ℕ) (b : Bytes file) (last : Header) where
     stands : drop at file ≡ listed sections
     sound : SoundTable sections
 
-  table : (at n : ℕ) → 1 ≤ n → n ≤ most → sectionsOf n file (nothing at) .answer ≡ Scan.Table last → Table at n
+  table : (at n : ℕ) → 1 ≤ n → n ≤ mostCounted → sectionsOf n file (nothing at) .answer ≡ Scan.Table last → Table at n
   unfolding before
   table at zero some few e = absurd (omega arith)
   table at (suc n) some few e =
@@ -160,7 +160,7 @@ module _ (file : List ℕ) (b : Bytes file) (last : Header) where
           → (ss : List (List ℕ)) × SoundTable ss × (drop at file ≡ spelt (length ss) ++ listed ss)
       go (Number.Refused k) q e = apart k last e
       go (Number.Value n next) q e =
-          by (ltb n fewest || ltb most n)
+          by (ltb n fewest || ltb mostCounted n)
           (λ t. apart 12 last (rw t at e))
           (λ t.
           let t' = table next n (ltb-false _ _ (or-left (ltb n fewest) _ t)) (ltb-false _ _ (or-right (ltb n fewest) _ t)) (rw t at e) in

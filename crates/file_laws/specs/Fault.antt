@@ -9,7 +9,7 @@ use Rattle.section.specs.Section.{tableId, tableIdExtension, version, sectionNu
 use Rattle.section.specs.declared.Reading.the-variants.{Sound, Refused}
 use Rattle.file_number.specs.Number.{largest, spelt}
 use Rattle.file_number.specs.Unreadable.{Unreadable}
-use Rattle.file.specs.Layout.{form, fewest, most, shortest, longest, listed, Rising}
+use Rattle.file.specs.Layout.{form, fewest, mostCounted, shortest, longest, listed, Rising}
 
 -- sections without a fault: sound, of one table, their numbers rising
 abbrev pub Good : List (List ℕ) → Type 0
@@ -20,7 +20,7 @@ Good (s ∷ ss) = Rising (headerOf s) 0 (s ∷ ss)
 -- rest follows
 pub record Begins (file : List ℕ) (n : ℕ) (ss : List (List ℕ)) (rest : List ℕ) : Type 0 where
   pub some : fewest ≤ n
-  pub few : n ≤ most
+  pub few : n ≤ mostCounted
   pub good : Good ss
   pub stands : file ≡ spelt form ++ (spelt n ++ (listed ss ++ rest))
 
@@ -52,7 +52,7 @@ pub data Fault (file : List ℕ) : ℕ → Type 0 where
   -- the count: 11; count not 1 to 16
   count-unreadable : (rest : List ℕ) → file ≡ spelt form ++ rest → Unreadable rest → Fault file 11
   count-not-1-to-16 : (n : ℕ) (rest : List ℕ) → file ≡ spelt form ++ (spelt n ++ rest) → n ≤ largest
-      → (n < fewest) ⊎ (most < n) → Fault file 12
+      → (n < fewest) ⊎ (mostCounted < n) → Fault file 12
   -- at a section: 11; length not 8 to 1,024; bytes run past the file
   length-unreadable : (ss : List (List ℕ)) (rest : List ℕ) → ToCome file ss rest → Unreadable rest → Fault file 11
   length-not-8-to-1024 : (ss : List (List ℕ)) (size : ℕ) (rest : List ℕ) → ToCome file ss (spelt size ++ rest) → size ≤ largest

@@ -20,7 +20,7 @@ use Rattle.base.proofs.Cases.{by, and-left, and-right}
 use Rattle.section.specs.declared.Header.{Header}
 use Rattle.section.proofs.Laws.{sound-facts, sound-fits}
 use Rattle.file.specs.Layout.{sameTable}
-use Rattle.file.specs.Scan.{scanOf, holds}
+use Rattle.file.specs.Scan.{scanOf, foundAt}
 use Rattle.file.specs.declared.Scan.{Scan}
 use Rattle.file.proofs.Held.{held, Holds, Lies}
 use Rattle.file_listing.specs.Words.{place, decimal, field, ascii, newline, lines}
@@ -100,7 +100,7 @@ module _ (lengths : List ℕ) (short : (n : ℕ) → getD lengths n 0 ≤ 1024) 
   unfolding sectionOf missingOf sectionLine missingLine
   line-1 n h =
       let size : getD lengths n 0 ≤ 1024 = short n in
-      by (holds lengths n)
+      by (foundAt lengths n)
       (λ t. rw t (simp length-append (omega (arith, decimal-1 n h, decimal-4 (getD lengths n 0) (omega arith)))))
       (λ f. rw f (simp length-append (omega (arith, decimal-1 n h))))
 
@@ -108,7 +108,7 @@ module _ (lengths : List ℕ) (short : (n : ℕ) → getD lengths n 0 ≤ 1024) 
   unfolding sectionOf missingOf sectionLine missingLine
   line-2 n h =
       let size : getD lengths n 0 ≤ 1024 = short n in
-      by (holds lengths n)
+      by (foundAt lengths n)
       (λ t. rw t (simp length-append (omega (arith, decimal-2 n h, decimal-4 (getD lengths n 0) (omega arith)))))
       (λ f. rw f (simp length-append (omega (arith, decimal-2 n h))))
 
@@ -132,7 +132,7 @@ module _ (lengths : List ℕ) (short : (n : ℕ) → getD lengths n 0 ≤ 1024) 
       let head : length (headLine h) ≤ 39 = head-short h t v l in
       let both : length (lines (h .last + 1) (sectionOf lengths)) + length (lines (h .last + 1) (missingOf lengths)) ≤ 21 * (h .last + 1) + (h .last + 1 - 10)
       = lines-short (h .last + 1) (omega arith) in
-      by (every (h .last + 1) (holds lengths))
+      by (every (h .last + 1) (foundAt lengths))
       (λ t. rw t (simp length-append (omega arith)))
       (λ f. rw f (simp length-append (omega arith)))
 

@@ -13,7 +13,7 @@ use lib.Seq.{length-take-le, take-length}
 use borrow.Author.Tests.{lt-ltb, le-ltb}
 use Rattle.base.specs.Below.{every}
 use Rattle.section.specs.declared.Header.{Header}
-use Rattle.file.specs.Scan.{scanOf, holds}
+use Rattle.file.specs.Scan.{scanOf, foundAt}
 use Rattle.file.specs.declared.Scan.{Scan}
 use Rattle.file.specs.declared.Scanned.{Scanned}
 use Rattle.file.proofs.Held.{held}
@@ -27,11 +27,11 @@ wider : {s : List ℕ} {m k : ℕ} {t r : Text} → m ≤ k → Grew s m t r →
 wider {s} {m} {k} {t} {r} l g = record { shows = g .shows; within = (let w : r .size ≤ t .size + m = g .within in omega arith) }
 
 module _ (last : ℕ) (lengths : List ℕ) (t r : Text) where
-  pub complete : every (last + 1) (holds lengths) ≡ true → Grew completeLine 9 t r → Grew (endOf last lengths) 224 t r
+  pub complete : every (last + 1) (foundAt lengths) ≡ true → Grew completeLine 9 t r → Grew (endOf last lengths) 224 t r
   unfolding endOf
   complete e g = rw e (wider (omega arith) g)
 
-  pub lacking : every (last + 1) (holds lengths) ≡ false → Grew (lines (last + 1) (missingOf lengths)) 224 t r → Grew (endOf last lengths) 224 t r
+  pub lacking : every (last + 1) (foundAt lengths) ≡ false → Grew (lines (last + 1) (missingOf lengths)) 224 t r → Grew (endOf last lengths) 224 t r
   unfolding endOf
   lacking e g = rw e g
 

@@ -6,7 +6,7 @@ use lib.ListN.{length, getD, drop}
 use Rattle.base.specs.Choice.{if_then_else_, Row, _if_, first}
 use Rattle.base.specs.Below.{every}
 use Rattle.section.specs.declared.Header.{Header}
-use Rattle.file.specs.Scan.{scanOf, holds}
+use Rattle.file.specs.Scan.{scanOf, foundAt}
 use Rattle.file.specs.declared.Scan.{Scan}
 use Rattle.file_listing.specs.Words.{ascii, field, newline, lines}
 use Rattle.file_listing.specs.declared.Listed.{Listed}
@@ -35,14 +35,14 @@ refusedLine n = field "refused " n ++ newline
 
 -- the line of a number that the file holds, and of one that it lacks
 unfoldable pub sectionOf : List ℕ → ℕ → List ℕ
-sectionOf lengths n = if holds lengths n then sectionLine n (getD lengths n 0) else []
+sectionOf lengths n = if foundAt lengths n then sectionLine n (getD lengths n 0) else []
 
 unfoldable pub missingOf : List ℕ → ℕ → List ℕ
-missingOf lengths n = if holds lengths n then [] else missingLine n
+missingOf lengths n = if foundAt lengths n then [] else missingLine n
 
 -- a line for each section held; then that the table is complete, or a line for each that lacks
 unfoldable pub endOf : ℕ → List ℕ → List ℕ
-endOf last lengths = if every (last + 1) (holds lengths) then completeLine else lines (last + 1) (missingOf lengths)
+endOf last lengths = if every (last + 1) (foundAt lengths) then completeLine else lines (last + 1) (missingOf lengths)
 
 unfoldable pub tableText : Header → List ℕ → List ℕ
 tableText h lengths = headLine h ++ (lines (h .last + 1) (sectionOf lengths) ++ endOf (h .last) lengths)

@@ -7,7 +7,7 @@ ghost use Prim.Native.Nat.{_+_, _<_, _≤_};
 ghost use lib.ListN.{length};
 ghost use Rattle.file_listing.specs.Words.{place as placeOf, decimal, lines};
 ghost use Rattle.file_listing.specs.Growing.{room, empty, Grew};
-ghost use Rattle.file.specs.Scan.{holds};
+ghost use Rattle.file.specs.Scan.{foundAt};
 ghost use Rattle.file_listing.specs.Listing.{headLine, sectionLine, missingLine, completeLine, refusedLine, sectionOf, missingOf, endOf, tableText, textOf, listing, listOf};
 ghost use Rattle.base.specs.Below.{every};
 ghost use Rattle.answers.specs.Answers.{out as outOf};
@@ -224,7 +224,7 @@ impl Text {
 // Every number from 0 to the last is held.
 fn all_held(last: u8, lengths: [u16; 16]) -> bool
     requires { ⌜ last ≤ 15 ⌝ }
-    ensures { λ r. ⌜ r ≡ every (last + 1) (holds lengths) ⌝ }
+    ensures { λ r. ⌜ r ≡ every (last + 1) (foundAt lengths) ⌝ }
 {
     let mut all = true;
     let mut number: u8 = 0;

@@ -16,7 +16,7 @@ use Rattle.section.specs.declared.Reading.{Reading}
 use Rattle.berth.specs.Berth.{sections}
 use Rattle.shelf.specs.declared.Key.{Key}
 use Rattle.shelf.specs.Record.{keyOf}
-use Rattle.file.specs.Layout.{most, chosen, sameTable, Rising, SoundTable}
+use Rattle.file.specs.Layout.{mostCounted, chosen, sameTable, Rising, SoundTable}
 use Rattle.file_round.specs.Round.{IsSection}
 use Rattle.file_round.proofs.Picked.{picked-length, picked-in}
 
@@ -84,7 +84,7 @@ rising-first a b s lowest (x ∷ ss) i =
       rising-first a b s (headerOf x .number + 1) ss (i .3),
     )
 
-sound-from : (first : Header) (ss : List (List ℕ)) → length ss ≤ most → Rising first 0 ss → (ss ≡ [] → ⊥) → SoundTable ss
+sound-from : (first : Header) (ss : List (List ℕ)) → length ss ≤ mostCounted → Rising first 0 ss → (ss ≡ [] → ⊥) → SoundTable ss
 sound-from first [] few i some = absurd (some refl)
 sound-from first (s ∷ ss) few i some =
     (few, rising-first first (headerOf s) (same-parts first (headerOf s) (i .1)) 0 (s ∷ ss) i)

@@ -8,8 +8,8 @@ use Rattle.berth.specs.Berth.{berthSize, places}
 use Rattle.shelf.specs.Layout.{heads, atLength, atLast, atMask, keyNumber}
 
 -- the most that each number of the heads may be
-abbrev pub most : List ℕ
-most = 65535 ∷ 65535 ∷ 31 ∷ 15 ∷ 65535 ∷ 65535 ∷ 31 ∷ 15 ∷ 65535 ∷ 65535 ∷ 31 ∷ 15 ∷ 65535 ∷ 65535 ∷ 31 ∷ 15 ∷ []
+abbrev pub headBounds : List ℕ
+headBounds = 65535 ∷ 65535 ∷ 31 ∷ 15 ∷ 65535 ∷ 65535 ∷ 31 ∷ 15 ∷ 65535 ∷ 65535 ∷ 31 ∷ 15 ∷ 65535 ∷ 65535 ∷ 31 ∷ 15 ∷ []
 
 abbrev pub FineLength : List ℕ → ℕ → Type 0
 FineLength words at = (8 ≤ getD words at 0) × (getD words at 0 ≤ berthSize)
@@ -20,7 +20,7 @@ pub record FineColumn (words : List ℕ) (k : ℕ) : Type 0 where
   pub second : FineLength words (atLength 1 k)
   pub third : FineLength words (atLength 2 k)
   pub fourth : FineLength words (atLength 3 k)
-  pub head : getD words (heads + k) 0 ≤ getD most k 0
+  pub head : getD words (heads + k) 0 ≤ getD headBounds k 0
 
 abbrev pub FineColumns : List ℕ → Type 0
 FineColumns words = (k : ℕ) → k < 16 → FineColumn words k

@@ -14,7 +14,7 @@ use Rattle.section.specs.declared.Reading.{Reading}
 use Rattle.section.proofs.ExactlyWhen.{refused-range}
 use Rattle.file_number.specs.Number as Number
 use Rattle.file_number.specs.declared.Number.{Number as Read}
-use Rattle.file.specs.Layout.{form, fewest, most, shortest, longest, sameTable}
+use Rattle.file.specs.Layout.{form, fewest, mostCounted, shortest, longest, sameTable}
 use Rattle.file.specs.Scan.{nothing, firstOf, added, readingOf, lengthOf, sectionAt, sectionsOf, followOf, countOf, formOf, scanOf}
 use Rattle.file.specs.declared.Scan.{Scan}
 use Rattle.file.specs.declared.Scanned.{Scanned}
@@ -58,7 +58,7 @@ sections-low (suc left) file seen =
 count-low : (file : List ℕ) (n : Read) → NumberLow n → ScanLow (countOf file n .answer)
 count-low file (Read.Refused n) b = b
 count-low file (Read.Value count next) b =
-    by (ltb count fewest || ltb most count) (λ t. rw t (omega arith, omega arith)) (λ t. rw t (sections-low count file (nothing next)))
+    by (ltb count fewest || ltb mostCounted count) (λ t. rw t (omega arith, omega arith)) (λ t. rw t (sections-low count file (nothing next)))
 
 form-low : (file : List ℕ) (n : Read) → NumberLow n → ScanLow (formOf file n .answer)
 form-low file (Read.Refused n) b = b

@@ -19,7 +19,7 @@ use Rattle.section.specs.declared.Reading.{Reading}
 use Rattle.section.proofs.ExactlyWhen.{refused-1, refused-range}
 use Rattle.file_number.specs.Number as Number
 use Rattle.file_number.specs.declared.Number.{Number as Read}
-use Rattle.file.specs.Layout.{form, fewest, most, shortest, longest, sameTable}
+use Rattle.file.specs.Layout.{form, fewest, mostCounted, shortest, longest, sameTable}
 use Rattle.file.specs.Scan.{Seen, nothing, firstOf, added, readingOf, lengthOf, sectionAt, sectionsOf, followOf, countOf, formOf, scanOf}
 use Rattle.file.specs.declared.Scan.{Scan}
 use Rattle.file.specs.declared.Scanned.{Scanned}
@@ -83,7 +83,7 @@ in-sections (suc left) file seen =
 in-count : (file : List ℕ) (n : Read) → InNumber n → InScan (countOf file n .answer)
 in-count file (Read.Refused n) b = b
 in-count file (Read.Value count next) b =
-    by (ltb count fewest || ltb most count) (λ t. rw t 12-fault) (λ t. rw t (in-sections count file (nothing next)))
+    by (ltb count fewest || ltb mostCounted count) (λ t. rw t 12-fault) (λ t. rw t (in-sections count file (nothing next)))
 
 in-form : (file : List ℕ) (n : Read) → InNumber n → InScan (formOf file n .answer)
 in-form file (Read.Refused n) b = b

@@ -11,7 +11,7 @@ use Rattle.shelf.specs.declared.Key.{Key}
 use Rattle.shelf.specs.Record.{Shelf}
 use Rattle.shelf_ask.specs.Ask.{unasked, asked}
 use Rattle.file.specs.Layout.{fileOf, chosen}
-use Rattle.file.specs.Scan.{holds}
+use Rattle.file.specs.Scan.{foundAt}
 use Rattle.shelf_save.specs.declared.Saved.{Saved}
 
 -- the paper's number for each case of an answer; 0 for none
@@ -21,7 +21,7 @@ numberOf (Saved.Refused n) = n
 
 -- the held sections of place p among the first k numbers, by rising number: the bytes that stand in their berths
 unfoldable pub heldBelow : ℕ → List ℕ → List ℕ → ℕ → List (List ℕ)
-heldBelow k lengths store p = chosen k (holds lengths) (λ n. standing store p n (getD lengths n 0))
+heldBelow k lengths store p = chosen k (foundAt lengths) (λ n. standing store p n (getD lengths n 0))
 
 -- the file of the table in place p, by its held lengths
 unfoldable pub placeFile : List ℕ → List ℕ → ℕ → List ℕ

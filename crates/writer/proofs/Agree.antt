@@ -16,7 +16,7 @@ use Rattle.section.specs.declared.Header.{Header}
 use Rattle.section.specs.declared.Reading.the-variants.{Sound}
 use Rattle.section.proofs.Laws.{SoundFacts, sound-facts}
 use Rattle.section.proofs.ExactlyWhen.{sound}
-use Rattle.writer.specs.Writer.{full, most, lastOf, bodyAt, sectionOf, written}
+use Rattle.writer.specs.Writer.{full, longestBody, lastOf, bodyAt, sectionOf, written}
 pub use Rattle.writer.specs.Theorems.{found}
 use Rattle.writer.specs.Theorems.{Reads-Back, ReservedOnes, labelIn, Writes-Back}
 use Rattle.writer.specs.declared.Label.{Label}
@@ -48,7 +48,7 @@ section-reads label k last bytes v h l b =
       rw (extension, version, rest),
     )
 
-module _ (label : Label) (body : List ℕ) (k : ℕ) (fits : length body ≤ most) (five : label .version ≤ 31) (known : k ≤ lastOf (length body)) where
+module _ (label : Label) (body : List ℕ) (k : ℕ) (fits : length body ≤ longestBody) (five : label .version ≤ 31) (known : k ≤ lastOf (length body)) where
   pub length-carried : length (bodyAt body k) ≤ full
   length-carried =
       let w = ends-within (length body) (full * k) (starts-within (length body) k known) in

@@ -9,7 +9,7 @@ use native.Mathlib.Numerals.{add-one}
 use native.Mathlib.Omega.{arith}
 use lib.ListN.{length, take, drop, length-append, length-drop, drop-of-length-le, take-append-drop}
 use lib.Seq.{length-take-le, take-add, drop-drop}
-use Rattle.writer.specs.Writer.{full, most, lastOf, bodyAt}
+use Rattle.writer.specs.Writer.{full, longestBody, lastOf, bodyAt}
 pub use Rattle.writer.specs.Theorems.{firstBodies}
 use Rattle.writer.specs.Theorems.{joined, EachAtMost, All-Full, Bodies-Join, Fewest}
 

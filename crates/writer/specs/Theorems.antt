@@ -11,7 +11,7 @@ use Rattle.answers.specs.Answers.{refusalIn}
 use Rattle.section.specs.Section.{readOf}
 use Rattle.section.specs.declared.Header.{Header}
 use Rattle.section.specs.declared.Reading.the-variants.{Sound}
-use Rattle.writer.specs.Writer.{full, most, lastOf, bodyAt, sectionOf, written, countOf, write, placed, writeOf}
+use Rattle.writer.specs.Writer.{full, longestBody, lastOf, bodyAt, sectionOf, written, countOf, write, placed, writeOf}
 use Rattle.writer.specs.Answer.{countedCode, writtenCode}
 use Rattle.writer.specs.declared.Counted.{Counted}
 use Rattle.writer.specs.declared.Label.{Label}
@@ -21,7 +21,7 @@ use Rattle.writer.specs.declared.Written.{Written}
 module _ (n : ℕ) where
   -- body too long
   abbrev pub TooLong : Type 0
-  TooLong = most < n
+  TooLong = longestBody < n
 
   abbrev pub Count-40 : Type 0
   Count-40 = (countedCode (countOf n) ≡ 40) ↔ TooLong
@@ -84,7 +84,7 @@ found label k last bytes =
 -- a written section is read as its label, its number, the last number and its part of the body
 abbrev pub Reads-Back : Label → List ℕ → ℕ → Type 0
 Reads-Back label body k =
-    length body ≤ most → label .version ≤ 31 → k ≤ lastOf (length body)
+    length body ≤ longestBody → label .version ≤ 31 → k ≤ lastOf (length body)
     → readOf (written label body k) ≡ Sound (found label k (lastOf (length body)) (bodyAt body k))
 
 -- the reserved bits of a section are 1

@@ -15,8 +15,8 @@ abbrev pub full : ℕ
 full = largestSection - headerSize
 
 -- a body of up to 16,256 bytes: 16 bodies of 1,016
-abbrev pub most : ℕ
-most = mostSections * full
+abbrev pub longestBody : ℕ
+longestBody = mostSections * full
 
 -- the last section number, with as few sections as will do: each body full but the last. An empty body gives one section,
 -- since 0 - 1 is 0 here; that no fewer will do is a law (proofs/Fewest.antt)
@@ -54,7 +54,7 @@ written label body k = sectionOf label k (lastOf (length body)) (bodyAt body k)
 
 -- 40: body too long
 abbrev pub uncounted : ℕ → List Row
-uncounted n = 40 if ltb most n ∷ []
+uncounted n = 40 if ltb longestBody n ∷ []
 
 -- how many sections a body of n bytes makes: an answer of its own, so that a bench can loop
 unfoldable pub countOf : ℕ → Counted
@@ -71,7 +71,7 @@ write said out = record { said = said; out = out }
 -- order: 40, 41 version above 31, 42 k above the last, then 15
 abbrev pub unwritten : Label → List ℕ → ℕ → List ℕ → List Row
 unwritten label body k out =
-    40 if ltb most (length body)
+    40 if ltb longestBody (length body)
     ∷ 41 if ltb 31 (label .version)
     ∷ 42 if ltb (lastOf (length body)) k
     ∷ 15 if ltb (length out) (length (written label body k))

@@ -10,7 +10,7 @@ use lib.Dec.{ltb}
 use lib.ListN.{length, drop}
 use borrow.Author.Tests.{lt-ltb, le-ltb, ltb-true, ltb-false}
 use Rattle.base.proofs.Cases.{by}
-use Rattle.writer.specs.Writer.{most, lastOf, countOf}
+use Rattle.writer.specs.Writer.{longestBody, lastOf, countOf}
 use Rattle.writer.specs.declared.Counted.{Counted}
 use Rattle.writer.specs.declared.Label.{Label}
 use Rattle.writer_file.specs.Feeding.{feedFile, feed, feedOf}
@@ -20,10 +20,10 @@ use Rattle.writer_file.proofs.Sizes.{file-size}
 
 -- a body that is counted is not too long, and its count is one more than its last number
 module _ (n : ℕ) {r : Counted} (e : r ≡ countOf n) where
-  counted : (k : ℕ) → r ≡ Counted.Sections k → (n ≤ most) × (k ≡ lastOf n + 1)
+  counted : (k : ℕ) → r ≡ Counted.Sections k → (n ≤ longestBody) × (k ≡ lastOf n + 1)
   unfolding countOf
   counted k q =
-      by (ltb most n)
+      by (ltb longestBody n)
       (λ t.
       let x : Counted.Refused 40 ≡ Counted.Sections k = sym (e ∙ rw t) ∙ q in
       absurd (let z : _≡_ {A = ℕ} 0 1 = cc in omega arith))
@@ -31,16 +31,16 @@ module _ (n : ℕ) {r : Counted} (e : r ≡ countOf n) where
       let x : Counted.Sections (lastOf n + 1) ≡ Counted.Sections k = sym (e ∙ rw t) ∙ q in
       (ltb-false _ _ t, let y : lastOf n + 1 ≡ k = cc in sym y))
 
-  pub count-fits : {k : ℕ} → r ≡ Counted.Sections k → n ≤ most
+  pub count-fits : {k : ℕ} → r ≡ Counted.Sections k → n ≤ longestBody
   count-fits {k} q = counted k q .0
 
   pub count-last : {k : ℕ} → r ≡ Counted.Sections k → k ≡ lastOf n + 1
   count-last {k} q = counted k q .1
 
-  pub not-counted : {k : ℕ} → r ≡ Counted.Refused k → (k ≡ 40) × (most < n)
+  pub not-counted : {k : ℕ} → r ≡ Counted.Refused k → (k ≡ 40) × (longestBody < n)
   unfolding countOf
   not-counted {k} q =
-      by (ltb most n)
+      by (ltb longestBody n)
       (λ t.
       let x : Counted.Refused 40 ≡ Counted.Refused k = sym (e ∙ rw t) ∙ q in
       (let y : 40 ≡ k = cc in sym y, ltb-true _ _ t))
@@ -49,23 +49,23 @@ module _ (n : ℕ) {r : Counted} (e : r ≡ countOf n) where
       absurd (let z : _≡_ {A = ℕ} 0 1 = cc in omega arith))
 
 module _ (label : Label) (body out : List ℕ) where
-  pub feed-40 : {k : ℕ} → (k ≡ 40) × (most < length body) → feed (Fed.Refused k) out ≡ feedOf label body out
+  pub feed-40 : {k : ℕ} → (k ≡ 40) × (longestBody < length body) → feed (Fed.Refused k) out ≡ feedOf label body out
   unfolding feedOf
-  feed-40 w = rw (lt-ltb most (length body) (w .1), w .0)
+  feed-40 w = rw (lt-ltb longestBody (length body) (w .1), w .0)
 
-  module _ (fits : length body ≤ most) where
+  module _ (fits : length body ≤ longestBody) where
     pub feed-41 : 31 < label .version → feed (Fed.Refused 41) out ≡ feedOf label body out
     unfolding feedOf
-    feed-41 v = rw (le-ltb most (length body) fits, lt-ltb 31 (label .version) v)
+    feed-41 v = rw (le-ltb longestBody (length body) fits, lt-ltb 31 (label .version) v)
 
     module _ (five : label .version ≤ 31) {size : ℕ} (s : size ≡ fileSize (length body)) where
       pub feed-15 : length out < size → feed (Fed.Refused 15) out ≡ feedOf label body out
       unfolding feedOf
       feed-15 l =
-          rw (le-ltb most (length body) fits, le-ltb 31 (label .version) five, file-size label body fits, ← s, lt-ltb (length out) size l)
+          rw (le-ltb longestBody (length body) fits, le-ltb 31 (label .version) five, file-size label body fits, ← s, lt-ltb (length out) size l)
 
       pub feed-done : size ≤ length out → {after : List ℕ} → after ≡ feedFile label body ++ drop (fileSize (length body)) out →
           feed (Fed.Bytes size) after ≡ feedOf label body out
       unfolding feedOf
       feed-done l e =
-          rw (le-ltb most (length body) fits, le-ltb 31 (label .version) five, file-size label body fits, e, ← s, le-ltb (length out) size l)
+          rw (le-ltb longestBody (length body) fits, le-ltb 31 (label .version) five, file-size label body fits, e, ← s, le-ltb (length out) size l)

@@ -11,7 +11,7 @@ use lib.ListN.{length, drop, set, length-append, length-set}
 use lib.Seq.{drop-set-lt}
 use borrow.Rule.Slice.PartMut.{midOf, putMid}
 use Rattle.file_number.specs.Number.{spelt}
-use Rattle.writer.specs.Writer.{most, lastOf, written}
+use Rattle.writer.specs.Writer.{longestBody, lastOf, written}
 use Rattle.writer.specs.declared.Label.{Label}
 use Rattle.writer.proofs.Laws.{last-le}
 use Rattle.writer_file.specs.Feeding.{feedFile}
@@ -20,7 +20,7 @@ use Rattle.writer_file.proofs.Laws.{lent-room, front-more}
 use Rattle.writer_file.proofs.Sizes.{section-size, front-none, front-next, entry-room, file-front, file-size, file-small}
 
 pub record Begun (label : Label) (body : List ℕ) (count : ℕ) (old : List ℕ) : Type 0 where
-  pub fits : length body ≤ most
+  pub fits : length body ≤ longestBody
   pub counted : count ≡ lastOf (length body) + 1
   pub room : fileSize (length body) ≤ length old
 

@@ -14,7 +14,7 @@ use borrow.Rule.Slice.PartMut.{midOf, putMid}
 use Rattle.file_number.specs.Number.{spelt, Writing, writing, writtenOf}
 use Rattle.file_number.specs.declared.Written.{Written}
 use Rattle.file.specs.Layout.{listed}
-use Rattle.writer.specs.Writer.{most, lastOf, written, Write, write, placed, writeOf}
+use Rattle.writer.specs.Writer.{longestBody, lastOf, written, Write, write, placed, writeOf}
 use Rattle.writer.specs.declared.Label.{Label}
 use Rattle.writer.specs.declared.Written as wrote
 use Rattle.writer.proofs.Laws.{write-done}
@@ -59,7 +59,7 @@ module _ (n : ℕ) (rest back : List ℕ) (r : Written) (room : length (spelt n)
   spelt-at = ap (λ (w : Writing). w .out) put
 
 -- a section that fits
-module _ (label : Label) (body : List ℕ) (k : ℕ) (fits : length body ≤ most) (five : label .version ≤ 31)
+module _ (label : Label) (body : List ℕ) (k : ℕ) (fits : length body ≤ longestBody) (five : label .version ≤ 31)
     (known : k ≤ lastOf (length body)) (rest back : List ℕ) (r : wrote.Written) (room : length (written label body k) ≤ length rest)
     (e : write r back ≡ writeOf label body k rest) where
   put-section : write r back ≡ placed (written label body k) rest

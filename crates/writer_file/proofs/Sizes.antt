@@ -20,7 +20,7 @@ use Rattle.base.proofs.Cases.{by, same-or}
 use Rattle.file_number.specs.Number.{spelling, spelt}
 use Rattle.file_number.proofs.Spelling.{spelt-1, spelt-2}
 use Rattle.file.specs.Layout.{form, listed, fileOf}
-use Rattle.writer.specs.Writer.{full, most, lastOf, endOf, bodyAt, sectionOf, written}
+use Rattle.writer.specs.Writer.{full, longestBody, lastOf, endOf, bodyAt, sectionOf, written}
 use Rattle.writer.specs.declared.Label.{Label}
 use Rattle.writer.proofs.Laws.{last-le, starts-within, ends-within, length-body, length-section}
 use Rattle.writer_file.specs.Feeding.{sectionsBelow, sectionsOf, feedFile}
@@ -71,7 +71,7 @@ module _ (n k : ℕ) where
       (λ t. let e : entrySize (sizeAt n k) ≡ 2 + sizeAt n k = two-groups (sizeAt n k) (ltb-false _ _ t) s in omega arith)
 
 -- the largest file
-pub file-small : (n : ℕ) → n ≤ most → fileSize n ≤ 16418
+pub file-small : (n : ℕ) → n ≤ longestBody → fileSize n ≤ 16418
 file-small n h =
     let l : lastOf n ≤ 15 = last-le n h in
     let e : entrySize (sizeAt n (lastOf n)) ≤ 1026 = entry-small n (lastOf n) (omega arith) in
@@ -124,7 +124,7 @@ module _ (label : Label) (body : List ℕ) where
   unfolding feedFile fileOf frontOf
   file-front = rw (sections-count (last + 1))
 
-  pub file-size : length body ≤ most → length (feedFile label body) ≡ fileSize (length body)
+  pub file-size : length body ≤ longestBody → length (feedFile label body) ≡ fileSize (length body)
   file-size fits =
       let few : last ≤ 15 = last-le (length body) fits in
       let f : length (frontOf label body (last + 1) last) ≡ 2 + 1026 * last = front-size (last + 1) (omega arith) last (omega arith) in

@@ -11,7 +11,7 @@ use lib.ListN.{length, drop, length-append, length-drop}
 use borrow.Rule.Slice.PartMut.{midOf, putMid}
 use Rattle.file_number.specs.Number.{spelt, writing, writtenOf}
 use Rattle.file_number.specs.declared.Written.{Written}
-use Rattle.writer.specs.Writer.{most, lastOf, written, write, writeOf}
+use Rattle.writer.specs.Writer.{longestBody, lastOf, written, write, writeOf}
 use Rattle.writer.specs.declared.Label.{Label}
 use Rattle.writer.specs.declared.Written as wrote
 use Rattle.writer_file.specs.Sizes.{sizeAt, entrySize}
@@ -19,7 +19,7 @@ use Rattle.writer_file.proofs.Laws.{lent-room, front-more, spelt-count,
 use Rattle.writer_file.proofs.Sizes.{section-size}
 
 pub record Room (label : Label) (body : List ℕ) (k : ℕ) (rest : List ℕ) : Type 0 where
-  pub fits : length body ≤ most
+  pub fits : length body ≤ longestBody
   pub five : label .version ≤ 31
   pub known : k ≤ lastOf (length body)
   pub room : entrySize (sizeAt (length body) k) ≤ length rest

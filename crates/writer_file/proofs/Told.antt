@@ -14,7 +14,7 @@ use Rattle.base.proofs.Cases.{by}
 use Rattle.base.proofs.Tables.{among}
 use Rattle.answers.specs.Answers.{out, Fills, filled}
 use Rattle.answers.proofs.Fills.{size-back, through, fills, refused-fills}
-use Rattle.writer.specs.Writer.{most}
+use Rattle.writer.specs.Writer.{longestBody}
 use Rattle.writer.specs.declared.Label.{Label}
 use Rattle.writer_file.specs.Feeding.{feedFile, Feed, feed, unfed, refuse, placed, feedOf}
 use Rattle.writer_file.specs.Answer.{fedCode, fedIn, feedOut, fileLent, File-Comes-Back, File-Fills}
@@ -23,13 +23,13 @@ use Rattle.writer_file.proofs.ExactlyWhen.{fed-largest}
 
 module _ (label : Label) (body old : List ℕ) where
   -- of a body that is not too long the file is below 65,536 bytes
-  small : length body ≤ most → length (feedFile label body) < 2 ^ 16
+  small : length body ≤ longestBody → length (feedFile label body) < 2 ^ 16
   small fits = let l = fed-largest label body fits in omega arith
 
   pub file-comes-back : File-Comes-Back label body old
   unfolding fileLent feedOf
   file-comes-back =
-      by (ltb most (length body)) (λ t. rw t)
+      by (ltb longestBody (length body)) (λ t. rw t)
       (λ f.
       rw f
       (among (refuse old) (λ (w : Feed). fedIn (fedCode (w .said)) ≡ w .said)
@@ -41,7 +41,7 @@ module _ (label : Label) (body old : List ℕ) where
   pub file-fills : File-Fills label body old
   unfolding fileLent feedOf
   file-fills =
-      by (ltb most (length body))
+      by (ltb longestBody (length body))
       (λ t. rw t (refused-fills (feedFile label body) old 40 (omega arith) (omega arith)))
       (λ f.
       rw f

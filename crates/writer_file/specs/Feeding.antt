@@ -6,7 +6,7 @@ use lib.Dec.{ltb}
 use lib.ListN.{length, drop}
 use Rattle.base.specs.Choice.{Row, _if_, first}
 use Rattle.file.specs.Layout.{fileOf}
-use Rattle.writer.specs.Writer.{most, lastOf, written}
+use Rattle.writer.specs.Writer.{longestBody, lastOf, written}
 use Rattle.writer.specs.declared.Label.{Label}
 use Rattle.writer_file.specs.declared.Fed.{Fed}
 
@@ -34,7 +34,7 @@ feed said out = record { said = said; out = out }
 -- order: 40, 41, then 15
 abbrev pub unfed : Label → List ℕ → List ℕ → List Row
 unfed label body out =
-    40 if ltb most (length body)
+    40 if ltb longestBody (length body)
     ∷ 41 if ltb 31 (label .version)
     ∷ 15 if ltb (length out) (length (feedFile label body))
     ∷ []

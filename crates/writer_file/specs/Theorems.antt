@@ -7,7 +7,7 @@ use lib.ListN.{length}
 use Rattle.base.specs.Tables.{Rule, _says_, None, above, said}
 use Rattle.answers.specs.Answers.{refusalIn}
 use Rattle.file.specs.Layout.{largestFile}
-use Rattle.writer.specs.Writer.{most}
+use Rattle.writer.specs.Writer.{longestBody}
 use Rattle.writer.specs.declared.Label.{Label}
 use Rattle.writer_file.specs.Feeding.{feedFile, feed, placed, feedOf}
 use Rattle.writer_file.specs.Answer.{fedCode}
@@ -16,13 +16,13 @@ use Rattle.writer_file.specs.declared.Fed.{Fed}
 module _ (label : Label) (body : List ℕ) where
   -- the file has at most 16,418 bytes
   abbrev pub Fed-Largest : Type 0
-  Fed-Largest = length body ≤ most → length (feedFile label body) ≤ largestFile
+  Fed-Largest = length body ≤ longestBody → length (feedFile label body) ≤ largestFile
 
   module _ (out : List ℕ) where
     -- 40, 41 and 15, in their order
     abbrev pub feedTable : List Rule
     feedTable =
-        40 says (most < length body)
+        40 says (longestBody < length body)
         ∷ 41 says (31 < label .version)
         ∷ 15 says (length out < length (feedFile label body))
         ∷ []

@@ -4,7 +4,7 @@ ghost use mathlib.Core.List.{_++_};
 ghost use Prim.Native.Nat.{_+_, _≤_};
 ghost use lib.ListN.{length, drop};
 ghost use Rattle.answers.specs.Answers.{out as outOf};
-ghost use Rattle.writer.specs.Writer.{most, lastOf};
+ghost use Rattle.writer.specs.Writer.{longestBody, lastOf};
 ghost use Rattle.writer_file.specs.Feeding.{feedFile, feed, feedOf};
 ghost use Rattle.writer_file.specs.Answer.{fileLent};
 ghost use Rattle.writer_file.specs.Sizes.{sizeAt, entrySize, entryAt, fileSize};
@@ -27,7 +27,7 @@ const FRONT: usize = 2;
 
 // The bytes of section k of a body of so many bytes.
 fn size_at(length: usize, k: usize) -> u16
-    requires { ⌜ (length ≤ most) × (k ≤ lastOf length) ⌝ }
+    requires { ⌜ (length ≤ longestBody) × (k ≤ lastOf length) ⌝ }
     ensures { λ r. ⌜ (r ≡ sizeAt length k) × (r ≤ 1024) ⌝ }
 {
     let start = writer::FULL * k;
@@ -54,7 +54,7 @@ fn entry_size(size: u16) -> usize
 
 // Section k with its length at the front of a buffer; how many bytes they are.
 fn write_one(label: Label, body: &[u8], k: u8, rest: &mut [u8]) -> usize
-    requires { ⌜ (length (now body) ≤ most) × (label .version ≤ 31) × (k ≤ lastOf (length (now body))) ⌝ }
+    requires { ⌜ (length (now body) ≤ longestBody) × (label .version ≤ 31) × (k ≤ lastOf (length (now body))) ⌝ }
     requires { ⌜ entrySize (sizeAt (length (now body)) k) ≤ length (now rest) ⌝ }
     ensures { λ r. ⌜ r ≡ entrySize (sizeAt (length (now (body .entry))) k) ⌝ }
     ensures { λ _. ⌜ now (rest .exit) ≡ entryAt label (now (body .entry)) k ++ drop (entrySize (sizeAt (length (now (body .entry))) k)) (now (rest .entry)) ⌝ }
@@ -75,7 +75,7 @@ fn write_one(label: Label, body: &[u8], k: u8, rest: &mut [u8]) -> usize
 
 // The bytes of the whole file.
 fn file_size(length: usize, last: usize) -> usize
-    requires { ⌜ (length ≤ most) × (last ≡ lastOf length) ⌝ }
+    requires { ⌜ (length ≤ longestBody) × (last ≡ lastOf length) ⌝ }
     ensures { λ r. ⌜ r ≡ fileSize length ⌝ }
 {
     let size = size_at(length, last);
@@ -85,7 +85,7 @@ fn file_size(length: usize, last: usize) -> usize
 
 // The file at the front of an output that has room for it.
 fn write_file(label: Label, body: &[u8], count: u8, out: &mut [u8])
-    requires { ⌜ (length (now body) ≤ most) × (label .version ≤ 31) × (count ≡ lastOf (length (now body)) + 1) ⌝ }
+    requires { ⌜ (length (now body) ≤ longestBody) × (label .version ≤ 31) × (count ≡ lastOf (length (now body)) + 1) ⌝ }
     requires { ⌜ fileSize (length (now body)) ≤ length (now out) ⌝ }
     ensures { λ _. ⌜ now (out .exit) ≡ feedFile label (now (body .entry)) ++ drop (fileSize (length (now (body .entry)))) (now (out .entry)) ⌝ }
 {

@@ -23,18 +23,18 @@ use Rattle.shelf_laws.proofs.Kept.{Kept}
 use Rattle.shelf_laws.proofs.Asked.{kept-copied, kept-whole}
 use Rattle.shelf_laws.proofs.Histories.{holds-all}
 use Rattle.shelf_laws.proofs.Reception.{heard, heardTable, Fed, fed-all, offered-heard}
-use Rattle.writer.specs.Writer.{most, lastOf, bodyAt, written}
+use Rattle.writer.specs.Writer.{longestBody, lastOf, bodyAt, written}
 use Rattle.writer.specs.declared.Label.{Label}
 use Rattle.writer.proofs.Laws.{last-le}
 use Rattle.writer.proofs.Fewest.{firstBodies, bodies-join}
-use Rattle.writer_laws.specs.Offers.{keyOf, offersOf, AnyOrder, bodyOf, bodiesAfter}
+use Rattle.writer_laws.specs.Offers.{labelKey, offersOf, AnyOrder, bodyOf, bodiesAfter}
 use Rattle.writer_laws.specs.Laws.{CompleteIn, HandedIn, JoinedIn, CompleteTable, HandsOut, BodiesBack, CompleteAmong, HandedAmong, JoinedAmong}
 use Rattle.writer_laws.proofs.Sections.{is-section, its-number, its-size, its-body}
 use Rattle.writer_laws.proofs.Undisturbed.{undisturbed}
 
-module _ (label : Label) (body : List ℕ) (five : label .version ≤ 31) (fits : length body ≤ most) where
+module _ (label : Label) (body : List ℕ) (five : label .version ≤ 31) (fits : length body ≤ longestBody) where
   abbrev key : Key
-  key = keyOf label
+  key = labelKey label
 
   abbrev last : ℕ
   last = lastOf (length body)

@@ -19,14 +19,14 @@ use Rattle.section.specs.Section.{readOf, headerOf}
 use Rattle.section.specs.declared.Header.{Header}
 use Rattle.section.specs.declared.Reading.the-variants.{Sound}
 use Rattle.file.specs.Layout.{fileOf, sameTable, Rising, SoundTable}
-use Rattle.file.specs.Scan.{scanOf, tableIn, holds, foundIn}
+use Rattle.file.specs.Scan.{scanOf, tableIn, foundAt, foundIn}
 use Rattle.file.specs.declared.Scan.{Scan}
 use Rattle.file.proofs.Found.{sound-header}
 use Rattle.file.proofs.Held.{Lies, held}
 use Rattle.file_laws.proofs.Accepts.{accepted-as, in-one-way}
 use Rattle.file_listing.specs.Words.{lines}
 use Rattle.file_listing.specs.Listing.{headLine, sectionLine, completeLine, sectionOf, endOf, tableText, textOf}
-use Rattle.writer.specs.Writer.{most, lastOf, bodyAt, written}
+use Rattle.writer.specs.Writer.{longestBody, lastOf, bodyAt, written}
 use Rattle.writer.specs.declared.Label.{Label}
 use Rattle.writer.proofs.Laws.{last-le, length-section}
 use Rattle.writer.proofs.Agree.{found}
@@ -69,7 +69,7 @@ module _ (label : Label) (body : List ℕ) where
       (λ ne. mem-front (sectionsBelow label body n) (written label body n ∷ []) (in-sections n k (omega arith)))
       (same-or k n)
 
-  module _ (five : label .version ≤ 31) (fits : length body ≤ most) where
+  module _ (five : label .version ≤ 31) (fits : length body ≤ longestBody) where
     abbrev last : ℕ
     last = lastOf (length body)
 
@@ -134,16 +134,16 @@ module _ (label : Label) (body : List ℕ) where
     abbrev bytesAt : ℕ → List ℕ
     bytesAt k = part (feedFile label body) (getD (scanOf (feedFile label body) .starts) k 0) (getD lengths k 0)
 
-    section-in : (k : ℕ) → k ≤ last → (n : ℕ) × (holds lengths n ≡ true) × (written label body k ≡ bytesAt n)
+    section-in : (k : ℕ) → k ≤ last → (n : ℕ) × (foundAt lengths n ≡ true) × (written label body k ≡ bytesAt n)
     unfolding foundIn
     section-in k l =
-        mem-chosen (holds lengths) bytesAt 16
+        mem-chosen (foundAt lengths) bytesAt 16
         (subst (List·Memᴰ (written label body k)) (sym file-holds) (in-sections (last + 1) k (omega arith)))
 
     its-length : (k : ℕ) → k ≤ last → getD lengths k 0 ≡ length (written label body k)
     its-length k l = go (section-in k l)
       where
-        go : ((n : ℕ) × (holds lengths n ≡ true) × (written label body k ≡ bytesAt n)) → getD lengths k 0 ≡ length (written label body k)
+        go : ((n : ℕ) × (foundAt lengths n ≡ true) × (written label body k ≡ bytesAt n)) → getD lengths k 0 ≡ length (written label body k)
         go w =
             ⊎-elim
             (λ z. absurd (unlike (sym (w .1) ∙ ap not (eq-eqb (getD lengths (w .0) 0) 0 z))))
@@ -155,7 +155,7 @@ module _ (label : Label) (body : List ℕ) where
             ap (λ m. getD lengths m 0) (sym n) ∙ sym size ∙ ap length (sym (w .2)))
             (held (feedFile label body) (headerAt 0) file-accepted .each (w .0))
 
-    some : (k : ℕ) → k ≤ last → holds lengths k ≡ true
+    some : (k : ℕ) → k ≤ last → foundAt lengths k ≡ true
     unfolding written
     some k l =
         let e : length (written label body k) ≡ 8 + length (bodyAt body k) = length-section label k last (bodyAt body k) in
@@ -177,7 +177,7 @@ module _ (label : Label) (body : List ℕ) where
 
     complete : endOf last lengths ≡ completeLine
     unfolding endOf
-    complete = rw (every-all (holds lengths) (last + 1) (λ k l. some k (omega arith)))
+    complete = rw (every-all (foundAt lengths) (last + 1) (λ k l. some k (omega arith)))
 
     table-text : tableText (headerAt 0) lengths ≡ headLine (headerAt 0) ++ (lines (last + 1) lineAt ++ completeLine)
     unfolding tableText

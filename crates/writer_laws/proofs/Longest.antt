@@ -10,7 +10,7 @@ use Rattle.section.specs.declared.Header.{Header}
 use Rattle.file_listing.specs.Words.{place, decimal, lines}
 use Rattle.file_listing.specs.Listing.{headLine, sectionLine, completeLine}
 use Rattle.file_listing.specs.Answer.{largestList, Longest-List}
-use Rattle.writer.specs.Writer.{full, most, lastOf, bodyAt, written}
+use Rattle.writer.specs.Writer.{full, longestBody, lastOf, bodyAt, written}
 use Rattle.writer.specs.declared.Label.{Label}
 use Rattle.writer.specs.Theorems.{found}
 use Rattle.writer.proofs.Laws.{length-section}
@@ -22,11 +22,11 @@ abbrev label : Label
 label = record { table = 200; extension = 50000; version = 31 }
 
 unfoldable body : List ℕ
-body = replicate most 0
+body = replicate longestBody 0
 
-long : length body ≡ most
+long : length body ≡ longestBody
 unfolding body
-long = length-replicate {A = ℕ} most 0
+long = length-replicate {A = ℕ} longestBody 0
 
 last-is : lastOf (length body) ≡ 15
 unfolding lastOf
@@ -36,7 +36,7 @@ each-full : (k : ℕ) → k < 16 → length (written label body k) ≡ 1024
 unfolding written bodyAt
 each-full k h =
     let size : length (take full (drop (full * k) body)) ≡ full
-    = length-take-le full (drop (full * k) body) (let l : length body ≡ most = long in rw length-drop (omega arith)) in
+    = length-take-le full (drop (full * k) body) (let l : length body ≡ longestBody = long in rw length-drop (omega arith)) in
     length-section label k (lastOf (length body)) (bodyAt body k) ∙ ap (λ n. 8 + n) size
 
 lines-same : (f g : ℕ → List ℕ) (n : ℕ) → ((k : ℕ) → k < n → f k ≡ g k) → lines n f ≡ lines n g
@@ -59,7 +59,7 @@ its-length =
 pub longest-list : Longest-List
 longest-list = (
   feedFile label body,
-  ap length (lists-complete label body (omega arith) (let l : length body ≡ most = long in omega arith))
+  ap length (lists-complete label body (omega arith) (let l : length body ≡ longestBody = long in omega arith))
       ∙ ap (λ n. length (text n)) last-is
       ∙ its-length,
 )

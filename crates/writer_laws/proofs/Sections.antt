@@ -15,13 +15,13 @@ use Rattle.section.specs.declared.Reading.the-variants.{Sound}
 use Rattle.section.proofs.Laws.{sound-facts}
 use Rattle.shelf.specs.Record as Record
 use Rattle.shelf_laws.specs.Reception.{SectionOf}
-use Rattle.writer.specs.Writer.{full, most, lastOf, bodyAt, sectionOf, written}
+use Rattle.writer.specs.Writer.{full, longestBody, lastOf, bodyAt, sectionOf, written}
 use Rattle.writer.specs.declared.Label.{Label}
 use Rattle.writer.proofs.Laws.{length-section}
 use Rattle.writer.proofs.Agree.{found, reads-back, length-carried}
-use Rattle.writer_laws.specs.Offers.{keyOf}
+use Rattle.writer_laws.specs.Offers.{labelKey}
 
-module _ (label : Label) (body : List ℕ) (five : label .version ≤ 31) (fits : length body ≤ most) (k : ℕ) (known : k ≤ lastOf (length body)) where
+module _ (label : Label) (body : List ℕ) (five : label .version ≤ 31) (fits : length body ≤ longestBody) (k : ℕ) (known : k ≤ lastOf (length body)) where
   abbrev header : Header
   header = found label k (lastOf (length body)) (bodyAt body k)
 
@@ -31,7 +31,7 @@ module _ (label : Label) (body : List ℕ) (five : label .version ≤ 31) (fits 
   pub its-header : headerOf (written label body k) ≡ header
   its-header = sym (sound-facts (written label body k) header reads .header)
 
-  pub is-section : SectionOf (keyOf label) (written label body k)
+  pub is-section : SectionOf (labelKey label) (written label body k)
   is-section = record { sound = reads ∙ ap Sound (sym its-header); its-key = ap Record.keyOf its-header }
 
   pub its-number : sectionNumber (written label body k) ≡ k

@@ -23,9 +23,9 @@ use Rattle.shelf_laws.specs.Reception.{Undisturbed}
 use Rattle.shelf_laws.proofs.Offering.{Refusal, Goes, goes}
 use Rattle.shelf_laws.proofs.Histories.{Holds, step-holds, start-holds, fresh-unheld}
 use Rattle.shelf_laws.proofs.Reception.{section-is, heard, Fed, fed-step}
-use Rattle.writer.specs.Writer.{most, lastOf, written}
+use Rattle.writer.specs.Writer.{longestBody, lastOf, written}
 use Rattle.writer.specs.declared.Label.{Label}
-use Rattle.writer_laws.specs.Offers.{keyOf, offersOf}
+use Rattle.writer_laws.specs.Offers.{labelKey, offersOf}
 use Rattle.writer_laws.proofs.Sections.{is-section, its-number, its-version, its-last}
 
 -- where the table is not held, there is a free place
@@ -56,9 +56,9 @@ module _ (s : State) (payload : List ℕ) (sound : readOf payload ≡ Sound (hea
   not-9 (Goes.added _ _ _ _ _) e = let z : _≡_ {A = ℕ} 0 9 = ap Offer.numberOf e in omega arith
   not-9 (Goes.repeats _ _ _ _ _ _) e = let z : _≡_ {A = ℕ} 0 9 = ap Offer.numberOf e in omega arith
 
-module _ (label : Label) (body : List ℕ) (five : label .version ≤ 31) (fits : length body ≤ most) where
+module _ (label : Label) (body : List ℕ) (five : label .version ≤ 31) (fits : length body ≤ longestBody) where
   abbrev key : Key
-  key = keyOf label
+  key = labelKey label
 
   abbrev last : ℕ
   last = lastOf (length body)

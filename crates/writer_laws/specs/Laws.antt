@@ -15,16 +15,16 @@ use Rattle.file_listing.specs.Words.{lines}
 use Rattle.file_listing.specs.Listing.{headLine, sectionLine, completeLine, textOf}
 use Rattle.shelf_laws.specs.History.{Call, logOf, copyAfter, wholeAfter, Each}
 use Rattle.shelf_laws.specs.Reception.{OfferedIn, Undisturbed}
-use Rattle.writer.specs.Writer.{most, lastOf, bodyAt, written}
+use Rattle.writer.specs.Writer.{longestBody, lastOf, bodyAt, written}
 use Rattle.writer.specs.Theorems.{found}
 use Rattle.writer_file.specs.Feeding.{sectionsOf, feedFile}
 use Rattle.writer.specs.declared.Label.{Label}
-use Rattle.writer_laws.specs.Offers.{keyOf, offersOf, AnyOrder, bodiesAfter}
+use Rattle.writer_laws.specs.Offers.{labelKey, offersOf, AnyOrder, bodiesAfter}
 
 -- After a history h:
 -- the table is called complete
 abbrev pub CompleteIn : Label → List Call → Type 0
-CompleteIn label h = wholeAfter h (keyOf label) ≡ Whole.Complete
+CompleteIn label h = wholeAfter h (labelKey label) ≡ Whole.Complete
 
 -- each section is handed out as it was written
 abbrev pub HandedIn : Label → List ℕ → List Call → Type 0
@@ -33,19 +33,19 @@ HandedIn label body h =
     → k ≤ lastOf (length body)
     → (out : List ℕ)
     → length (written label body k) ≤ length out
-    → copyAfter h (keyOf label) k out
+    → copyAfter h (labelKey label) k out
     ≡ copy (Copied.Bytes (length (written label body k))) (written label body k ++ drop (length (written label body k)) out)
 
 -- the joined bodies of the sections that are handed out are the given body
 abbrev pub JoinedIn : Label → List ℕ → List Call → Type 0
-JoinedIn label body h = (out : List ℕ) → 1024 ≤ length out → bodiesAfter h (keyOf label) out (lastOf (length body) + 1) ≡ body
+JoinedIn label body h = (out : List ℕ) → 1024 ≤ length out → bodiesAfter h (labelKey label) out (lastOf (length body) + 1) ≡ body
 
 -- so of every label and body that the writer takes, and every order of their sections
 abbrev pub InAnyOrder : (Label → List ℕ → List ℕ → Type 0) → Type 0
 InAnyOrder p =
     (label : Label) (body : List ℕ)
     → label .version ≤ 31
-    → length body ≤ most
+    → length body ≤ longestBody
     → (ks : List ℕ)
     → AnyOrder (lastOf (length body)) ks
     → p label body ks
@@ -64,9 +64,9 @@ abbrev pub Among : (Label → List ℕ → List Call → Type 0) → Type 0
 Among p =
     (label : Label) (body : List ℕ)
     → label .version ≤ 31
-    → length body ≤ most
+    → length body ≤ longestBody
     → (h : List Call)
-    → Each (Undisturbed (keyOf label) (label .version) (lastOf (length body)) (written label body)) (logOf h)
+    → Each (Undisturbed (labelKey label) (label .version) (lastOf (length body)) (written label body)) (logOf h)
     → ((k : ℕ) → k ≤ lastOf (length body) → OfferedIn h (written label body k))
     → p label body h
 
@@ -81,7 +81,7 @@ JoinedAmong = Among JoinedIn
 
 -- The file of the sections (proofs/Files): of every label and body that the writer takes,
 abbrev pub Written : (Label → List ℕ → Type 0) → Type 0
-Written p = (label : Label) (body : List ℕ) → label .version ≤ 31 → length body ≤ most → p label body
+Written p = (label : Label) (body : List ℕ) → label .version ≤ 31 → length body ≤ longestBody → p label body
 
 -- the sections are those of a sound table
 abbrev pub SoundSections : Type 0

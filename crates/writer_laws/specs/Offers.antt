@@ -11,8 +11,8 @@ use Rattle.writer.specs.Writer.{written}
 use Rattle.writer.specs.declared.Label.{Label}
 
 -- the key of a table with that label
-abbrev pub keyOf : Label → Key
-keyOf label = record { table = label .table; extension = label .extension }
+abbrev pub labelKey : Label → Key
+labelKey label = record { table = label .table; extension = label .extension }
 
 -- the history in which the sections with these numbers are offered, one after the other
 abbrev pub offersOf : Label → List ℕ → List ℕ → List Call

@@ -5,12 +5,12 @@ use native.Mathlib.Omega.{arith}
 use borrow.Author.Needs.{needs}
 use Rattle.base.proofs.Below.{every-none, every-next}
 use Rattle.base.specs.Below.{every}
-use Rattle.file.specs.Scan.{holds}
+use Rattle.file.specs.Scan.{foundAt}
 use Rattle.file_listing.proofs.all_held.Statement.{statement}
 use Rattle.file_listing.proofs.all_held.Tie as tie
 
 abbrev Inv-loop : tie.InvT-loop
-Inv-loop last lengths all₀ number₀ all number = (number ≤ last + 1) × (all ≡ every number (holds lengths))
+Inv-loop last lengths all₀ number₀ all number = (number ≤ last + 1) × (all ≡ every number (foundAt lengths))
 
 abbrev μ-loop : tie.MeasureT-loop
 μ-loop last lengths all₀ number₀ all number = last + 1 - number
@@ -37,7 +37,7 @@ loop-again : tie.Need-loop-again Inv-loop μ-loop
 loop-again c = (omega arith, rw (c .before .loop .inv .1) (sym (every-next _ _)))
 
 returns : tie.Need-returns Inv-loop μ-loop
-returns c = let e : c .before .loop .number ≡ c .before .before .args .last + 1 = omega arith in c .before .loop .inv .1 ∙ ap (λ k. every k (holds (c .before .before .args .t2))) e
+returns c = let e : c .before .loop .number ≡ c .before .before .args .last + 1 = omega arith in c .before .loop .inv .1 ∙ ap (λ k. every k (foundAt (c .before .before .args .t2))) e
 
 pub all-held-spec : {M : Type 1} → statement M
 all-held-spec =

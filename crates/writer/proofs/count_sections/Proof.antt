@@ -5,7 +5,7 @@ use Rattle.base.proofs.Tests.{tests}
 use mathlib.Core.Path.{_≡_}
 use borrow.Author.Tests.{le-ltb}
 use Prim.Native.Nat.{_≤_}
-use Rattle.writer.specs.Writer.{most, lastOf, countOf}
+use Rattle.writer.specs.Writer.{longestBody, lastOf, countOf}
 use Rattle.writer.proofs.Laws.{last-le}
 use Rattle.writer.proofs.count_sections.Statement.{statement}
 use Rattle.writer.proofs.count_sections.Tie as tie
@@ -32,7 +32,7 @@ returns-2 c =
     let n = c .before .before .args .length in
     let l : lastOf n ≤ 15 = last-le n (search needs) in
     let e : c .last-of .result ≡ lastOf n = c .last-of .ensures in
-    rw (le-ltb most n (search needs), e)
+    rw (le-ltb longestBody n (search needs), e)
 
 pub count-sections-spec : {M : Type 1} → statement M
 count-sections-spec = tie.close (tie.spec returns last-of-requires add-count cast-sections returns-2)
