@@ -110,14 +110,27 @@ fn a_function_that_is_not_refused_by_itself_is_seen() {
     ));
     assert!(!seen("proved", "fn one::Clock::f: proved\n"));
     assert!(!seen("another", "fn one::Clock::fg: not proved\n"));
+    let calls = "it calls `one::g`, which is not proved";
+    assert!(seen(
+        "own-and-calls",
+        &format!("{own}fn one::Clock::f: not proved; {calls}\n")
+    ));
     assert!(!seen(
         "calls",
-        &format!("{own}fn one::Clock::f: not proved; it calls `one::g`, which is not proved\n")
+        &format!("fn one::Clock::f: not proved; {calls}\n")
+    ));
+    assert!(!seen(
+        "search-and-calls",
+        &format!("fn one::Clock::f: no proof: `search` does not close `returns`; {calls}\n")
     ));
     let waits = "HERE/proofs/Clock/f/Proof.antt:5:9: error: `returns`: `law` was not admitted (it has holes)\n";
     assert!(!seen(
         "waits",
         &format!("{waits}fn one::Clock::f: not proved\n")
+    ));
+    assert!(!seen(
+        "waits-and-calls",
+        &format!("{waits}fn one::Clock::f: not proved; {calls}\n")
     ));
     for (name, misfit) in [
         (
