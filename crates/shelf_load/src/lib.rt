@@ -102,9 +102,10 @@ fn load_table(
     let starts = scanned.starts;
     let lengths = scanned.lengths;
     let sections = header.last as usize + 1;
-    store_each(store, p, file, starts, lengths, sections);
+    // The numbers come first, as with an offer.
     shelf_write::put_head(words, p, key, header.version, header.last);
     hold_each(words, p, lengths);
+    store_each(store, p, file, starts, lengths, sections);
     Loaded::Done
 }
 

@@ -43,14 +43,14 @@ cast-sections c = search needs
 add-sections : tie.Need-add-sections
 add-sections c = search needs
 
-store-each-requires : tie.Need-store-each-requires
-store-each-requires c κs = search needs
-
 put-head-requires : tie.Need-put-head-requires
 put-head-requires c κs = search needs
 
 hold-each-requires : tie.Need-hold-each-requires
 hold-each-requires c κs = search needs
+
+store-each-requires : tie.Need-store-each-requires
+store-each-requires c κs = search needs
 
 same-length-3 : tie.Need-same-length-3
 same-length-3 c = search needs
@@ -63,7 +63,7 @@ returns-3 c =
     let start = c .before .before .before .before .before .before .before .before .before .before .before .before .before .before .before .before .before .before .before .before .before .before .before .before .before in
     let free : c .before .before .before .before .before .before .before .before .before .before .before .before .before .before .before .before .free-of .result < 4 = omega (arith, c .before .before .before .before .before .before .before .before .before .before .before .before .before .before .before .before .free-of .ensures .1, c .before .before .before .before .before .before .before .before .before .before .before .before .before .before .before .if2 .left) in
     table-done _ _ _ (start .pre .0 .0) _ _ _ _ (c .before .before .before .before .before .before .before .before .before .before .before .before .before .before .before .before .before .before .before .before .before .key-of .ensures) (c .before .before .before .before .before .before .before .before .before .before .before .before .before .before .before .before .before .before .before .place-of .ensures .0) (c .before .before .before .before .before .before .before .before .before .before .before .before .before .before .before .before .before .before .if1 .left) _ (c .before .before .before .before .before .before .before .before .before .before .before .before .before .before .before .before .free-of .ensures .0) (c .before .before .before .before .before .before .before .before .before .before .before .before .before .before .before .if2 .left) free
-    (c .before .before .before .before .before .before .before .before .before .before .store-each .ensures ∙ all-stored _ _ _ _ _ (start .args .header .last) (start .pre .1) (start .pre .0 .1) free) (c .before .before .before .before .before .before .put-head .ensures) (c .before .before .hold-each .ensures)
+    (c .before .before .store-each .ensures ∙ all-stored _ _ _ _ _ (start .args .header .last) (start .pre .1) (start .pre .0 .1) free) (c .before .before .before .before .before .before .before .before .before .before .put-head .ensures) (c .before .before .before .before .before .before .hold-each .ensures)
 
 pub load-table-spec : {M : Type 1} → statement M
 load-table-spec =
@@ -78,9 +78,9 @@ load-table-spec =
     returns-2
     cast-sections
     add-sections
-    store-each-requires
     put-head-requires
     hold-each-requires
+    store-each-requires
     same-length-3
     same-length-4
     returns-3)
