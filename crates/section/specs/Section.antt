@@ -89,8 +89,8 @@ headerOf s =
       version = version s;
       number = sectionNumber s;
       last = lastSectionNumber s;
-      start = 8;
-      length = sectionSize s - 8;
+      start = headerSize;
+      length = sectionSize s - headerSize;
     }
 
 -- the reading of a payload

@@ -1,4 +1,4 @@
--- What is proved of a reading, in words of the payload `s`: each is a theorem of `proofs/` by the same name in small letters.
+-- What is proved of a reading, in words of the payload `s`, and the words for it: each statement is a theorem of `proofs/` by the same name in small letters.
 use Prim.Native.Nat.{ℕ, _-_, _/_, _%_, _<_, _≤_}
 use mathlib.Core.Path.{_≡_}
 use mathlib.Core.List.{List, [], _∷_}

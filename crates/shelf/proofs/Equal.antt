@@ -18,7 +18,7 @@ use Rattle.berth.specs.Berth.{places, sections}
 use Rattle.shelf.specs.declared.Key.{Key}
 use Rattle.shelf.specs.Record.{Place}
 use Rattle.shelf.specs.Record.{Shelf}
-use Rattle.shelf.specs.Record.{noPlace, placeAt, withPlace, wrongAt, holds, sameKey, spoiledPlace, alike, spoiledOf, hasKey, placeOf, freeOf, Same}
+use Rattle.shelf.specs.Record.{freePlace, placeAt, withPlace, wrongAt, holds, sameKey, spoiledPlace, alike, spoiledOf, hasKey, placeOf, freeOf, Same}
 
 -- tests that agree below n
 pub some-alike : (f g : ℕ → Bool) (n : ℕ) → ((k : ℕ) → k < n → f k ≡ g k) → some n f ≡ some n g
@@ -138,10 +138,10 @@ module _ (a b : Shelf) (s : Same a b) where
       }
     where
       there : (c : Shelf) (q : ℕ) → (q ≡ p → ⊥) → placeAt (withPlace c p x) q ≡ placeAt c q
-      there c q n = getD-set-other (c .places) p q x noPlace n
+      there c q n = getD-set-other (c .places) p q x freePlace n
 
       here : (q : ℕ) → q ≡ p → placeAt (withPlace a p x) q ≡ placeAt (withPlace b p x) q
       here q e =
           rw e
-          (getD-set-same (a .places) p x noPlace (omega (arith, fa, h))
-          ∙ sym (getD-set-same (b .places) p x noPlace (omega (arith, fb, h))))
+          (getD-set-same (a .places) p x freePlace (omega (arith, fa, h))
+          ∙ sym (getD-set-same (b .places) p x freePlace (omega (arith, fb, h))))

@@ -1,5 +1,5 @@
 -- What this layer's calls find, on any numbers: what is no record has no place, and what is asked of no place is 0. (`shelfAt` reads what is no
--- record as a spoiled one; no call gets past 18 there.) A free place is read in the same way as a taken one, and it means nothing.
+-- record as a spoiled one, and no call of document 01 gets past 18 there.) What stands in a free place is read as in a taken one, and means nothing.
 use Prim.Native.Nat.{ℕ}
 use mathlib.Core.List.{List}
 use mathlib.Core.Bool.{Bool, _&&_}
@@ -15,7 +15,7 @@ use Rattle.shelf.specs.Layout.{count, keyNumber, atVersion, atLast, atMa
 abbrev pub hasPlace : ℕ → ℕ → Bool
 hasPlace size p = eqb size count && ltb p places
 
--- .. and in it section n
+-- .. and n is a number of a section, held or not
 abbrev pub hasSection : ℕ → ℕ → ℕ → Bool
 hasSection size p n = hasPlace size p && ltb n sections
 

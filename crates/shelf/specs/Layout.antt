@@ -5,12 +5,12 @@ use Prim.Native.Nat.{ℕ, zero, suc, _+_, _*_, _/_, _%_}
 use mathlib.Core.List.{List, [], _∷_}
 use mathlib.Core.Bool.{Bool, true, not}
 use lib.Dec.{eqb}
-use lib.ListN.{length, getD, replicate}
+use lib.ListN.{length, getD}
 use Rattle.base.specs.Choice.{if_then_else_}
 use Rattle.base.specs.Bits.{bit}
 use Rattle.berth.specs.Berth.{sections, places}
 use Rattle.shelf.specs.declared.Key.{Key}
-use Rattle.shelf.specs.Record.{Place, Shelf, freePlace, fresh, withPlace}
+use Rattle.shelf.specs.Record.{Place, Shelf, freePlace, emptyTable, fresh, withPlace}
 
 -- where the heads begin, and where the masks
 abbrev pub heads : ℕ
@@ -74,12 +74,14 @@ tableIn words p =
 abbrev pub takenIn : List ℕ → ℕ → Bool
 takenIn words p = eqb (getD words (atTable p) 0 / 256) 1
 
--- the first two numbers of a head as one: of numbers of 16 bits it is numberFor of a key exactly where the table with that key is in the place
-abbrev pub keyNumber : List ℕ → ℕ → ℕ
-keyNumber words p = getD words (atTable p) 0 + 65536 * getD words (atExtension p) 0
-
+-- a key as one number
 abbrev pub numberFor : Key → ℕ
 numberFor key = 256 + key .table + 65536 * key .extension
+
+-- the first two numbers of a head as one: where they have 16 bits and a key's table id has 8, it is the key's number exactly where the table
+-- with that key is in the place
+abbrev pub keyNumber : List ℕ → ℕ → ℕ
+keyNumber words p = getD words (atTable p) 0 + 65536 * getD words (atExtension p) 0
 
 unfoldable pub placeIn : List ℕ → ℕ → Place
 placeIn words p = if takenIn words p then tableIn words p else freePlace
@@ -90,15 +92,7 @@ shelfIn words = record { places = placeIn words 0 ∷ placeIn words 1 ∷ placeI
 
 -- any other count of numbers is no record: it is read as one with a place that is taken and holds nothing, which is spoiled
 unfoldable pub noRecord : Shelf
-noRecord =
-    withPlace fresh 0
-    (record {
-      taken = true;
-      key = record { table = 0; extension = 0 };
-      version = 0;
-      last = 0;
-      lengths = replicate sections 0;
-    })
+noRecord = withPlace fresh 0 (emptyTable (record { table = 0; extension = 0 }) 0 0)
 
 -- the record that lent numbers are
 unfoldable pub shelfAt : List ℕ → Shelf

@@ -1,6 +1,6 @@
 -- Document 01, "The shelf" and number 18: the record, when it is spoiled, where a key is held, and which place is free.
 use Prim.Native.Nat.{ℕ}
-use mathlib.Core.List.{List, []}
+use mathlib.Core.List.{List}
 use mathlib.Core.Bool.{Bool, true, false, not, _&&_, _||_}
 use mathlib.Core.Path.{_≡_}
 use Prim.Native.Nat.{_<_}
@@ -11,8 +11,8 @@ use Rattle.section.specs.declared.Header.{Header}
 use Rattle.berth.specs.Berth.{places, sections, berthSize}
 use Rattle.shelf.specs.declared.Key.{Key}
 
--- a place: free, or a table with the byte length of each of its sixteen sections; 0 where a section is not held. A held length 0, which is wrong,
--- cannot be said so: Layout reads it as another that is
+-- a place: free, or a table with the byte length of each of its sixteen sections; 0 where a section is not held. A held length 0
+-- cannot be said so: Layout reads it as 1, which is wrong as well
 pub record Place : Type 0 where
   pub taken : Bool
   pub key : Key
@@ -39,19 +39,25 @@ freePlace =
 unfoldable pub fresh : Shelf
 fresh = record { places = replicate places freePlace }
 
--- what stands past the end of a list of places
-abbrev pub noPlace : Place
-noPlace =
+-- a table that holds nothing yet
+abbrev pub emptyTable : Key → ℕ → ℕ → Place
+emptyTable key version last =
+    record { taken = true; key = key; version = version; last = last; lengths = replicate sections 0 }
+
+-- a table with another length of section n
+abbrev pub withLength : Place → ℕ → ℕ → Place
+withLength place n size =
     record {
-      taken = false;
-      key = record { table = 0; extension = 0 };
-      version = 0;
-      last = 0;
-      lengths = [];
+      taken = place .taken;
+      key = place .key;
+      version = place .version;
+      last = place .last;
+      lengths = set (place .lengths) n size;
     }
 
+-- place p; past the end of the list there is none, which is as good as a free one
 abbrev pub placeAt : Shelf → ℕ → Place
-placeAt shelf p = getD (shelf .places) p noPlace
+placeAt shelf p = getD (shelf .places) p freePlace
 
 -- the shelf with another place p
 abbrev pub withPlace : Shelf → ℕ → Place → Shelf

@@ -1,10 +1,10 @@
--- What the quick pass shows of the numbers, whether a place is taken or not. Of 84 numbers it is enough for a record that is not spoiled, and not
--- the words of 18 themselves.
+-- The quick pass is a first look at all 84 numbers alike, whether a place is taken or not. Where it says yes, FineColumns and FineHeads hold, and the
+-- two together are enough for a record that is not spoiled; where it does not, 18 is asked in its own words.
 use Prim.Native.Nat.{ℕ, _+_, _/_, _%_, _^_, _<_, _≤_}
 use mathlib.Core.Path.{_≡_}
 use mathlib.Core.List.{List, [], _∷_}
 use lib.ListN.{getD}
-use Rattle.berth.specs.Berth.{berthSize, places}
+use Rattle.berth.specs.Berth.{berthSize, places, sections}
 use Rattle.shelf.specs.Layout.{heads, atLength, atLast, atMask, keyNumber}
 
 -- the most that each number of the heads may be
@@ -14,7 +14,7 @@ headBounds = 65535 ∷ 65535 ∷ 31 ∷ 15 ∷ 65535 ∷ 65535 ∷ 31 ∷ 15 ∷
 abbrev pub FineLength : List ℕ → ℕ → Type 0
 FineLength words at = (8 ≤ getD words at 0) × (getD words at 0 ≤ berthSize)
 
--- of each place the length of section k is from 8 to 1,024, and number k of the heads is not too high
+-- of each place the length of section k, which for the first stands at k, is from 8 to 1,024, and number k of the heads is not too high
 pub record FineColumn (words : List ℕ) (k : ℕ) : Type 0 where
   pub first : FineLength words k
   pub second : FineLength words (atLength 1 k)
@@ -23,9 +23,9 @@ pub record FineColumn (words : List ℕ) (k : ℕ) : Type 0 where
   pub head : getD words (heads + k) 0 ≤ getD headBounds k 0
 
 abbrev pub FineColumns : List ℕ → Type 0
-FineColumns words = (k : ℕ) → k < 16 → FineColumn words k
+FineColumns words = (k : ℕ) → k < sections → FineColumn words k
 
--- the mask of a place from its last number on, as far as a shift of 32 bits goes
+-- the mask of a place from its last number on. A number of 32 bits is shifted by less than 32, which a last that is fine is
 abbrev pub fromLast : List ℕ → ℕ → ℕ
 fromLast words p = getD words (atMask p) 0 / 2 ^ (getD words (atLast p) 0 % 32)
 
@@ -33,7 +33,7 @@ fromLast words p = getD words (atMask p) 0 / 2 ^ (getD words (atLast p) 0 % 32)
 pub record NoneAbove (words : List ℕ) (p : ℕ) : Type 0 where
   pub low : fromLast words p ≤ 1
 
--- something is held, and the mask has 16 bits
+-- something is held, and the mask has at most 16 bits
 pub record OneHeld (words : List ℕ) (p : ℕ) : Type 0 where
   pub some : getD words (atMask p) 0 ≡ 0 → ⊥
   pub fits : getD words (atMask p) 0 < 65536

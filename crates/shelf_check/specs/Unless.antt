@@ -3,6 +3,6 @@ use Prim.Native.Nat.{ℕ}
 use mathlib.Core.Bool.{Bool}
 use Rattle.base.specs.Choice.{if_then_else_}
 
--- 18 where it is, and that number where it is not
+-- 18 where it is, and what is otherwise answered, as it crosses the boundary, where it is not
 unfoldable pub unlessSpoiled : Bool → ℕ → ℕ
-unlessSpoiled spoiled number = if spoiled then 18 else number
+unlessSpoiled spoiled answer = if spoiled then 18 else answer

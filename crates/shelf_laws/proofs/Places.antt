@@ -22,7 +22,7 @@ use Rattle.base.proofs.Cases.{by, same-or, unlike, and-left, and-right}
 use Rattle.base.proofs.Below.{lowest-le, lowest-holds, lowest-below, lowest-all}
 use Rattle.base.proofs.Tables.{fails, denied}
 use Rattle.berth.specs.Berth.{places, sections, berthSize}
-use Rattle.shelf.specs.Record.{noPlace, placeAt, withPlace, lengthAt, holds, sameKey, spoiledOf, hasKey, placeOf, freeOf}
+use Rattle.shelf.specs.Record.{freePlace, placeAt, withPlace, lengthAt, holds, sameKey, spoiledOf, hasKey, placeOf, freeOf}
 use Rattle.shelf.specs.declared.Key.{Key}
 use Rattle.shelf.specs.Record.{Place}
 use Rattle.shelf.specs.Record.{Shelf}
@@ -63,10 +63,10 @@ same-owner a b key t e = rw (t, e)
 -- a record with another place
 module _ (shelf : Shelf) (formed : Formed shelf) (p : ℕ) (h : p < places) (place : Place) where
   pub at-same : placeAt (withPlace shelf p place) p ≡ place
-  at-same = getD-set-same (shelf .places) p place noPlace (let f : length (shelf .places) ≡ 4 = formed .four in omega arith)
+  at-same = getD-set-same (shelf .places) p place freePlace (let f : length (shelf .places) ≡ 4 = formed .four in omega arith)
 
   pub at-other : (q : ℕ) → (q ≡ p → ⊥) → placeAt (withPlace shelf p place) q ≡ placeAt shelf q
-  at-other q ne = getD-set-other (shelf .places) p q place noPlace ne
+  at-other q ne = getD-set-other (shelf .places) p q place freePlace ne
 
   pub formed-with : length (place .lengths) ≡ sections → Formed (withPlace shelf p place)
   formed-with l =

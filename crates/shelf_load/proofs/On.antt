@@ -20,11 +20,10 @@ use Rattle.section.specs.Section.{headerOf}
 use Rattle.section.specs.declared.Header.{Header}
 use Rattle.section.proofs.Laws.{SoundFacts, sound-facts, sound-fits}
 use Rattle.berth.specs.Berth.{places, sections, storeSize}
-use Rattle.shelf.specs.Record.{Place, Shelf, keyOf, placeAt, withPlace, spoiledOf, placeOf, freeOf}
+use Rattle.shelf.specs.Record.{Place, Shelf, keyOf, emptyTable, withLength, placeAt, withPlace, spoiledOf, placeOf, freeOf}
 use Rattle.shelf.specs.declared.Key.{Key}
 use Rattle.shelf.specs.Layout.{listed, takenIn, shelfIn, shelfAt}
 use Rattle.shelf_write.specs.Writes.{heldIn, headIn}
-use Rattle.shelf_write.specs.Calls.{emptyTable, withLength}
 use Rattle.shelf.proofs.Find.{free-le}
 use Rattle.shelf.proofs.Lists.{length-listed, getD-listed}
 use Rattle.shelf.proofs.Numbers.{at-count, spoiled-count, taken-at}

@@ -106,7 +106,7 @@ module _ (shelf : Shelf) (store payload : List ℕ) where
       (λ d. rw (a, b, c, d))
       (λ d. rw (a, b, c, d)))))
 
-  new-done : done shelf store payload (newStep shelf store payload h) ≡ newOf shelf store payload h
+  new-done : done shelf store payload (newStep shelf store payload) ≡ newOf shelf store payload h
   unfolding newStep newOf done
   new-done = by (eqb (freeOf shelf) places) (λ a. rw a) (λ a. rw a)
 

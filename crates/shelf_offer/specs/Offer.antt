@@ -1,9 +1,9 @@
 -- Document 01, "Offering a sound section": the answer, the next record and the store, for every record of four places, store and payload.
 use Prim.Native.Nat.{ℕ}
 use mathlib.Core.List.{List}
-use mathlib.Core.Bool.{true, not}
+use mathlib.Core.Bool.{not}
 use lib.Dec.{eqb}
-use lib.ListN.{length, set, replicate}
+use lib.ListN.{length}
 use Rattle.base.specs.Choice.{if_then_else_}
 use Rattle.base.specs.Bytes.{same}
 use Rattle.section.specs.Section.{readOf}
@@ -11,7 +11,7 @@ use Rattle.section.specs.declared.Header.{Header}
 use Rattle.section.specs.declared.Reading.{Reading}
 use Rattle.section.specs.declared.Reading.the-variants.{Sound, Refused}
 use Rattle.berth.specs.Berth.{sections, places, storeSize, put, wipedWhere, standing}
-use Rattle.shelf.specs.Record.{keyOf, placeAt, withPlace, lengthAt, holds, spoiledOf, placeOf, freeOf}
+use Rattle.shelf.specs.Record.{keyOf, emptyTable, withLength, placeAt, withPlace, lengthAt, holds, spoiledOf, placeOf, freeOf}
 use Rattle.shelf.specs.Record.{Place}
 use Rattle.shelf.specs.Record.{Shelf}
 use Rattle.shelf_offer.specs.declared.Offered.{Offered}
@@ -32,25 +32,11 @@ numberOf (Offered.Refused n) = n
 
 -- a place with the one section that begins its table
 abbrev pub begunPlace : Header → ℕ → Place
-begunPlace h size =
-    record {
-      taken = true;
-      key = keyOf h;
-      version = h .version;
-      last = h .last;
-      lengths = set (replicate sections 0) (h .number) size;
-    }
+begunPlace h size = withLength (emptyTable (keyOf h) (h .version) (h .last)) (h .number) size
 
 -- a place with one section more
 abbrev pub addedPlace : Place → Header → ℕ → Place
-addedPlace place h size =
-    record {
-      taken = place .taken;
-      key = place .key;
-      version = place .version;
-      last = place .last;
-      lengths = set (place .lengths) (h .number) size;
-    }
+addedPlace place h size = withLength place (h .number) size
 
 module _ (shelf : Shelf) (store payload : List ℕ) where
   -- a refused call returns the number alone
@@ -78,7 +64,7 @@ module _ (shelf : Shelf) (store payload : List ℕ) where
         shelf = withPlace shelf p (begunPlace h (length payload));
         store = put (wipedWhere (holds (placeAt shelf p)) sections store p) p (h .number) payload;
       }
-      -- same version with another last number
+      -- same version with another last number, also where the berth has the payload's bytes, which in a store lent back as left it has not
       else if not (eqb (placeAt shelf p .last) (h .last)) then no 10
       -- number not held: it is added
       else if not (holds (placeAt shelf p) (h .number)) then

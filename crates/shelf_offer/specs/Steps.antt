@@ -1,5 +1,5 @@
 -- Offering in two parts, as the code goes about it: the step that an offer comes to, and what is then done. `Offer` and `On` have the whole, and
--- it is proved that the two parts are it (`step-done`, `decided`).
+-- it is proved that the two parts are it (`step-done`, `decided`). Last, a step that writes, as numbers that one function hands to another.
 use Prim.Native.Nat.{ℕ, _+_, _*_}
 use mathlib.Core.List.{List}
 use mathlib.Core.Bool.{Bool, not}
@@ -24,7 +24,7 @@ use Rattle.shelf.specs.Calls.{maskAmong}
 use Rattle.shelf_write.specs.Writes.{heldIn}
 use Rattle.shelf_offer.specs.On.{begunWords}
 
--- key held in place p
+-- key held in place p, with what stands there
 unfoldable pub heldStep : Place → List ℕ → List ℕ → ℕ → Header → Step
 heldStep place store payload p h =
     if not (eqb (place .version) (h .version)) then BeginsAgain p
@@ -34,12 +34,12 @@ heldStep place store payload p h =
 
 module _ (shelf : Shelf) (store payload : List ℕ) where
   -- key not held
-  unfoldable pub newStep : Header → Step
-  newStep h = if eqb (freeOf shelf) places then Refuse 9 else Begins (freeOf shelf)
+  unfoldable pub newStep : Step
+  newStep = if eqb (freeOf shelf) places then Refuse 9 else Begins (freeOf shelf)
 
   unfoldable pub soundStep : Header → Step
   soundStep h =
-      if eqb (placeOf shelf (keyOf h)) places then newStep h
+      if eqb (placeOf shelf (keyOf h)) places then newStep
       else heldStep (placeAt shelf (placeOf shelf (keyOf h))) store payload (placeOf shelf (keyOf h)) h
 
   abbrev pub readingStep : Reading → Step
@@ -97,8 +97,8 @@ placeBy (Begins p) = p
 placeBy (BeginsAgain p) = p
 placeBy (Adds p) = p
 
--- what a step writes, as one number: the kind of its answer from bit 8 up, 1 began, 2 began again, 3 added; the number of a section that is added,
--- which is at most 15, from bit 1 up; bit 0 is left for whether the record has yet to be asked. 0 where it writes nothing
+-- the kind of a step that writes, as one number: the answer's from bit 8 up, 1 began, 2 began again, 3 added, as `offeredCode` has it; the number of a
+-- section that is added, which is at most 15, from bit 1 up; bit 0 is left for the code to say that 18 is still to be asked. 0 where it writes nothing
 abbrev pub whatBy : Step → ℕ → ℕ
 whatBy (Refuse n) number = 0
 whatBy Repeats number = 0
@@ -106,7 +106,8 @@ whatBy (Begins p) number = 256
 whatBy (BeginsAgain p) number = 512
 whatBy (Adds p) number = 768 + 2 * number
 
--- the step that writes, by the kind of its answer, which is whatBy / 256: 3 adds, 2 begins again, 1 begins. What writes nothing has no kind
+-- the step that writes, by the kind of its answer, which is whatBy / 256: 3 adds, 2 begins again, 1 begins. Any other number is read as 1, and
+-- nothing follows from it: what writes nothing comes here no more
 unfoldable pub stepBy : ℕ → ℕ → Step
 stepBy kind p = if eqb kind 3 then Adds p else if eqb kind 2 then BeginsAgain p else Begins p
 

@@ -20,7 +20,7 @@ use Rattle.base.proofs.Cases.{by, unlike, same-or}
 use Rattle.base.proofs.Tables.{given, passed, silent, among}
 use Rattle.berth.specs.Berth.{berthSize, sections, places, standing}
 use Rattle.berth.proofs.Berths.{where-picked, where-spared}
-use Rattle.shelf.specs.Record.{Same, noPlace, freePlace, placeAt, withPlace, placeOf}
+use Rattle.shelf.specs.Record.{Same, freePlace, placeAt, withPlace, placeOf}
 use Rattle.shelf.specs.declared.Key.{Key}
 use Rattle.shelf.specs.Record.{Place}
 use Rattle.shelf.specs.Record.{Shelf}
@@ -82,7 +82,7 @@ there : (shelf : Shelf) (p : ℕ) → placeAt shelf p .taken ≡ true → p < le
 there shelf p t =
     by (ltb p (length (shelf .places)))
     (λ y. ltb-true _ _ y)
-    (λ f. absurd (unlike (sym t ∙ ap (λ x. x .taken) (List·getD-eq-default (shelf .places) noPlace (ltb-false _ _ f)))))
+    (λ f. absurd (unlike (sym t ∙ ap (λ x. x .taken) (List·getD-eq-default (shelf .places) freePlace (ltb-false _ _ f)))))
 
 -- the same answer, the same store, and records with the same taken places
 pub record Alike (x y : After) : Type 0 where
@@ -110,12 +110,12 @@ module _ (a b : Shelf) (s : Same a b) where
       }
     where
       at-other : (c : Shelf) (q : ℕ) → (q ≡ p → ⊥) → placeAt (withPlace c p place) q ≡ placeAt c q
-      at-other c q o = getD-set-other (c .places) p q place noPlace o
+      at-other c q o = getD-set-other (c .places) p q place freePlace o
 
       at-place : (q : ℕ) → q ≡ p → placeAt (withPlace a p place) q ≡ placeAt (withPlace b p place) q
       at-place q e =
-          ap (placeAt (withPlace a p place)) e ∙ getD-set-same (a .places) p place noPlace h
-          ∙ sym (ap (placeAt (withPlace b p place)) e ∙ getD-set-same (b .places) p place noPlace l)
+          ap (placeAt (withPlace a p place)) e ∙ getD-set-same (a .places) p place freePlace h
+          ∙ sym (ap (placeAt (withPlace b p place)) e ∙ getD-set-same (b .places) p place freePlace l)
 
   pub release-same : (store : List ℕ) (key : Key) → Alike (releaseOf a store key) (releaseOf b store key)
   release-same store key =

@@ -9,11 +9,11 @@ use native.Mathlib.Omega.{arith}
 use lib.ListN.{length, set}
 use lib.Seq.{getD-set-same, set-set}
 use borrow.Author.Tests.{eq-eqb, lt-ltb}
-use Rattle.shelf.specs.Record.{Place, Shelf, noPlace, freePlace, fresh, placeAt, withPlace}
+use Rattle.shelf.specs.Record.{Place, Shelf, freePlace, emptyTable, withLength, fresh, placeAt, withPlace}
 use Rattle.shelf.specs.declared.Key.{Key}
 use Rattle.shelf.specs.Layout.{takenIn, placeIn, shelfIn, shelfAt}
 use Rattle.shelf_write.specs.Writes.{heldIn, freedIn, headIn, freshWords}
-use Rattle.shelf_write.specs.Calls.{emptyTable, withLength, heldPut, headPut, freedPut, freshPut}
+use Rattle.shelf_write.specs.Calls.{heldPut, headPut, freedPut, freshPut}
 use Rattle.shelf.proofs.Numbers.{at-count, place-at}
 use Rattle.shelf_write.proofs.Writes.{held-shelf, head-shelf, head-taken, freed-shelf, fresh-shelf, held-length, row-length, fresh-length}
 
@@ -23,7 +23,7 @@ unfolding shelfIn
 four words = refl
 
 pub with-at : (shelf : Shelf) (p : ℕ) (x : Place) → p < length (shelf .places) → placeAt (withPlace shelf p x) p ≡ x
-with-at shelf p x h = getD-set-same (shelf .places) p x noPlace h
+with-at shelf p x h = getD-set-same (shelf .places) p x freePlace h
 
 pub with-with : (shelf : Shelf) (p : ℕ) (x y : Place) → withPlace (withPlace shelf p x) p y ≡ withPlace shelf p y
 with-with shelf p x y = ap (λ l. record { places = l }) (set-set (shelf .places) p x y)

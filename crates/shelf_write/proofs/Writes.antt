@@ -17,12 +17,12 @@ use lib.Seq.{ext-getD, getD-set-same, getD-set-other}
 use borrow.Author.Tests.{eq-eqb, ne-eqb, le-ltb, lt-ltb}
 use Rattle.base.specs.Choice.{if_then_else_}
 use Rattle.base.proofs.Cases.{same-or}
-use Rattle.shelf.specs.Record.{Place, freePlace, fresh, withPlace}
+use Rattle.shelf.specs.Record.{Place, freePlace, emptyTable, withLength, fresh, withPlace}
 use Rattle.shelf.specs.declared.Key.{Key}
 use Rattle.base.specs.Bits.{bit}
 use Rattle.shelf.specs.Layout.{heldLength, listed, lengthsIn, tableIn, takenIn, placeIn, shelfIn}
 use Rattle.shelf_write.specs.Writes.{heldIn, rowIn, freedIn, headIn, freshNumber, freshWords}
-use Rattle.shelf_write.specs.Calls.{headPut, emptyTable, withLength}
+use Rattle.shelf_write.specs.Calls.{headPut}
 use Rattle.base.proofs.Bits.{bit-set, bit-kept}
 use Rattle.shelf.proofs.Lists.{length-listed, getD-listed, listed-same}
 

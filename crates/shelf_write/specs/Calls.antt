@@ -1,13 +1,10 @@
 -- What this layer's calls write, on any numbers: nothing where they are no record, or have no such place or section.
 use Prim.Native.Nat.{ℕ}
 use mathlib.Core.List.{List}
-use mathlib.Core.Bool.{true}
 use lib.Dec.{eqb}
-use lib.ListN.{length, set, replicate}
+use lib.ListN.{length}
 use Rattle.base.specs.Choice.{if_then_else_}
-use Rattle.berth.specs.Berth.{sections}
 use Rattle.shelf.specs.declared.Key.{Key}
-use Rattle.shelf.specs.Record.{Place}
 use Rattle.shelf.specs.Layout.{count}
 use Rattle.shelf.specs.Calls.{hasPlace, hasSection}
 use Rattle.shelf_write.specs.Writes.{heldIn, freedIn, headIn, freshWords}
@@ -23,19 +20,3 @@ freedPut words p = if hasPlace (length words) p then freedIn words p else words
 
 unfoldable pub freshPut : List ℕ → List ℕ
 freshPut words = if eqb (length words) count then freshWords else words
-
--- a table that holds nothing yet
-abbrev pub emptyTable : Key → ℕ → ℕ → Place
-emptyTable key version last =
-    record { taken = true; key = key; version = version; last = last; lengths = replicate sections 0 }
-
--- a table with another length of section n
-abbrev pub withLength : Place → ℕ → ℕ → Place
-withLength place n size =
-    record {
-      taken = place .taken;
-      key = place .key;
-      version = place .version;
-      last = place .last;
-      lengths = set (place .lengths) n size;
-    }

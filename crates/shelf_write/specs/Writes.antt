@@ -14,11 +14,11 @@ heldIn words p n size = set (set words (atLength p n) size) (atMask p) (bitOr (g
 
 -- the head and the mask of place p
 unfoldable pub rowIn : List ℕ → ℕ → ℕ → ℕ → ℕ → ℕ → ℕ → List ℕ
-rowIn words p a b c d mask =
-    set (set (set (set (set words (atTable p) a) (atExtension p) b) (atVersion p) c) (atLast p) d) (atMask p) mask
+rowIn words p table extension version last mask =
+    set (set (set (set (set words (atTable p) table) (atExtension p) extension) (atVersion p) version) (atLast p) last) (atMask p) mask
 
--- place p is free by the first number of its head, which is p so that no two heads begin alike; that the rest is 0, 0, 0 and the mask 1 means
--- nothing to 18. The quick pass says yes of such a place while its lengths are from 8 to 1,024
+-- place p is free by the first number of its head, which is p; that the rest is 0, 0, 0 and the mask 1 means nothing to 18. The quick pass
+-- (`shelf_check`) stops at no such place while its lengths are from 8 to 1,024 and no other head begins with p, 0, as none does that is written here
 abbrev pub freedIn : List ℕ → ℕ → List ℕ
 freedIn words p = rowIn words p p 0 0 0 1
 
