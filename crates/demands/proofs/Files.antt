@@ -1,8 +1,9 @@
--- The round trips of a file, proved of the functions that a host calls.
---   restores-always, saved-again
+-- What a load is answered, and the round trips of a file, proved of the functions that a host calls.
+--   loaded-exactly, restores-always, saved-again
 use mathlib.Core.Path.{_≡_, refl, sym, ap, subst, _∙_}
 use mathlib.Core.Bool.{false}
 use mathlib.Core.List.{List}
+use mathlib.Core.Logic.{_↔_}
 use Prim.Native.Nat.{ℕ, _≤_}
 use native.Mathlib.Omega.{arith}
 use lib.ListN.{take}
@@ -12,10 +13,13 @@ use Rattle.shelf_load.specs.declared.Loaded.{Loaded}
 use Rattle.shelf_save.specs.Save.{Save}
 use Rattle.shelf_save.specs.declared.Saved.{Saved}
 use Rattle.base.specs.Octets.{Octets}
+use Rattle.file.specs.Scan.{scanOf}
 use Rattle.answers.specs.Answers.{refusalIn, sizeIn}
 use Rattle.shelf_laws.specs.State.{loadOn, saveOut, afterLoad}
-use Rattle.shelf_laws.specs.History.{afterAll, save, load}
-use Rattle.shelf_laws.specs.Log.{heldBy}
+use Rattle.shelf_laws.specs.History.{afterAll, logOf, save, load}
+use Rattle.shelf_laws.specs.Log.{heldBy, Full}
+use Rattle.shelf_laws.specs.Loads.{FileSays}
+use Rattle.shelf_laws.proofs.Loads as loads
 use Rattle.shelf_laws.proofs.Ranges.{SaveRange, range}
 use Rattle.shelf_laws.proofs.Histories.{holds-all}
 use Rattle.shelf_laws.proofs.Loaded.{load-good}
@@ -31,7 +35,7 @@ use Rattle.shelf_histories.specs.Numbers.{replied}
 use Rattle.shelf_histories.specs.History.{History, logAfter, saveAfter, loadAfter}
 use Rattle.shelf_histories.proofs.Back.{size-in, loaded-told}
 use Rattle.shelf_histories.proofs.After.{reply-range, reply-after, next-answer, next-reply}
-use Rattle.demands.specs.Files.{fileIn, RestoresAlways, SavedAgain}
+use Rattle.demands.specs.Files.{fileIn, LoadedExactly, RestoresAlways, SavedAgain}
 use Rattle.demands.proofs.Shelf.{same-log}
 
 -- what a save that was not refused wrote, in numbers
@@ -56,6 +60,17 @@ written c r e = go (c .said) refl r e
 load-code : (h : History) (file : List ℕ) → loadAfter h file .code ≡ loadedCode (loadOn (afterAll (h .calls)) file .said)
 load-code h file = ap (λ a. a .code) (next-answer h (load file))
 
+-- .. from which it comes back
+load-told : (h : History) (file : List ℕ) → loadedIn (loadAfter h file .code) ≡ loadOn (afterAll (h .calls)) file .said
+load-told h file =
+    let t = afterAll (h .calls) in
+    ap loadedIn (load-code h file) ∙ loaded-told (loadOn t file .said) (range t (holds-all (h .calls) .good) (load file))
+
+pub loaded-exactly : LoadedExactly
+loaded-exactly h file a =
+    subst (λ log. (loadedIn (loadAfter h file .code) ≡ a) ↔ FileSays (scanOf file .answer) log a) (sym (same-log h))
+    (subst (λ said. (said ≡ a) ↔ FileSays (scanOf file .answer) (logOf (h .calls)) a) (sym (load-told h file)) (loads.loaded-exactly (h .calls) file a))
+
 module _ (first second : History) (key : Key) (output : List ℕ) (e : refusalIn (saveAfter first key output .code) ≡ 0) where
   abbrev file : List ℕ
   file = fileIn (saveAfter first key output)
@@ -71,13 +86,13 @@ module _ (first second : History) (key : Key) (output : List ℕ) (e : refusalIn
   same-file : take (wrote .size) (saveOut (afterAll (first .calls)) key output .out) ≡ file
   same-file = sym (ap fileIn same-save ∙ wrote .file)
 
-  restored : heldBy key (logAfter second) ≡ false → ¬ (loadAfter second file .code ≡ 9)
+  restored : heldBy key (logAfter second) ≡ false → ¬ (Full (logAfter second))
       → Restores (afterAll (first .calls)) key (afterAll (second .calls)) file
   restored unheld not-full =
       subst (Restores (afterAll (first .calls)) key (afterAll (second .calls))) same-file
       (round.restores-always (first .calls) (second .calls) key output (wrote .size) (wrote .said)
       (sym (ap (heldBy key) (same-log second)) ∙ unheld)
-      (λ q. not-full (load-code second file ∙ ap loadedCode (ap (λ f. loadOn (afterAll (second .calls)) f .said) (sym same-file) ∙ q))))
+      (λ full. not-full (subst Full (sym (same-log second)) full)))
 
 pub restores-always : RestoresAlways
 restores-always first second key output e unheld not-full =
@@ -102,6 +117,6 @@ pub saved-again : SavedAgain
 saved-again h file octets header table e output room =
     let t = afterAll (h .calls) in
     let said : loadOn (afterAll (h .calls)) file .said ≡ Loaded.Done =
-    sym (loaded-told (loadOn t file .said) (range t (holds-all (h .calls) .good) (load file))) ∙ ap loadedIn (sym (load-code h file) ∙ e) in
+    sym (load-told h file) ∙ ap loadedIn e in
     next-reply h (load file) (octets, tt) (save (keyOf header) output)
     ∙ ap save-answer.saveOut (round.saved-again (h .calls) file octets header table said output room)

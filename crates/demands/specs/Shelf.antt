@@ -28,14 +28,16 @@ use Rattle.shelf_ask.specs.Answer.{wholeCode, copyLent}
 use Rattle.shelf_laws.specs.History.{Question, about, Each}
 use Rattle.shelf_laws.specs.Named.{keyIn}
 use Rattle.shelf_laws.specs.Log.{heldBy, since, lastSince}
+use Rattle.shelf_laws.specs.Questions.{replyBy}
 use Rattle.shelf_laws.specs.Reception.{SectionOf, OfferedIn, Undisturbed}
-use Rattle.shelf_histories.specs.History.{History, logAfter, linesAfter, replyAfter, wholeAfter, copyAfter, offerAfter, EachLine}
+use Rattle.shelf_histories.specs.Numbers.{replied}
+use Rattle.shelf_histories.specs.History.{History, logAfter, linesAfter, replyAfter, wholeAfter, copyAfter, offerAfter, releaseAfter, EachLine}
 
 -- the number that calls a table complete
 abbrev pub complete : ℕ
 complete = wholeCode Whole.Complete
 
--- a table is held, which is to say that no question about it is answered 14, exactly when it began and was not released since
+-- a table is held, which is to say that a question about it is not answered 14, exactly when it began and was not released since
 abbrev pub HeldExactly : Type 0
 HeldExactly = (h : History) (q : Question) → (¬ (refusalIn (replyAfter h q .code) ≡ 14)) ↔ (heldBy (about q) (logAfter h) ≡ true)
 
@@ -54,7 +56,16 @@ MoreReception =
     → ((n : ℕ) (output : List ℕ) → refusalIn (copyAfter first key n output .code) ≡ 0 → copyAfter second key n output ≡ copyAfter first key n output)
     × (wholeAfter first key ≡ complete → wholeAfter second key ≡ complete)
 
--- beside it: no call of a history is answered 17 or 18
+-- beside it: every question is answered what the log says (shelf_laws, specs/Questions): a copy the bytes with which the section was last
+-- accepted or loaded, a save the file of all of them, the lowest missing number the lowest that was not; and 14, 16 and 15 in their order
+abbrev pub AskedExactly : Type 0
+AskedExactly = (h : History) (q : Question) → replyAfter h q ≡ replied (replyBy (logAfter h) q)
+
+-- a table is released exactly when it is held
+abbrev pub ReleasedExactly : Type 0
+ReleasedExactly = (h : History) (key : Key) → (releaseAfter h key .code ≡ 0) ↔ (heldBy key (logAfter h) ≡ true)
+
+-- no call of a history is answered 17 or 18
 abbrev pub Never17Nor18 : Type 0
 Never17Nor18 = (h : History) → EachLine (λ l. ¬ (refusalIn (l .answer .code) ≡ 17) × ¬ (refusalIn (l .answer .code) ≡ 18)) (linesAfter h)
 

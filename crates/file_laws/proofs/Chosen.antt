@@ -1,5 +1,5 @@
 -- Laws on the numbers that are picked.
---   chosen-same      what is picked below n depends on the numbers below n alone
+--   chosen-as        a list depends on what is picked below n alone
 --   chosen-none      numbers that are not picked add nothing
 --   chosen-added     one number more, above all that are picked, comes last
 use mathlib.Core.Path.{_≡_, refl, sym, ap, _∙_}
@@ -10,14 +10,18 @@ use Prim.Native.Nat.{ℕ, zero, suc, _+_, _<_, _≤_}
 use native.Mathlib.Numerals.{add-one}
 use native.Mathlib.Nat.{eq-or-lt-of-le}
 use native.Mathlib.Omega.{arith}
+use Rattle.base.proofs.Cases.{by}
 use Rattle.file.specs.Layout.{chosen}
 
-pub chosen-same : (n : ℕ) (p q : ℕ → Bool) (f g : ℕ → List ℕ) → ((k : ℕ) → k < n → p k ≡ q k) → ((k : ℕ) → k < n → f k ≡ g k)
+pub chosen-as : (n : ℕ) (p q : ℕ → Bool) (f g : ℕ → List ℕ) → ((k : ℕ) → k < n → p k ≡ q k) → ((k : ℕ) → k < n → q k ≡ true → f k ≡ g k)
     → chosen n p f ≡ chosen n q g
 unfolding chosen
-chosen-same zero p q f g a b = refl
-chosen-same (suc n) p q f g a b =
-    rw (chosen-same n p q f g (λ k l. a k (omega arith)) (λ k l. b k (omega arith)), a n (omega arith), b n (omega arith))
+chosen-as zero p q f g a b = refl
+chosen-as (suc n) p q f g a b =
+    let ih : chosen n p f ≡ chosen n q g = chosen-as n p q f g (λ k l. a k (omega arith)) (λ k l. b k (omega arith)) in
+    by (q n)
+    (λ t. rw (ih, a n (omega arith), t, b n (omega arith) t))
+    (λ t. rw (ih, a n (omega arith), t))
 
 module _ (p : ℕ → Bool) (f : ℕ → List ℕ) where
   pub chosen-none : (m n : ℕ) → m ≤ n → ((k : ℕ) → m ≤ k → p k ≡ false) → chosen n p f ≡ chosen m p f
@@ -39,4 +43,4 @@ module _ (p q : ℕ → Bool) (f g : ℕ → List ℕ) (m n : ℕ) (l : m < n) (
   chosen-added =
       chosen-none q g (m + 1) n (omega arith) (λ k h. new k (omega arith))
       ∙ chosen-next q g m here
-      ∙ ap (λ c. c ++ (g m ∷ [])) (chosen-same m q p g f below same ∙ sym (chosen-none p f m n (omega arith) old))
+      ∙ ap (λ c. c ++ (g m ∷ [])) (chosen-as m q p g f below (λ k l _. same k l) ∙ sym (chosen-none p f m n (omega arith) old))

@@ -22,7 +22,8 @@ use Rattle.shelf_laws.specs.Log.{loads}
 use Rattle.shelf_laws.proofs.Places.{key-itself}
 use Rattle.shelf_laws.proofs.Kept.{Good, Table}
 use Rattle.shelf_laws.proofs.Loaded.{load-good, load-begins}
-use Rattle.file_round.proofs.Saved.{fileFrom, saved-as, saved-answer}
+use Rattle.file_round.proofs.Saved.{fileFrom, saved-answer}
+use Rattle.shelf_laws.proofs.Asked.{kept-file}
 
 -- a file of bytes that was loaded
 module _ (s : State) (g : Good s) (file : List ℕ) (b : Bytes file) (h : Header) (e : scanOf file .answer ≡ Scan.Table h)
@@ -36,7 +37,7 @@ module _ (s : State) (g : Good s) (file : List ℕ) (b : Bytes file) (h : Header
 
   same-file : fileFrom (afterLoad (loadOn s file)) (keyOf h) ≡ file
   same-file =
-      saved-as (afterLoad (loadOn s file)) (keyOf h) (load-begins s file g (keyOf h) begins)
+      kept-file (afterLoad (loadOn s file)) (keyOf h) (load-begins s file g (keyOf h) begins)
       ∙ ap fileOf the-file
       ∙ sym (file-of-the-table file b (h, e) .1)
 

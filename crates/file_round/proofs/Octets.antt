@@ -21,7 +21,8 @@ use Rattle.shelf_laws.specs.State.{State}
 use Rattle.shelf_laws.proofs.Kept.{Good}
 use Rattle.shelf_laws.proofs.Asked.{length-most}
 use Rattle.file_round.specs.Round.{bytesAt}
-use Rattle.file_round.proofs.Saved.{fileFrom, file-held}
+use Rattle.file_round.proofs.Saved.{fileFrom}
+use Rattle.shelf_laws.proofs.Asked.{file-held}
 use Rattle.shelf_laws.proofs.Octets.{octets-nil, octets-cons, octets-append}
 
 -- a number below 65,536 is written in bytes

@@ -1,5 +1,4 @@
 -- Lists of what is picked below a number, where each thing has its own number.
---   picked-as       they depend on what is picked alone
 --   picked-length   they are at most as many
 --   picked-in, picked-from    what is picked is in the list, and what is in the list is picked
 --   picked-match    two lists that are one pick the same
@@ -14,16 +13,6 @@ use lib.ListN.{length, length-append}
 use Rattle.base.specs.Choice.{if_then_else_}
 use Rattle.base.proofs.Cases.{by, unlike}
 use Rattle.file.specs.Layout.{chosen}
-
-pub picked-as : (n : ℕ) (p q : ℕ → Bool) (f g : ℕ → List ℕ) → ((k : ℕ) → k < n → p k ≡ q k) → ((k : ℕ) → k < n → q k ≡ true → f k ≡ g k)
-    → chosen n p f ≡ chosen n q g
-unfolding chosen
-picked-as zero p q f g a b = refl
-picked-as (suc n) p q f g a b =
-    let ih : chosen n p f ≡ chosen n q g = picked-as n p q f g (λ k l. a k (omega arith)) (λ k l. b k (omega arith)) in
-    by (q n)
-    (λ t. rw (ih, a n (omega arith), t, b n (omega arith) t))
-    (λ t. rw (ih, a n (omega arith), t))
 
 module _ (p : ℕ → Bool) (f : ℕ → List ℕ) where
   pub picked-length : (n : ℕ) → length (chosen n p f) ≤ n

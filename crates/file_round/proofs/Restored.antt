@@ -1,6 +1,5 @@
 -- Loading what was saved of a table as it was left, on a shelf with room and without that key.
 --   loaded, restored      it is loaded, and the table is restored
---   full                  on a full shelf without that key it is refused by 9
 use mathlib.Core.Path.{_≡_, refl, sym, ap, _∙_}
 use mathlib.Core.Bool.{true}
 use mathlib.Core.List.{List}
@@ -36,7 +35,8 @@ use Rattle.shelf_laws.proofs.Loaded.{Carried, carried, load-begins, carriedTabl
 use Rattle.file_round.specs.Round.{bytesAt, AsLeft, Restored}
 use Rattle.file_round.proofs.Picked.{matched, picked-match}
 use Rattle.file_round.proofs.Sections.{sections-sound}
-use Rattle.file_round.proofs.Saved.{fileFrom, file-held}
+use Rattle.file_round.proofs.Saved.{fileFrom}
+use Rattle.shelf_laws.proofs.Asked.{file-held}
 use Rattle.file_round.proofs.Left.{file-own}
 
 place-same : (a b : Place) → a .taken ≡ b .taken → a .key ≡ b .key → a .version ≡ b .version → a .last ≡ b .last → a .lengths ≡ b .lengths → a ≡ b
@@ -157,16 +157,6 @@ module _ (s : State) (g : Good s) (key : Key) (left : AsLeft s key) (i : placeOf
   same-place =
       place-same (loadedPlace header (scanOf file .lengths)) place (sym taken)
       (key-same ∙ sym (its-key place key (held-at s.shelf key i))) same-version same-last same-lengths
-
-  -- refused by 9 on a full shelf without that key
-  pub full : (t : State) → Good t → placeOf t.shelf key ≡ places → freeOf t.shelf ≡ places → loadOn t file .said ≡ Loaded.Refused 9
-  unfolding loadOf tableOf
-  full t good without none =
-      rw (eq-eqb (length t.store) storeSize (good .lent), good .unspoiled, accepted .1)
-      (rw (
-        eq-eqb (placeOf t.shelf (keyOf header)) places (ap (placeOf t.shelf) key-same ∙ without),
-        eq-eqb (freeOf t.shelf) places none,
-      ))
 
   -- loaded on a shelf with room and without that key
   module _ (t : State) (good : Good t) (without : placeOf t.shelf key ≡ places) (room : freeOf t.shelf < places) where

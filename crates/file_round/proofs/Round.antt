@@ -27,13 +27,15 @@ use Rattle.shelf_laws.specs.State.{State, loadOn, saveOut, copyOut, wholeIn, mi
 use Rattle.shelf_laws.specs.History.{Question, copied, wholly, lacking, saved, about, reply, afterAll}
 use Rattle.shelf_laws.proofs.Places.{free-le}
 use Rattle.shelf_laws.proofs.Kept.{Good}
+use Rattle.shelf_laws.proofs.Asked.{file-held}
+use Rattle.shelf_laws.proofs.Full.{none-full}
 use Rattle.shelf_laws.proofs.Histories.{holds-all}
 use Rattle.shelf_laws.proofs.Held.{unheld-place}
 use Rattle.file_round.specs.Round.{bytesAt, AsLeft, Restored, Restores, RestoresAlways, AnswersAlike, SavedAgain}
-use Rattle.file_round.proofs.Saved.{file-held, saved-bytes}
+use Rattle.file_round.proofs.Saved.{saved-bytes}
 use Rattle.file_round.proofs.Left.{left-all}
 use Rattle.file_round.proofs.Again as Again
-use Rattle.file_round.proofs.Restored.{full, loaded, restored}
+use Rattle.file_round.proofs.Restored.{loaded, restored}
 
 pub saved-again : SavedAgain
 saved-again h = Again.saved-again (afterAll h) (holds-all h .good)
@@ -45,16 +47,10 @@ restores s g key left out n e t good without room =
     let w = saved-bytes s key g out n e in
     subst (Restores s key t) (sym (w .file)) (loaded s g key left (w .held) t good without room, restored s g key left (w .held) t good without room)
 
--- a shelf on which the file is not refused by 9 has room
 pub restores-always : RestoresAlways
 restores-always h i key out n e unheld not-full =
-    let w = saved-bytes (afterAll h) key (holds-all h .good) out n e in
     let without : placeOf (afterAll i .shelf) key ≡ places = unheld-place i key unheld in
-    let some : freeOf (afterAll i .shelf) ≡ places → ⊥ =
-    λ none.
-    not-full
-    (ap (λ f. loadOn (afterAll i) f .said) (w .file)
-    ∙ full (afterAll h) (holds-all h .good) key (left-all h key) (w .held) (afterAll i) (holds-all i .good) without none) in
+    let some : freeOf (afterAll i .shelf) ≡ places → ⊥ = λ none. not-full (none-full i none) in
     let most : freeOf (afterAll i .shelf) ≤ places = free-le (afterAll i .shelf) in
     restores (afterAll h) (holds-all h .good) key (left-all h key) out n e (afterAll i) (holds-all i .good) without (omega arith)
 

@@ -1,8 +1,7 @@
 -- What is saved of a kept table.
---   saved-as         its file is the file of the sections that are kept
 --   saved-answer     there is room: the file stands at the front of the output
 --   saved-bytes      what a save that was not refused wrote
-use mathlib.Core.Path.{_≡_, refl, ap, _∙_}
+use mathlib.Core.Path.{_≡_}
 use mathlib.Core.List.{List}
 use Prim.Native.Nat.{ℕ, _<_, _≤_}
 use native.Mathlib.Omega.{arith}
@@ -11,34 +10,19 @@ use lib.ListN.{length, take}
 use lib.Seq.{take-append-seam}
 use borrow.Author.Tests.{eq-eqb, ne-eqb, eqb-false, le-ltb}
 use Rattle.base.proofs.Cases.{by}
-use Rattle.berth.specs.Berth.{sections, places, storeSize, standing}
-use Rattle.shelf.specs.Record.{placeAt, holds, placeOf}
+use Rattle.berth.specs.Berth.{places, storeSize}
+use Rattle.shelf.specs.Record.{placeOf}
 use Rattle.shelf.specs.declared.Key.{Key}
 use Rattle.shelf.proofs.Find.{place-le}
-use Rattle.file.specs.Layout.{fileOf, chosen}
-use Rattle.shelf_save.specs.Save.{written, heldBelow, placeFile, savedFile, saveOf}
+use Rattle.shelf_save.specs.Save.{written, savedFile, saveOf}
 use Rattle.shelf_save.specs.declared.Saved.{Saved}
 use Rattle.shelf_laws.specs.State.{State, saveOut}
-use Rattle.shelf_laws.proofs.Kept.{Good, Table, Kept}
-use Rattle.file_round.specs.Round.{bytesAt}
-use Rattle.file_round.proofs.Picked.{picked-as}
+use Rattle.shelf_laws.proofs.Kept.{Good}
 
 module _ (s : State) (key : Key) where
   -- the file of the table with that key
   abbrev pub fileFrom : List ℕ
   fileFrom = savedFile s.shelf s.store key
-
-  pub file-held : fileFrom ≡ fileOf (chosen sections (holds (placeAt s.shelf (placeOf s.shelf key))) (bytesAt s (placeOf s.shelf key)))
-  unfolding savedFile placeFile heldBelow
-  file-held = refl
-
-  pub saved-as : {p : ℕ} {t : Table} → Kept s key p t → fileFrom ≡ fileOf (chosen sections t.has t.bytes)
-  saved-as {p} {t} k =
-      file-held
-      ∙ ap (λ q. fileOf (chosen sections (holds (placeAt s.shelf q)) (bytesAt s q))) (k .place)
-      ∙ ap fileOf
-      (picked-as sections (holds (placeAt s.shelf p)) t.has (bytesAt s p) t.bytes (k .numbers)
-      (λ n i h. ap (standing s.store p n) (k .lengths n i h) ∙ k .stands n i h))
 
   module _ (g : Good s) (out : List ℕ) where
     pub saved-answer : placeOf s.shelf key < places → length fileFrom ≤ length out → saveOut s key out ≡ written fileFrom out

@@ -19,7 +19,7 @@ use Rattle.shelf_save.specs.Save.{written}
 use Rattle.shelf_save.specs.declared.Saved.{Saved}
 use Rattle.shelf_laws.specs.State.{State, loadOn, saveOut, afterLoad}
 use Rattle.shelf_laws.specs.History.{Question, about, reply, Call, afterAll, logOf}
-use Rattle.shelf_laws.specs.Log.{heldBy}
+use Rattle.shelf_laws.specs.Log.{heldBy, Full}
 
 -- the bytes that stand for section n of place p, by its held length
 abbrev pub bytesAt : State → ℕ → ℕ → List ℕ
@@ -59,7 +59,7 @@ RestoresAlways =
     (h i : List Call) (key : Key) (out : List ℕ) (n : ℕ)
     → saveOut (afterAll h) key out .said ≡ Saved.Bytes n
     → heldBy key (logOf i) ≡ false
-    → ¬ (loadOn (afterAll i) (take n (saveOut (afterAll h) key out .out)) .said ≡ Loaded.Refused 9)
+    → ¬ (Full (logOf i))
     → Restores (afterAll h) key (afterAll i) (take n (saveOut (afterAll h) key out .out))
 
 -- a restored table answers every question as the one that was saved

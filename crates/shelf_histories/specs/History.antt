@@ -108,6 +108,9 @@ module _ (h : History) where
   abbrev pub offerAfter : List ℕ → Lent
   offerAfter payload = offerLent (leftAfter .words) (leftAfter .store) payload
 
+  abbrev pub releaseAfter : Key → Lent
+  releaseAfter key = releaseLent (leftAfter .words) (leftAfter .store) key
+
   abbrev pub loadAfter : List ℕ → Lent
   loadAfter file = loadLent (leftAfter .words) (leftAfter .store) file
 

@@ -2,10 +2,13 @@
 --   kept-copied      a held section is copied out byte for byte
 --   kept-16, kept-15   one that is not held is refused 16, one for which the output is too small 15
 --   kept-whole       the table is called complete when every number from 0 to its last is held, and else incomplete
+--   kept-missing     .. and else the lowest that is not held is missing
+--   file-held, kept-file   its file is the file of the sections that are kept
+--   kept-saved       .. which is saved, where there is room for it
 --   unheld-copied, unheld-whole      of a table that is not held nothing is answered but 14
 --   refused-14, unheld-reply         so of every question
 --   held-answer                      what a question about a held table is answered
-use mathlib.Core.Path.{_≡_, ap, _∙_}
+use mathlib.Core.Path.{_≡_, refl, ap, _∙_}
 use mathlib.Core.Bool.{true, false, not}
 use mathlib.Core.List.{List, _++_}
 use Prim.Native.Nat.{ℕ, _+_, _<_, _≤_}
@@ -13,11 +16,11 @@ use native.Mathlib.Omega.{arith}
 use lib.Dec.{eqb, ltb}
 use lib.ListN.{length, drop, List·getD-eq-default}
 use borrow.Author.Tests.{eq-eqb, ne-eqb, le-ltb, lt-ltb, ltb-true, ltb-false}
-use Rattle.base.specs.Choice.{if_then_else_, _if_}
-use Rattle.base.specs.Below.{every}
+use Rattle.base.specs.Choice.{if_then_else_, _if_, first}
+use Rattle.base.specs.Below.{every, lowest}
 use Rattle.base.proofs.Cases.{by}
 use Rattle.base.proofs.Tables.{among}
-use Rattle.berth.specs.Berth.{sections, places, storeSize, berthSize}
+use Rattle.berth.specs.Berth.{sections, places, storeSize, berthSize, standing}
 use Rattle.shelf.specs.Record.{placeAt, lengthAt, holds, placeOf}
 use Rattle.shelf.specs.declared.Key.{Key}
 use Rattle.shelf.proofs.Words.{sound-place}
@@ -26,15 +29,30 @@ use Rattle.shelf_ask.specs.declared.Copied.{Copied}
 use Rattle.shelf_ask.specs.declared.Whole.{Whole}
 use Rattle.shelf_ask.specs.declared.Missing.{Missing}
 use Rattle.shelf_ask.proofs.ExactlyWhen.{whole-none}
-use Rattle.file.specs.Layout.{largestFile}
-use Rattle.shelf_save.specs.Save.{save, savedFile, saveOf}
+use Rattle.file.specs.Layout.{fileOf, chosen, largestFile}
+use Rattle.file_laws.proofs.Chosen.{chosen-as}
+use Rattle.shelf_save.specs.Save.{save, refuse, unsaved, written, heldBelow, placeFile, savedFile, saveOf}
 use Rattle.shelf_save.specs.declared.Saved.{Saved}
 use Rattle.shelf_save.proofs.ExactlyWhen.{saved-largest}
-use Rattle.shelf_laws.specs.State.{State, copyOut, wholeIn}
+use Rattle.shelf_laws.specs.State.{State, copyOut, wholeIn, missingIn, saveOut}
 use Rattle.shelf_laws.specs.History.{Question, Reply, copied, wholly, lacking, saved, about, reply}
-use Rattle.shelf_laws.proofs.Truth.{every-same}
-use Rattle.shelf_laws.proofs.Kept.{Good, Table, Kept, kept-key}
+use Rattle.shelf_laws.proofs.Truth.{every-same, lowest-same}
+use Rattle.shelf_laws.proofs.Kept.{Good, Table, Kept, kept-key, heldTable}
 use Rattle.shelf_laws.proofs.Places.{is-taken, held-at}
+
+module _ (s : State) (key : Key) where
+  pub file-held : savedFile s.shelf s.store key
+      ≡ fileOf (chosen sections (heldTable s (placeOf s.shelf key) .has) (heldTable s (placeOf s.shelf key) .bytes))
+  unfolding savedFile placeFile heldBelow
+  file-held = refl
+
+  pub kept-file : {p : ℕ} {t : Table} → Kept s key p t → savedFile s.shelf s.store key ≡ fileOf (chosen sections t.has t.bytes)
+  kept-file {p} {t} k =
+      file-held
+      ∙ ap (λ q. fileOf (chosen sections (heldTable s q .has) (heldTable s q .bytes))) (k .place)
+      ∙ ap fileOf
+      (chosen-as sections (heldTable s p .has) t.has (heldTable s p .bytes) t.bytes (k .numbers)
+      (λ n i h. ap (standing s.store p n) (k .lengths n i h) ∙ k .stands n i h))
 
 module _ (s : State) (g : Good s) (key : Key) where
   module _ {p : ℕ} {t : Table} (k : Kept s key p t) where
@@ -81,6 +99,26 @@ module _ (s : State) (g : Good s) (key : Key) where
           k .last,
           every-same (holds (placeAt s.shelf p)) t.has (t.last + 1) (λ n i. k .numbers n (omega arith)),
         )
+
+    pub kept-missing : missingIn s key
+        ≡ (if every (t.last + 1) t.has then Missing.Nothing else Missing.Number (lowest (t.last + 1) (λ n. not (t.has n))))
+    unfolding missingOf complete lowestMissing
+    kept-missing =
+        let b : t.last ≤ 15 = kept-last in
+        rw (
+          eq-eqb (length s.store) storeSize (g .lent),
+          g .unspoiled,
+          k .place,
+          not-14,
+          k .last,
+          every-same (holds (placeAt s.shelf p)) t.has (t.last + 1) (λ n i. k .numbers n (omega arith)),
+          lowest-same (λ n. not (holds (placeAt s.shelf p) n)) (λ n. not (t.has n)) (t.last + 1) (λ n i. ap not (k .numbers n (omega arith))),
+        )
+
+    pub kept-saved : (out : List ℕ) → saveOut s key out
+        ≡ first (refuse out) (unsaved (fileOf (chosen sections t.has t.bytes)) out) (written (fileOf (chosen sections t.has t.bytes)) out)
+    unfolding saveOf
+    kept-saved out = rw (eq-eqb (length s.store) storeSize (g .lent), g .unspoiled, k .place, not-14, kept-file s key k)
 
   -- a number past the sixteenth is not held
   pub above-16 : (p n : ℕ) → p < places → sections ≤ n → holds (placeAt s.shelf p) n ≡ false

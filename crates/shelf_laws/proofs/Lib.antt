@@ -16,6 +16,8 @@ pub mod Histories
 pub mod Held
 pub mod Full
 pub mod Says
+pub mod Questions
+pub mod Loads
 pub mod Ranges
 pub mod Never
 pub mod Complete

@@ -184,7 +184,7 @@ module _ (s : State) (file : List ℕ) where
     18-spoiled : (scan : Scan) → spoiledOf s.shelf ≡ true → Refusal scan 18
     faulty : (n : ℕ) → scanOf file .answer ≡ Scan.Refused n → Refusal (Scan.Refused n) n
     13-held : (h : Header) → (placeOf s.shelf (keyOf h) ≡ places → ⊥) → Refusal (Scan.Table h) 13
-    9-full : (h : Header) → freeOf s.shelf ≡ places → Refusal (Scan.Table h) 9
+    9-full : (h : Header) → placeOf s.shelf (keyOf h) ≡ places → freeOf s.shelf ≡ places → Refusal (Scan.Table h) 9
 
   -- by what the scan answers
   pub data Goes : Scan → After → Type 0 where
@@ -205,7 +205,7 @@ module _ (s : State) (file : List ℕ) where
       by (eqb (placeOf s.shelf (keyOf h)) places)
       (λ t.
       by (eqb (freeOf s.shelf) places)
-      (λ f. rw (t, f) (refuses (Scan.Table h) 9 (9-full h (eqb-true _ _ f))))
+      (λ f. rw (t, f) (refuses (Scan.Table h) 9 (9-full h (eqb-true _ _ t) (eqb-true _ _ f))))
       (λ f.
       let ne : freeOf s.shelf ≡ places → ⊥ = eqb-false _ _ f in
       let le : freeOf s.shelf ≤ places = free-le s.shelf in

@@ -105,7 +105,7 @@ module _ (s : State) (g : Good s) where
   load-refusal file (Loading.Refusal.faulty n e) =
       let b : n ≤ 12 = scan-range file n e .1 in (scan-range file n e .0, omega arith)
   load-refusal file (Loading.Refusal.13-held _ _) = (omega arith, omega arith)
-  load-refusal file (Loading.Refusal.9-full _ _) = (omega arith, omega arith)
+  load-refusal file (Loading.Refusal.9-full _ _ _) = (omega arith, omega arith)
 
   load-range : (file : List ℕ) {scan : Scan} {r : Load.After} → Loading.Goes s file scan r → LoadRange (r .said)
   load-range file (Loading.Goes.refuses _ _ y) = load-refusal file y

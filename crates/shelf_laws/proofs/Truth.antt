@@ -1,11 +1,11 @@
 -- Laws of truth values and of `every` that the ground does not have.
 --   or-none, or-true, and-true, and-false    a joined test of which one part is known
---   every-same                               tests that agree below n
+--   every-same, lowest-same                  tests that agree below n
 use mathlib.Core.Path.{_≡_, refl}
 use mathlib.Core.Bool.{Bool, true, false, _&&_, _||_}
 use Prim.Native.Nat.{ℕ, zero, suc, _<_}
 use native.Mathlib.Omega.{arith}
-use Rattle.base.specs.Below.{every}
+use Rattle.base.specs.Below.{every, lowest}
 
 pub or-none : (a : Bool) → a ≡ a || false
 or-none true = refl
@@ -27,3 +27,8 @@ pub every-same : (f g : ℕ → Bool) (n : ℕ) → ((k : ℕ) → k < n → f k
 unfolding every
 every-same f g zero e = refl
 every-same f g (suc n) e = rw (every-same f g n (λ k h. e k (omega arith)), e n (omega arith))
+
+pub lowest-same : (f g : ℕ → Bool) (n : ℕ) → ((k : ℕ) → k < n → f k ≡ g k) → lowest n f ≡ lowest n g
+unfolding lowest
+lowest-same f g zero e = refl
+lowest-same f g (suc n) e = rw (lowest-same f g n (λ k h. e k (omega arith)), e n (omega arith))

@@ -11,6 +11,7 @@ use Rattle.shelf.specs.Record.{fresh}
 use Rattle.shelf.specs.declared.Key.{Key}
 use Rattle.shelf_offer.specs.declared.Offered.{Offered}
 use Rattle.shelf_release.specs.declared.Released.{Released}
+use Rattle.file.specs.Scan.{scanOf}
 use Rattle.shelf_load.specs.declared.Loaded.{Loaded}
 use Rattle.shelf_ask.specs.Ask.{copy, copiedNo}
 use Rattle.shelf_ask.specs.declared.Copied.{Copied}
@@ -21,6 +22,8 @@ use Rattle.shelf_laws.specs.Answers.{accepted}
 use Rattle.shelf_laws.specs.History.{Question, about, Call, replyNo, replyAfter, afterAll, logOf, copyAfter, wholeAfter, logged, numberIn, Each}
 use Rattle.shelf_laws.specs.Log.{heldBy, since, lastSince}
 use Rattle.shelf_laws.specs.Offers.{Says}
+use Rattle.shelf_laws.specs.Questions.{replyBy}
+use Rattle.shelf_laws.specs.Loads.{FileSays}
 use Rattle.shelf_laws.specs.Reception.{SectionOf, OfferedIn, Undisturbed}
 
 -- every question about a table is answered otherwise than 14 exactly when the log has a beginning of it and no release since (Held)
@@ -45,6 +48,15 @@ OfferedExactly =
     → SectionOf key payload
     → (a : Offered)
     → (offerTo (afterAll h) payload .said ≡ a) ↔ Says key payload (logOf h) a
+
+-- every question is answered what the log says (Questions)
+abbrev pub AskedExactly : Type 0
+AskedExactly = (h : List Call) (q : Question) → replyAfter h q ≡ replyBy (logOf h) q
+
+-- a load is answered so exactly when the file and the log say it (Loads)
+abbrev pub LoadedExactly : Type 0
+LoadedExactly =
+    (h : List Call) (file : List ℕ) (a : Loaded) → (loadOn (afterAll h) file .said ≡ a) ↔ FileSays (scanOf file .answer) (logOf h) a
 
 -- of two histories that leave a table undisturbed, if the second offers every sound section of it that the first does, then it hands out
 -- each section that the first does, with the same bytes, and calls the table complete if the first does (Reception)

@@ -5,5 +5,7 @@ pub mod Answers
 pub mod History
 pub mod Log
 pub mod Offers
+pub mod Questions
+pub mod Loads
 pub mod Reception
 pub mod Laws
