@@ -1,5 +1,5 @@
 -- The writer's sections on a fresh shelf, proved of the functions that a host calls.
---   can-be-offered, complete-table, hands-out, bodies-back
+--   section-written, can-be-offered, complete-table, hands-out, bodies-back
 use mathlib.Core.Path.{_≡_, refl, ap, _∙_}
 use mathlib.Core.List.{List, [], _∷_, _++_, List·Memᴰ}
 use Prim.Native.Nat.{ℕ, zero, suc, _+_, _*_, _/_, _%_, _<_, _≤_}
@@ -18,7 +18,9 @@ use Rattle.shelf_laws.proofs.Octets.{octets-cons}
 use Rattle.shelf_laws.proofs.Ranges.{CopyRange}
 use Rattle.writer.specs.Writer.{longestBody, lastOf, bodyAt, sectionOf, written}
 use Rattle.writer.specs.declared.Label.{Label}
+use Rattle.writer.specs.Answer.{writeOut, sectionLent}
 use Rattle.writer.proofs.Laws.{last-le}
+use Rattle.writer.proofs.ExactlyWhen.{write-answered}
 use Rattle.writer_laws.specs.Offers as layer
 use Rattle.writer_laws.proofs.AnyOrder as order
 use Rattle.shelf_ask.specs.Answer as ask-answer
@@ -26,8 +28,21 @@ use Rattle.shelf_ask.specs.Answer.{copiedCode}
 use Rattle.shelf_histories.specs.History.{History, copyAfter}
 use Rattle.shelf_histories.proofs.Back.{size-in}
 use Rattle.shelf_histories.proofs.After.{reply-range, reply-after}
-use Rattle.demands.specs.Bench.{InBytes, CanBeOffered, CompleteTable, HandsOut, bodyOf, bodiesAfter, BodiesBack}
+use Rattle.demands.specs.Bench.{SectionWritten, InBytes, CanBeOffered, CompleteTable, HandsOut, bodyOf, bodiesAfter, BodiesBack}
 use Rattle.demands.proofs.Shelf.{by-complete}
+
+pub section-written : SectionWritten
+unfolding sectionLent
+section-written label body five fits k known output room =
+    ap writeOut
+    (write-answered label body k output
+    (
+      λ (l : longestBody < length body). omega arith,
+      (
+        λ (l : 31 < label .version). omega arith,
+        (λ (l : lastOf (length body) < k). omega arith, (λ (l : length output < length (written label body k)). omega arith, tt)),
+      ),
+    ))
 
 -- a header's eight bytes, then others
 octets-eight : (a b c d e f g h : ℕ) (s : List ℕ) → a < 256 → b < 256 → c < 256 → d < 256 → e < 256 → f < 256 → g < 256 → h < 256 → Octets s

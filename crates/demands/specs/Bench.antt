@@ -1,6 +1,5 @@
 -- Document 02, request 1, of the functions that a host calls: "Offered to a fresh shelf in any order, the sections make a complete table
--- whose joined bodies are the given body." The sections are those that `khumsafil_writer_section` leaves in an output
--- (`Section-Fills` of writer). The theorems are in proofs/Bench.
+-- whose joined bodies are the given body." The theorems are in proofs/Bench.
 use Prim.Native.Nat.{ℕ, zero, suc, _+_, _<_, _≤_}
 use mathlib.Core.Path.{_≡_}
 use mathlib.Core.List.{List, [], _++_}
@@ -8,12 +7,25 @@ use lib.ListN.{length, take, drop}
 use Rattle.base.specs.Octets.{Octets}
 use Rattle.answers.specs.Answers.{Out, sizeIn, filled}
 use Rattle.shelf.specs.declared.Key.{Key}
-use Rattle.writer.specs.Writer.{lastOf, written}
+use Rattle.writer.specs.Writer.{longestBody, lastOf, written}
+use Rattle.writer.specs.Answer.{sectionLent}
 use Rattle.writer.specs.declared.Label.{Label}
 use Rattle.writer_laws.specs.Offers.{labelKey, offersOf}
 use Rattle.writer_laws.specs.Laws.{InAnyOrder}
 use Rattle.shelf_histories.specs.History.{Loan, Sized, History, wholeAfter, copyAfter}
 use Rattle.demands.specs.Shelf.{complete}
+
+-- section k, as `khumsafil_writer_section` leaves it at the front of an output with room for it
+abbrev pub SectionWritten : Type 0
+SectionWritten =
+    (label : Label) (body : List ℕ)
+    → label .version ≤ 31
+    → length body ≤ longestBody
+    → (k : ℕ)
+    → k ≤ lastOf (length body)
+    → (output : List ℕ)
+    → length (written label body k) ≤ length output
+    → sectionLent label body k output ≡ filled (written label body k) output
 
 -- the histories in which the sections with these numbers are offered, one after the other
 abbrev pub Offering : Label → List ℕ → List ℕ → History → Type 0

@@ -1,6 +1,7 @@
--- What the theorems of this crate speak of is what a host links. `Learnt` is the promise of an exported function as the checker holds it, of its
--- arguments, its answer and its arguments at exit; each says the definition that the histories are made of. The theorems are in
--- proofs/Linked: each promise is its own proof.
+-- What the theorems of this crate and of clock_demands speak of is what a host links. `Learnt` is the promise of an exported function as the checker
+-- holds it, of its arguments `a`, its answer `z` and its arguments at exit `e`; each says the definition that the histories are made of. None of these
+-- functions asks anything of its host beyond its types. What it is lent to read only stays as it was, since nothing is written through such a loan.
+-- The theorems are in proofs/Linked: each promise is its own proof.
 use mathlib.Core.Path.{_≡_}
 use denote.Ref.{now}
 use Rattle.answers.specs.Answers.{lent, out}
