@@ -1,5 +1,5 @@
 -- What is demanded of the clock, of the exported functions' own promises.
---   demands   `ClockDemands`: the history, kept, never-35, accepted-33, time-told and move-told
+--   demands   `ClockDemands`: the history, kept, never-35, accepted-33, time-told, move-told and state-told
 use mathlib.Core.Path.{_≡_, sym, ap, subst, _∙_}
 use mathlib.Core.Bool.{false}
 use mathlib.Core.List.{List}
@@ -8,7 +8,10 @@ use native.Mathlib.Omega.{arith}
 use lib.Dec.{ltb}
 use lib.ListN.{length}
 use borrow.Author.Tests.{eq-eqb, le-ltb, ltb-true, ltb-false}
+use Rattle.base.specs.Choice.{if_then_else_}
 use Rattle.base.proofs.Cases.{by, unlike}
+use Rattle.clock_rule.specs.declared.App.{App}
+use Rattle.clock_rule.specs.Rule.{above, stateOf}
 use Rattle.clock_activation.specs.declared.Activation.{Activation}
 use Rattle.clock_record.specs.Lists.{All}
 use Rattle.clock_record.specs.Book.{Book, spoiled}
@@ -17,9 +20,10 @@ use Rattle.clock_record.proofs.Lists.{all-map}
 use Rattle.clock.specs.Offer.{offerIn, refused}
 use Rattle.clock.specs.declared.Moved.{Moved}
 use Rattle.clock.specs.declared.AskedTime.{AskedTime}
+use Rattle.clock.specs.declared.AskedState.{AskedState}
 use Rattle.clock.specs.Answered.{Answered}
-use Rattle.clock.specs.Ask.{timeIn}
-use Rattle.clock.specs.Codes.{refusalOf, movedCode, timeCode}
+use Rattle.clock.specs.Ask.{timeIn, stateIn}
+use Rattle.clock.specs.Codes.{refusalOf, movedCode, timeCode, stateCode}
 use Rattle.clock.proofs.Exits.{move-31, move-advances}
 use Rattle.clock_laws.specs.History.{Account, after}
 use Rattle.clock_laws.specs.Promise.{Kept, Again}
@@ -28,7 +32,7 @@ use Rattle.clock_laws.proofs.Exactly.{offer-when, move-when, time-when, state-w
 use Rattle.clock_laws.proofs.Kept.{kept, accepted-33}
 use Rattle.clock_answers.specs.Calls.{activation, heardIn, offerCall}
 use Rattle.clock_demands.specs.Host.{HostCall, layerCalls, codeIn, hostAfter}
-use Rattle.clock_demands.specs.Demands.{HostHistory, HostKept, Never35, HostAgain, Accepted33, TimeTold, MoveTold, ClockDemands}
+use Rattle.clock_demands.specs.Demands.{HostHistory, HostKept, Never35, HostAgain, Accepted33, TimeTold, MoveTold, StateTold, ClockDemands}
 use Rattle.clock_demands.proofs.Boundary.{answered-code}
 use Rattle.clock_demands.proofs.History.{host-history}
 
@@ -73,6 +77,18 @@ module _ (w : List ℕ) (h : List HostCall) (r : HostHistory w h) where
       ap (λ (x : Answered Moved). movedCode (x .answer)) (move-advances (bookIn (hostAfter w h .words)) to sound i)
       ∙ rw (t, host-kept .waits))
 
+  -- a state that is told, from the states that the record says
+  sound-state : (n : ℕ) → stateCode (stateIn (bookIn (hostAfter w h .words)) n)
+      ≡ (if above n then 30 else stateCode (AskedState.In (stateOf (bookIn (hostAfter w h .words) .apps) n)))
+  unfolding stateIn
+  sound-state n = by (above n) (λ t. rw (sound, t)) (λ t. rw (sound, t))
+
+  host-state : StateTold w h
+  host-state n =
+      answered-code (hostAfter w h .words) long (HostCall.askState n)
+      ∙ sound-state n
+      ∙ ap (λ (l : List App). if above n then 30 else stateCode (AskedState.In (stateOf l n))) (host-kept .states)
+
   code-35 : (x : HostCall) → refusalOf (codeIn (bookIn (hostAfter w h .words)) x) ≡ 35 → ⊥
   code-35 (HostCall.offer p e x t) q =
       by (ltb 3 x)
@@ -102,4 +118,4 @@ module _ (w : List ℕ) (h : List HostCall) (r : HostHistory w h) where
 pub demands : ClockDemands
 demands w z h f =
     let r = host-history w z h f in
-    record { history = r; kept = host-kept w h r; never-35 = host-35 w h r; accepted-33 = host-33 w h r; time-told = host-time w h r; move-told = host-move w h r }
+    record { history = r; kept = host-kept w h r; never-35 = host-35 w h r; accepted-33 = host-33 w h r; time-told = host-time w h r; move-told = host-move w h r; state-told = host-state w h r }

@@ -5,19 +5,22 @@ use mathlib.Core.List.{List}
 use lib.Dec.{ltb}
 use lib.ListN.{length}
 use Rattle.base.specs.Choice.{if_then_else_}
+use Rattle.clock_rule.specs.Rule.{above, stateOf}
 use Rattle.clock_activation.specs.declared.Activation.{Activation}
 use Rattle.clock_activation.specs.Limits.{memory}
 use Rattle.clock_record.specs.Lists.{All, onlyOf}
 use Rattle.clock_record.specs.Waiting.{reached}
 use Rattle.clock_record.specs.Book.{fresh}
 use Rattle.clock_record.specs.Words.{recordSize, bookIn}
+use Rattle.clock_due.specs.Order.{runOf}
 use Rattle.clock.specs.Spoiled.{One}
 use Rattle.clock.specs.declared.Moved.{Moved}
 use Rattle.clock.specs.declared.AskedTime.{AskedTime}
-use Rattle.clock.specs.Codes.{refusalOf, movedCode, timeCode}
+use Rattle.clock.specs.declared.AskedState.{AskedState}
+use Rattle.clock.specs.Codes.{refusalOf, movedCode, timeCode, stateCode}
 use Rattle.clock_laws.specs.History.{after}
 use Rattle.clock_laws.specs.Promise.{Kept}
-use Rattle.clock_answers.specs.Calls.{activation, unchanged, freshCall, offerCall, moveCall, timeCall}
+use Rattle.clock_answers.specs.Calls.{activation, unchanged, freshCall, offerCall, moveCall, timeCall, stateCall}
 use Rattle.clock_demands.specs.Host.{HostCall, Typed, answered, leftBy, answeredBy, layerCalls, codesBy, hostAfter}
 
 -- the words are the record of the layer's history of the same calls, every answer is the number for that history's answer, and
@@ -59,6 +62,15 @@ MoveTold w h =
     ≡ (if ltb to (hostAfter w h .account .now) then 31
     else movedCode (Moved.Applied (length (onlyOf (reached to) (hostAfter w h .account .waiting)))))
 
+-- an application above 7 is refused 30; of any other the state is answered that the applied ones, in their order, have made of
+-- all Released
+abbrev pub StateTold : List ℕ → List HostCall → Type 0
+StateTold w h =
+    (n : ℕ)
+    → stateCall (hostAfter w h .words) n
+    ≡ (if above n then 30
+    else stateCode (AskedState.In (stateOf (runOf (fresh .apps) (hostAfter w h .account .applied)) n)))
+
 -- all of it
 pub record Demanded (w : List ℕ) (h : List HostCall) : Type 0 where
   pub history : HostHistory w h
@@ -67,6 +79,7 @@ pub record Demanded (w : List ℕ) (h : List HostCall) : Type 0 where
   pub accepted-33 : Accepted33 w h
   pub time-told : TimeTold w h
   pub move-told : MoveTold w h
+  pub state-told : StateTold w h
 
 abbrev pub ClockDemands : Type 0
 ClockDemands = (w : List ℕ) → length w ≡ recordSize → (h : List HostCall) → All Typed h → Demanded w h
