@@ -1,5 +1,5 @@
 -- What is demanded of the clock, of the exported functions' own promises.
---   demands   `ClockDemands`: the history, kept, never-35, accepted-33, time-told, offer-told, move-told and state-told
+--   demands   `ClockDemands`: the history, kept, never-35, accepted-33, time-told, move-told, state-told and offer-told
 use mathlib.Core.Path.{_≡_, sym, ap, subst, _∙_}
 use mathlib.Core.Bool.{false}
 use mathlib.Core.List.{List}
@@ -37,7 +37,7 @@ use Rattle.clock_laws.proofs.Held.{held-any}
 use Rattle.clock_laws.proofs.Kept.{kept, accepted-33}
 use Rattle.clock_answers.specs.Calls.{activation, heardIn, offerCall}
 use Rattle.clock_demands.specs.Host.{HostCall, layerCalls, codeIn, hostAfter}
-use Rattle.clock_demands.specs.Demands.{HostHistory, HostKept, Never35, HostAgain, Accepted33, TimeTold, offerTold, OfferTold, MoveTold, StateTold, ClockDemands}
+use Rattle.clock_demands.specs.Demands.{HostHistory, HostKept, Never35, HostAgain, Accepted33, TimeTold, MoveTold, StateTold, offerTold, OfferTold, ClockDemands}
 use Rattle.clock_demands.proofs.Boundary.{answered-code}
 use Rattle.clock_demands.proofs.History.{host-history}
 
@@ -70,6 +70,30 @@ module _ (w : List ℕ) (h : List HostCall) (r : HostHistory w h) where
       ∙ ap timeCode sound-time
       ∙ ap (λ (t : ℕ). timeCode (AskedTime.At t)) (host-kept .clock)
 
+  host-move : MoveTold w h
+  host-move to =
+      answered-code (hostAfter w h .words) long (HostCall.move to)
+      ∙ by (ltb to (hostAfter w h .account .now))
+      (λ t.
+      let i : to < bookIn (hostAfter w h .words) .now = rw (host-kept .clock) (ltb-true _ _ t) in
+      ap (λ (x : Answered Moved). movedCode (x .answer)) (move-31 (bookIn (hostAfter w h .words)) to sound i) ∙ rw t)
+      (λ t.
+      let i : bookIn (hostAfter w h .words) .now ≤ to = rw (host-kept .clock) (ltb-false _ _ t) in
+      ap (λ (x : Answered Moved). movedCode (x .answer)) (move-advances (bookIn (hostAfter w h .words)) to sound i)
+      ∙ rw (t, host-kept .waits))
+
+  -- a state that is told, from the states that the record says
+  sound-state : (n : ℕ) → stateCode (stateIn (bookIn (hostAfter w h .words)) n)
+      ≡ (if above n then 30 else stateCode (AskedState.In (stateOf (bookIn (hostAfter w h .words) .apps) n)))
+  unfolding stateIn
+  sound-state n = by (above n) (λ t. rw (sound, t)) (λ t. rw (sound, t))
+
+  host-state : StateTold w h
+  host-state n =
+      answered-code (hostAfter w h .words) long (HostCall.askState n)
+      ∙ sound-state n
+      ∙ ap (λ (l : List App). if above n then 30 else stateCode (AskedState.In (stateOf l n))) (host-kept .states)
+
   module _ (a : Activation) where
     -- the tests of an offer, by the account
     same-past : past (bookIn (hostAfter w h .words) .now) (a .time) ≡ past (hostAfter w h .account .now) (a .time)
@@ -100,30 +124,6 @@ module _ (w : List ℕ) (h : List HostCall) (r : HostHistory w h) where
       answered-code (hostAfter w h .words) long (HostCall.offer application event action time)
       ∙ ap (λ (n : ℕ). if ltb 3 action then 255 else n) (sound-offer (activation application event action time))
 
-  host-move : MoveTold w h
-  host-move to =
-      answered-code (hostAfter w h .words) long (HostCall.move to)
-      ∙ by (ltb to (hostAfter w h .account .now))
-      (λ t.
-      let i : to < bookIn (hostAfter w h .words) .now = rw (host-kept .clock) (ltb-true _ _ t) in
-      ap (λ (x : Answered Moved). movedCode (x .answer)) (move-31 (bookIn (hostAfter w h .words)) to sound i) ∙ rw t)
-      (λ t.
-      let i : bookIn (hostAfter w h .words) .now ≤ to = rw (host-kept .clock) (ltb-false _ _ t) in
-      ap (λ (x : Answered Moved). movedCode (x .answer)) (move-advances (bookIn (hostAfter w h .words)) to sound i)
-      ∙ rw (t, host-kept .waits))
-
-  -- a state that is told, from the states that the record says
-  sound-state : (n : ℕ) → stateCode (stateIn (bookIn (hostAfter w h .words)) n)
-      ≡ (if above n then 30 else stateCode (AskedState.In (stateOf (bookIn (hostAfter w h .words) .apps) n)))
-  unfolding stateIn
-  sound-state n = by (above n) (λ t. rw (sound, t)) (λ t. rw (sound, t))
-
-  host-state : StateTold w h
-  host-state n =
-      answered-code (hostAfter w h .words) long (HostCall.askState n)
-      ∙ sound-state n
-      ∙ ap (λ (l : List App). if above n then 30 else stateCode (AskedState.In (stateOf l n))) (host-kept .states)
-
   code-35 : (x : HostCall) → refusalOf (codeIn (bookIn (hostAfter w h .words)) x) ≡ 35 → ⊥
   code-35 (HostCall.offer p e x t) q =
       by (ltb 3 x)
@@ -153,4 +153,4 @@ module _ (w : List ℕ) (h : List HostCall) (r : HostHistory w h) where
 pub demands : ClockDemands
 demands w z h f =
     let r = host-history w z h f in
-    record { history = r; kept = host-kept w h r; never-35 = host-35 w h r; accepted-33 = host-33 w h r; time-told = host-time w h r; offer-told = host-offer w h r; move-told = host-move w h r; state-told = host-state w h r }
+    record { history = r; kept = host-kept w h r; never-35 = host-35 w h r; accepted-33 = host-33 w h r; time-told = host-time w h r; move-told = host-move w h r; state-told = host-state w h r; offer-told = host-offer w h r }

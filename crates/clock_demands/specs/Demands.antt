@@ -56,25 +56,6 @@ Accepted33 w h = All (HostAgain (hostAfter w h .words)) (hostAfter w h .account 
 abbrev pub TimeTold : List ℕ → List HostCall → Type 0
 TimeTold w h = timeCall (hostAfter w h .words) ≡ timeCode (AskedTime.At (hostAfter w h .account .now))
 
--- what an offer is answered, by the account: 30, 32, 33 and 34 in document 01's order, where held are the accepted ones whose time
--- is not more than 60,000 before the clock; any other is applied if the clock has reached its time, and waits if not
-abbrev pub offerTold : Account → Activation → ℕ
-offerTold k a =
-    first (λ n. n)
-    (30 if above (a .application)
-    ∷ 32 if past (k .now) (a .time)
-    ∷ 33 if anyOf (alike a) (stillHeld k)
-    ∷ 34 if leb mostHeld (length (stillHeld k))
-    ∷ [])
-    (heardCode (if reached (k .now) a then Heard.Applied else Heard.Waiting))
-
--- so is every offer, but for 255 where the action is none
-abbrev pub OfferTold : List ℕ → List HostCall → Type 0
-OfferTold w h =
-    (application event action time : ℕ)
-    → offerCall (hostAfter w h .words) application event action time .answer
-    ≡ (if ltb 3 action then 255 else offerTold (hostAfter w h .account) (activation application event action time))
-
 -- a move to before that time is refused 31; any other answers how many it reaches of those that were accepted and not yet applied
 abbrev pub MoveTold : List ℕ → List HostCall → Type 0
 MoveTold w h =
@@ -92,6 +73,25 @@ StateTold w h =
     ≡ (if above n then 30
     else stateCode (AskedState.In (stateOf (runOf (fresh .apps) (hostAfter w h .account .applied)) n)))
 
+-- what an offer is answered, by the account: 30, 32, 33 and 34 in document 01's order, where held are the accepted ones whose time
+-- is not more than 60,000 before the clock; any other is applied if the clock has reached its time, and waits if not
+abbrev pub offerTold : Account → Activation → ℕ
+offerTold k a =
+    first (λ n. n)
+    (30 if above (a .application)
+    ∷ 32 if past (k .now) (a .time)
+    ∷ 33 if anyOf (alike a) (stillHeld k)
+    ∷ 34 if leb mostHeld (length (stillHeld k))
+    ∷ [])
+    (heardCode (if reached (k .now) a then Heard.Applied else Heard.Waiting))
+
+-- so is every offer; a number above 3 is no action, and is told 255 before all else
+abbrev pub OfferTold : List ℕ → List HostCall → Type 0
+OfferTold w h =
+    (application event action time : ℕ)
+    → offerCall (hostAfter w h .words) application event action time .answer
+    ≡ (if ltb 3 action then 255 else offerTold (hostAfter w h .account) (activation application event action time))
+
 -- all of it
 pub record Demanded (w : List ℕ) (h : List HostCall) : Type 0 where
   pub history : HostHistory w h
@@ -99,9 +99,9 @@ pub record Demanded (w : List ℕ) (h : List HostCall) : Type 0 where
   pub never-35 : Never35 w h
   pub accepted-33 : Accepted33 w h
   pub time-told : TimeTold w h
-  pub offer-told : OfferTold w h
   pub move-told : MoveTold w h
   pub state-told : StateTold w h
+  pub offer-told : OfferTold w h
 
 abbrev pub ClockDemands : Type 0
 ClockDemands = (w : List ℕ) → length w ≡ recordSize → (h : List HostCall) → All Typed h → Demanded w h

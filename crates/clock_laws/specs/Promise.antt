@@ -26,7 +26,7 @@ pub record Kept (t : Moment) : Type 0 where
   pub clock : t .book .now ≡ t .account .now
   -- each accepted activation is applied exactly once or still waits: no two accepted are alike, and those applied
   -- with those that wait are the accepted in some order. The account keeps these by itself; that the record goes with it is
-  -- `sound`, `waits` and `states`
+  -- `sound`, `waits`, `states` and `exact`
   pub distinct : Distinct (t .account .accepted)
   pub once : Rearranged (t .account .accepted) (t .account .applied ++ t .account .waiting)
   -- it waits only while its time is ahead of the clock
