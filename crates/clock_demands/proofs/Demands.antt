@@ -1,34 +1,43 @@
 -- What is demanded of the clock, of the exported functions' own promises.
---   demands   `ClockDemands`: the history, kept, never-35, accepted-33, time-told and move-told
+--   demands   `ClockDemands`: the history, kept, never-35, accepted-33, time-told, move-told, state-told and offer-told
 use mathlib.Core.Path.{_≡_, sym, ap, subst, _∙_}
 use mathlib.Core.Bool.{false}
 use mathlib.Core.List.{List}
 use Prim.Native.Nat.{ℕ, _+_, _<_, _≤_}
 use native.Mathlib.Omega.{arith}
-use lib.Dec.{ltb}
-use lib.ListN.{length}
+use lib.Dec.{ltb, leb}
+use lib.ListN.{length, length-map}
 use borrow.Author.Tests.{eq-eqb, le-ltb, ltb-true, ltb-false}
+use Rattle.base.specs.Choice.{if_then_else_}
 use Rattle.base.proofs.Cases.{by, unlike}
+use Rattle.clock_rule.specs.declared.App.{App}
+use Rattle.clock_rule.specs.Rule.{above, stateOf}
 use Rattle.clock_activation.specs.declared.Activation.{Activation}
-use Rattle.clock_record.specs.Lists.{All}
+use Rattle.clock_activation.specs.declared.Held.{Held}
+use Rattle.clock_activation.specs.Activation.{alike, past}
+use Rattle.clock_record.specs.Lists.{All, anyOf}
+use Rattle.clock_record.specs.Held.{isHeld}
+use Rattle.clock_record.specs.Waiting.{reached}
 use Rattle.clock_record.specs.Book.{Book, spoiled}
 use Rattle.clock_record.specs.Words.{bookIn}
 use Rattle.clock_record.proofs.Lists.{all-map}
 use Rattle.clock.specs.Offer.{offerIn, refused}
 use Rattle.clock.specs.declared.Moved.{Moved}
 use Rattle.clock.specs.declared.AskedTime.{AskedTime}
+use Rattle.clock.specs.declared.AskedState.{AskedState}
 use Rattle.clock.specs.Answered.{Answered}
-use Rattle.clock.specs.Ask.{timeIn}
-use Rattle.clock.specs.Codes.{refusalOf, movedCode, timeCode}
+use Rattle.clock.specs.Ask.{timeIn, stateIn}
+use Rattle.clock.specs.Codes.{refusalOf, heardCode, movedCode, timeCode, stateCode}
 use Rattle.clock.proofs.Exits.{move-31, move-advances}
-use Rattle.clock_laws.specs.History.{Account, after}
+use Rattle.clock_laws.specs.History.{Account, stillHeld, after}
 use Rattle.clock_laws.specs.Promise.{Kept, Again}
 use Rattle.clock_laws.proofs.Words.{spoiled-true}
 use Rattle.clock_laws.proofs.Exactly.{offer-when, move-when, time-when, state-when}
+use Rattle.clock_laws.proofs.Held.{held-any}
 use Rattle.clock_laws.proofs.Kept.{kept, accepted-33}
 use Rattle.clock_answers.specs.Calls.{activation, heardIn, offerCall}
 use Rattle.clock_demands.specs.Host.{HostCall, layerCalls, codeIn, hostAfter}
-use Rattle.clock_demands.specs.Demands.{HostHistory, HostKept, Never35, HostAgain, Accepted33, TimeTold, MoveTold, ClockDemands}
+use Rattle.clock_demands.specs.Demands.{HostHistory, HostKept, Never35, HostAgain, Accepted33, TimeTold, MoveTold, StateTold, offerTold, OfferTold, ClockDemands}
 use Rattle.clock_demands.proofs.Boundary.{answered-code}
 use Rattle.clock_demands.proofs.History.{host-history}
 
@@ -73,6 +82,48 @@ module _ (w : List ℕ) (h : List HostCall) (r : HostHistory w h) where
       ap (λ (x : Answered Moved). movedCode (x .answer)) (move-advances (bookIn (hostAfter w h .words)) to sound i)
       ∙ rw (t, host-kept .waits))
 
+  -- a state that is told, from the states that the record says
+  sound-state : (n : ℕ) → stateCode (stateIn (bookIn (hostAfter w h .words)) n)
+      ≡ (if above n then 30 else stateCode (AskedState.In (stateOf (bookIn (hostAfter w h .words) .apps) n)))
+  unfolding stateIn
+  sound-state n = by (above n) (λ t. rw (sound, t)) (λ t. rw (sound, t))
+
+  host-state : StateTold w h
+  host-state n =
+      answered-code (hostAfter w h .words) long (HostCall.askState n)
+      ∙ sound-state n
+      ∙ ap (λ (l : List App). if above n then 30 else stateCode (AskedState.In (stateOf l n))) (host-kept .states)
+
+  module _ (a : Activation) where
+    -- the tests of an offer, by the account
+    same-past : past (bookIn (hostAfter w h .words) .now) (a .time) ≡ past (hostAfter w h .account .now) (a .time)
+    same-past = ap (λ (t : ℕ). past t (a .time)) (host-kept .clock)
+
+    same-held : isHeld a (bookIn (hostAfter w h .words) .held) ≡ anyOf (alike a) (stillHeld (hostAfter w h .account))
+    same-held = held-any a (bookIn (hostAfter w h .words) .held) ∙ ap (anyOf (alike a)) (host-kept .exact)
+
+    same-many : length (bookIn (hostAfter w h .words) .held) ≡ length (stillHeld (hostAfter w h .account))
+    same-many =
+        sym (length-map (bookIn (hostAfter w h .words) .held) (λ (x : Held). x .activation)) ∙ ap length (host-kept .exact)
+
+    same-reached : leb (a .time) (bookIn (hostAfter w h .words) .now) ≡ reached (hostAfter w h .account .now) a
+    same-reached = ap (leb (a .time)) (host-kept .clock)
+
+    sound-offer : heardCode (offerIn (bookIn (hostAfter w h .words)) a .answer) ≡ offerTold (hostAfter w h .account) a
+    unfolding offerIn
+    sound-offer =
+        rw (sound, same-past, same-held, same-many, same-reached)
+        (by (above (a .application)) (λ k. rw k) λ k.
+        by (past (hostAfter w h .account .now) (a .time)) (λ p. rw (k, p)) λ p.
+        by (anyOf (alike a) (stillHeld (hostAfter w h .account))) (λ y. rw (k, p, y)) λ y.
+        by (leb 32 (length (stillHeld (hostAfter w h .account)))) (λ f. rw (k, p, y, f)) λ f.
+        by (reached (hostAfter w h .account .now) a) (λ t. rw (k, p, y, f, t)) (λ t. rw (k, p, y, f, t)))
+
+  host-offer : OfferTold w h
+  host-offer application event action time =
+      answered-code (hostAfter w h .words) long (HostCall.offer application event action time)
+      ∙ ap (λ (n : ℕ). if ltb 3 action then 255 else n) (sound-offer (activation application event action time))
+
   code-35 : (x : HostCall) → refusalOf (codeIn (bookIn (hostAfter w h .words)) x) ≡ 35 → ⊥
   code-35 (HostCall.offer p e x t) q =
       by (ltb 3 x)
@@ -102,4 +153,4 @@ module _ (w : List ℕ) (h : List HostCall) (r : HostHistory w h) where
 pub demands : ClockDemands
 demands w z h f =
     let r = host-history w z h f in
-    record { history = r; kept = host-kept w h r; never-35 = host-35 w h r; accepted-33 = host-33 w h r; time-told = host-time w h r; move-told = host-move w h r }
+    record { history = r; kept = host-kept w h r; never-35 = host-35 w h r; accepted-33 = host-33 w h r; time-told = host-time w h r; move-told = host-move w h r; state-told = host-state w h r; offer-told = host-offer w h r }

@@ -4,27 +4,29 @@
 --   two-more, two-kept                     no two alike
 --   wrong-now, wrong-later, wrong-kept     none wrong
 --   held-more, held-alike, held-kept       what is held
+--   held-any, activations-kept             so of the held activations, as a list
 use mathlib.Core.Path.{_≡_, refl, sym, ap, _∙_}
 use mathlib.Core.Bool.{Bool, true, false, not, _||_}
 use mathlib.Core.Logic.{_⊎_, ⊎-elim, inl, inr}
-use mathlib.Core.List.{List, [], _∷_, _++_}
-use Prim.Native.Nat.{ℕ, _≤_}
+use mathlib.Core.List.{List, [], _∷_, _++_, map}
+use Prim.Native.Nat.{ℕ, _+_, _<_, _≤_}
 use native.Mathlib.Omega.{arith}
 use lib.Dec.{ltb}
-use borrow.Author.Tests.{ltb-true, ltb-false, leb-true}
+use borrow.Author.Tests.{ltb-true, ltb-false, le-leb, leb-true}
 use Rattle.base.proofs.Cases.{by, unlike, or-left, or-right, and-right}
 use Rattle.clock_rule.specs.declared.App.{App}
 use Rattle.clock_rule.specs.Rule.{above, applied}
 use Rattle.clock_activation.specs.declared.Activation.{Activation}
 use Rattle.clock_activation.specs.declared.Held.{Held}
 use Rattle.clock_activation.specs.Activation.{alike, past}
+use Rattle.clock_activation.specs.Limits.{memory}
 use Rattle.clock_record.specs.Lists.{anyOf, onlyOf}
 use Rattle.clock_record.specs.Held.{isHeld, twoAlike, wrong}
 use Rattle.clock_record.specs.Waiting.{waitingOf, reached}
 use Rattle.clock_laws.proofs.Wrong.{wrong-above, wrong-waiting, wrong-ahead, wrong-past}
 use Rattle.clock_due.specs.Order.{runOf}
 use Rattle.clock_keep.specs.Keep.{moved, forgotten, keptOf}
-use Rattle.clock_laws.proofs.Alike.{alike-one, alike-comm, alike-same}
+use Rattle.clock_laws.proofs.Alike.{alike-one, alike-comm, alike-same, past-says}
 
 pub run-append : (apps : List App) (l r : List Activation) → runOf apps (l ++ r) ≡ runOf (runOf apps l) r
 unfolding runOf
@@ -143,3 +145,32 @@ held-kept to x (h ∷ l) e =
     by (forgotten to (moved to h))
     (λ f. rw f ih)
     (λ f. ⊎-elim (λ i. inl (rw (f, a) i)) (λ i. inr i) ih))
+
+-- an activation is held where one of the held activations is alike
+pub held-any : (a : Activation) (l : List Held) → isHeld a l ≡ anyOf (alike a) (map (λ (h : Held). h .activation) l)
+unfolding anyOf
+held-any a [] = refl
+held-any a (h ∷ l) = ap (λ (b : Bool). alike a (h .activation) || b) (held-any a l)
+
+module _ (to : ℕ) where
+  -- what is past its memory was reached, so a move forgets exactly that
+  forgotten-past : (h : Held) → forgotten to (moved to h) ≡ past to (h .activation .time)
+  forgotten-past h =
+      by (h .applied || reached to (h .activation))
+      (λ d. rw d)
+      (λ d.
+      by (past to (h .activation .time))
+      (λ p.
+      let g : h .activation .time + memory < to = past-says to (h .activation .time) p in
+      absurd (unlike (sym (le-leb (h .activation .time) to (omega arith)) ∙ or-right (h .applied) (reached to (h .activation)) d)))
+      (λ p. rw (d, p)))
+
+  pub activations-kept : (l : List Held)
+      → map (λ (h : Held). h .activation) (keptOf to l) ≡ onlyOf (λ a. not (past to (a .time))) (map (λ (h : Held). h .activation) l)
+  unfolding keptOf onlyOf
+  activations-kept [] = refl
+  activations-kept (h ∷ l) =
+      let ih = activations-kept l in
+      by (past to (h .activation .time))
+      (λ p. rw (forgotten-past h ∙ p, p) ih)
+      (λ p. rw (forgotten-past h ∙ p, p) (ap (_∷_ (h .activation)) ih))

@@ -8,11 +8,11 @@
 use mathlib.Core.Path.{_≡_, refl, sym, ap, _∙_}
 use mathlib.Core.Bool.{Bool, true, false, not, _||_}
 use mathlib.Core.Logic.{_⊎_, ⊎-elim, inl, inr}
-use mathlib.Core.List.{List, [], _∷_, _++_, append-assoc, append-nil}
+use mathlib.Core.List.{List, [], _∷_, _++_, map, append-assoc, append-nil}
 use Prim.Native.Nat.{ℕ, _+_, _<_, _≤_}
 use native.Mathlib.Omega.{arith}
 use lib.ListN.{length, length-append}
-use borrow.Author.Tests.{lt-leb, leb-false, not-true}
+use borrow.Author.Tests.{lt-leb, leb-false, not-true, not-false}
 use Rattle.base.proofs.Cases.{by, unlike, or-left, or-right}
 use Rattle.clock_rule.specs.declared.App.{App}
 use Rattle.clock_rule.specs.Rule.{above, applied}
@@ -26,6 +26,7 @@ use Rattle.clock_laws.proofs.Wrong.{wrong-waiting, wrong-past}
 use Rattle.clock_due.specs.Order.{sortOf, runOf}
 use Rattle.clock_due.proofs.Keys.{length-sort}
 use Rattle.clock_keep.specs.Keep.{keptOf}
+use Rattle.clock_keep.proofs.Laws.{only-append}
 use Rattle.clock.specs.declared.Heard.{Heard}
 use Rattle.clock.specs.declared.Moved.{Moved}
 use Rattle.clock_record.specs.Book.{Book, fresh, spoiled, Same}
@@ -33,8 +34,8 @@ use Rattle.clock.specs.Offer.{offerIn, applies, waits}
 use Rattle.clock.specs.Move.{moveIn, advanced}
 use Rattle.clock.proofs.Exits.{offer-33}
 use Rattle.clock_laws.specs.Distinct.{Distinct}
-use Rattle.clock_record.proofs.Lists.{all-map, all-append}
-use Rattle.clock_laws.proofs.Lists.{any-append, any-left, any-right, all-only, all-left, all-rearranged, rearranged-sym, to-front, front-append, back-append, split}
+use Rattle.clock_record.proofs.Lists.{all-map, all-append, map-append}
+use Rattle.clock_laws.proofs.Lists.{any-append, any-left, any-right, all-only, only-only, all-left, all-rearranged, rearranged-sym, to-front, front-append, back-append, split}
 use Rattle.clock_laws.proofs.Alike.{alike-refl, alike-one, one-alike, young-true, past-later}
 use Rattle.clock_laws.proofs.Order.{sort-rearranged}
 use Rattle.clock_laws.proofs.Exactly.{offer-when, move-when}
@@ -43,7 +44,7 @@ use Rattle.clock_laws.proofs.Equal.{same-offer, same-move}
 use Rattle.clock_laws.specs.History.{Call, Account, heard, passed, Moment, step, steps, after, refusalNext, nothingYet}
 use Rattle.clock_laws.specs.Promise.{Kept, Again}
 use Rattle.clock_laws.proofs.Cases.{Accepts, offer-cases, move-cases}
-use Rattle.clock_laws.proofs.Held.{run-append, waiting-append, waiting-kept, two-more, two-kept, any-kept, held-alike, held-kept}
+use Rattle.clock_laws.proofs.Held.{run-append, waiting-append, waiting-kept, two-more, two-kept, any-kept, held-alike, held-kept, activations-kept}
 
 sound-of : (now : ℕ) (hs : List Held) → anyOf (wrong now) hs ≡ false → twoAlike hs ≡ false → spoiledBy false now hs ≡ false
 unfolding spoiledBy
@@ -106,6 +107,14 @@ module _ (t : Moment) (k : Kept t) (a : Activation) (y : Accepts (t .book) a) wh
         (t .account .accepted) (k .held))
         (inl (any-right (isOne a) (t .book .held) (record { activation = a; applied = done } ∷ []) (rw (alike-refl a))), tt)
 
+    exact-now : map (λ (h : Held). h .activation) more ≡ onlyOf (λ x. not (past (t .account .now) (x .time))) (t .account .accepted ++ (a ∷ []))
+    unfolding onlyOf
+    exact-now =
+        let young : past (t .account .now) (a .time) ≡ false = rw (k .clock) at (y .young) in
+        map-append (λ (h : Held). h .activation) (t .book .held) (record { activation = a; applied = done } ∷ [])
+        ∙ ap (λ (l : List Activation). l ++ (a ∷ [])) (k .exact)
+        ∙ sym (only-append (λ x. not (past (t .account .now) (x .time))) (t .account .accepted) (a ∷ []) ∙ rw young)
+
     sound-now : wrong (t .book .now) (record { activation = a; applied = done }) ≡ false → spoiledBy false (t .book .now) more ≡ false
     unfolding anyOf
     sound-now w =
@@ -131,6 +140,7 @@ module _ (t : Moment) (k : Kept t) (a : Activation) (y : Accepts (t .book) a) wh
             ap (λ (l : List App). applied l (a .application) (a .action)) (k .states) ∙ sym (run-append (fresh .apps) (t .account .applied) (a ∷ []));
         known = known-now;
         held = held-now true;
+        exact = exact-now true;
       }
 
   waiting-now : t .book .now < a .time → Kept (record { book = waits (t .book) a .book; account = heard (t .account) a Heard.Waiting })
@@ -153,6 +163,7 @@ module _ (t : Moment) (k : Kept t) (a : Activation) (y : Accepts (t .book) a) wh
         states = k .states;
         known = known-now;
         held = held-now false;
+        exact = exact-now false;
       }
 
 -- the clock is moved on
@@ -192,6 +203,12 @@ moved-on t k to h =
           (λ a. (isHeld a (keptOf to (t .book .held)) ≡ true) ⊎ (past to (a .time) ≡ true))
           (λ a w. ⊎-elim (λ i. held-kept to a (t .book .held) i) (λ p. inr (past-later (t .book .now) to (a .time) h p)) w)
           (t .account .accepted) (k .held);
+      exact =
+          activations-kept to (t .book .held)
+          ∙ ap (onlyOf (λ a. not (past to (a .time)))) (k .exact)
+          ∙ only-only (λ (a : Activation). not (past to (a .time))) (λ a. not (past (t .account .now) (a .time)))
+          (λ (a : Activation) e. rw (past-later (t .account .now) to (a .time) (rw (k .clock) at h) (not-false (past (t .account .now) (a .time)) e)))
+          (t .account .accepted);
     }
 
 pub step-kept : (t : Moment) (x : Call) → Kept t → Kept (step t x)
@@ -210,7 +227,7 @@ steps-kept t [] k = k
 steps-kept t (x ∷ h) k = steps-kept (step t x) h (step-kept t x k)
 
 begun : Kept (record { book = fresh; account = nothingYet })
-unfolding spoiledBy anyOf twoAlike waitingOf runOf
+unfolding spoiledBy anyOf twoAlike waitingOf runOf onlyOf
 begun =
     record {
       sound = refl;
@@ -222,6 +239,7 @@ begun =
       states = refl;
       known = tt;
       held = tt;
+      exact = refl;
     }
 
 -- over any history from fresh

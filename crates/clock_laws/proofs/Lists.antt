@@ -1,6 +1,7 @@
 -- Laws on lists.
 --   any-append, any-which, any-at          one that passes
 --   all-left, all-only, all-rearranged     what each of a list has
+--   only-only                              those that pass two tests, where the one follows from the other
 --   rearranged-refl, rearranged-sym, rearranged-back, to-front, rearranged-append, split
 --   any-rearranged, only-rearranged, map-rearranged, length-rearranged, all-rearranged
 use mathlib.Core.Path.{_≡_, refl, sym, ap, _∙_}
@@ -46,6 +47,16 @@ module _ {A : Type 0} (p : A → Bool) where
   unfolding onlyOf
   all-only [] = tt
   all-only (x ∷ l) = by (p x) (λ t. rw t (t, all-only l)) (λ t. rw t (all-only l))
+
+  -- what passes is among those that pass a weaker test
+  pub only-only : (q : A → Bool) → ((x : A) → q x ≡ false → p x ≡ false) → (l : List A) → onlyOf p (onlyOf q l) ≡ onlyOf p l
+  unfolding onlyOf
+  only-only q f [] = refl
+  only-only q f (x ∷ l) =
+      let ih = only-only q f l in
+      by (q x)
+      (λ t. by (p x) (λ u. rw (t, u) (ap (_∷_ x) ih)) (λ u. rw (t, u) ih))
+      (λ t. rw (t, f x t) ih)
 
   pub any-rearranged : {l r : List A} → Rearranged l r → anyOf p l ≡ anyOf p r
   unfolding anyOf

@@ -3,6 +3,7 @@ use Prim.Native.Nat.{ℕ}
 use mathlib.Core.Bool.{not}
 use mathlib.Core.List.{List, [], _∷_, _++_}
 use Rattle.clock_activation.specs.declared.Activation.{Activation}
+use Rattle.clock_activation.specs.Activation.{past}
 use Rattle.clock_record.specs.Lists.{onlyOf}
 use Rattle.clock_record.specs.Waiting.{reached}
 use Rattle.clock_due.specs.Order.{sortOf}
@@ -27,6 +28,10 @@ pub record Account : Type 0 where
 
 abbrev pub nothingYet : Account
 nothingYet = record { now = 0; accepted = []; applied = []; waiting = [] }
+
+-- what is held, by the account: those accepted whose time is not more than 60,000 before the clock, in the order of the offers
+abbrev pub stillHeld : Account → List Activation
+stillHeld k = onlyOf (λ a. not (past (k .now) (a .time))) (k .accepted)
 
 -- an offer answered `Applied` was applied, one answered `Waiting` waits, and a refused one is neither
 abbrev pub heard : Account → Activation → Heard → Account

@@ -3,9 +3,10 @@ use Prim.Native.Nat.{_+_, _<_, _≤_}
 use mathlib.Core.Path.{_≡_}
 use mathlib.Core.Bool.{true, false}
 use mathlib.Core.Logic.{_⊎_}
-use mathlib.Core.List.{_++_}
+use mathlib.Core.List.{_++_, map}
 use Rattle.clock_rule.specs.Rule.{above}
 use Rattle.clock_activation.specs.declared.Activation.{Activation}
+use Rattle.clock_activation.specs.declared.Held.{Held}
 use Rattle.clock_activation.specs.Activation.{past}
 use Rattle.clock_activation.specs.Limits.{memory}
 use Rattle.clock_record.specs.Lists.{All, Rearranged}
@@ -16,7 +17,7 @@ use Rattle.clock_record.specs.Book.{Book, fresh, spoiled}
 use Rattle.clock.specs.Spoiled.{One}
 use Rattle.clock.specs.Offer.{offerIn, refused}
 use Rattle.clock_laws.specs.Distinct.{Distinct}
-use Rattle.clock_laws.specs.History.{Moment}
+use Rattle.clock_laws.specs.History.{Moment, stillHeld}
 
 pub record Kept (t : Moment) : Type 0 where
   -- the record is not spoiled
@@ -25,7 +26,7 @@ pub record Kept (t : Moment) : Type 0 where
   pub clock : t .book .now ≡ t .account .now
   -- each accepted activation is applied exactly once or still waits: no two accepted are alike, and those applied
   -- with those that wait are the accepted in some order. The account keeps these by itself; that the record goes with it is
-  -- `sound`, `waits` and `states`
+  -- `sound`, `waits`, `states` and `exact`
   pub distinct : Distinct (t .account .accepted)
   pub once : Rearranged (t .account .accepted) (t .account .applied ++ t .account .waiting)
   -- it waits only while its time is ahead of the clock
@@ -37,6 +38,8 @@ pub record Kept (t : Moment) : Type 0 where
   -- an accepted activation is for one of the applications, and is held while its memory lasts
   pub known : All (λ a. above (a .application) ≡ false) (t .account .accepted)
   pub held : All (λ a. (isHeld a (t .book .held) ≡ true) ⊎ (past (t .book .now) (a .time) ≡ true)) (t .account .accepted)
+  -- and what is held is that and no more: the accepted ones whose memory lasts, in the order of the offers
+  pub exact : map (λ (h : Held). h .activation) (t .book .held) ≡ stillHeld (t .account)
 
 -- offered again within its memory, with whatever action: 33, and nothing changes
 abbrev pub Again : Book → Activation → Type 0
