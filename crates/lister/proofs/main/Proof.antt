@@ -27,23 +27,23 @@ enum-known-input c = search needs
 array-share-prefix-buffer : tie.Need-array-share-prefix-buffer
 array-share-prefix-buffer c = read-within _ _ _ (c .before .before .before .before .read-input .ensures) (c .before .input .given .1)
 
-slice-aggregate-list-file : tie.Need-slice-aggregate-list-file
-slice-aggregate-list-file c = sym (length-take-le _ _ (read-within _ _ _ (c .before .before .before .before .before .read-input .ensures) (c .before .before .input .given .1)))
+slice-aggregate-list-whole : tie.Need-slice-aggregate-list-whole
+slice-aggregate-list-whole c = sym (length-take-le _ _ (read-within _ _ _ (c .before .before .before .before .before .read-input .ensures) (c .before .before .input .given .1)))
 
-slice-aggregate-list-file-2 : tie.Need-slice-aggregate-list-file-2
-slice-aggregate-list-file-2 c = search needs
+slice-aggregate-list-whole-2 : tie.Need-slice-aggregate-list-whole-2
+slice-aggregate-list-whole-2 c = search needs
 
-list-file-requires : tie.Need-list-file-requires
-list-file-requires c κs = search needs
+list-whole-requires : tie.Need-list-whole-requires
+list-whole-requires c κs = search needs
 
 enum-known-listed : tie.Need-enum-known-listed
 enum-known-listed c = search needs
 
 array-share-prefix-text : tie.Need-array-share-prefix-text
-array-share-prefix-text c = shown-within _ _ _ _ _ (c .before .before .before .before .list-file .ensures) (c .before .listed .given .1)
+array-share-prefix-text c = shown-within _ _ _ _ _ (c .before .before .before .before .list-whole .ensures) (c .before .listed .given .1)
 
 slice-aggregate-write-all-2 : tie.Need-slice-aggregate-write-all-2
-slice-aggregate-write-all-2 c = sym (length-take-le _ _ (shown-within _ _ _ _ _ (c .before .before .before .before .before .list-file .ensures) (c .before .before .listed .given .1)))
+slice-aggregate-write-all-2 c = sym (length-take-le _ _ (shown-within _ _ _ _ _ (c .before .before .before .before .before .list-whole .ensures) (c .before .before .listed .given .1)))
 
 write-all-requires-2 : tie.Need-write-all-requires-2
 write-all-requires-2 c κs = search needs
@@ -71,9 +71,9 @@ main-spec =
     write-all-requires
     enum-known-input
     array-share-prefix-buffer
-    slice-aggregate-list-file
-    slice-aggregate-list-file-2
-    list-file-requires
+    slice-aggregate-list-whole
+    slice-aggregate-list-whole-2
+    list-whole-requires
     enum-known-listed
     array-share-prefix-text
     slice-aggregate-write-all-2
