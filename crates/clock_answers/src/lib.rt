@@ -16,9 +16,6 @@ ghost use lib.ListN.{length};
 ghost use Rattle.clock_record.specs.Words.{recordSize};
 ghost use Rattle.clock_answers.specs.Calls.{freshCall, offerCall, moveCall, timeCall, stateCall};
 
-// What a call answers that was done and has nothing else to tell.
-const DONE: u8 = 0;
-
 // A number that is no action: the boundary's own, since the layer's actions have no numbers.
 const NO_SUCH_ACTION: u16 = 255;
 
@@ -31,8 +28,6 @@ const WAITING: u16 = 512;
 
 // What a field is multiplied by to begin at that bit of the answer.
 const BIT_8: u16 = 256;
-
-const BIT_32: u64 = 4294967296;
 
 // The record that the words are.
 fn record_in(words: &[u32]) -> Clock
@@ -70,7 +65,7 @@ pub fn clock_fresh(words: &mut [u32]) -> u8
         return SPOILED;
     }
     put(Clock::fresh(), words);
-    DONE
+    answers::DONE
 }
 
 // Offers an activation to the clock.
@@ -139,7 +134,7 @@ pub fn clock_time(words: &[u32]) -> u64
     let clock = record_in(words);
     let asked = clock.time_now();
     match asked {
-        AskedTime::At(t) => t as u64 * BIT_32,
+        AskedTime::At(t) => t as u64 * answers::BIT_32,
         AskedTime::Refused(n) => n as u64,
     }
 }

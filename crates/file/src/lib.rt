@@ -52,8 +52,14 @@ pub const SHORTEST: u16 = section::HEADER as u16;
 
 pub const LONGEST: u16 = section::LARGEST as u16;
 
-// The largest file: a byte each for the form and the count, and for each section two for its length.
-pub const LARGEST: usize = 2 + section::SECTIONS * (2 + section::LARGEST);
+// The form and the count take a byte each.
+pub const FRONT: usize = 2;
+
+// What the largest section takes in a file: its length has two bytes.
+pub const ENTRY: usize = 2 + section::LARGEST;
+
+// The largest file.
+pub const LARGEST: usize = FRONT + section::SECTIONS * ENTRY;
 
 // The section at a place of the file, or its first fault.
 fn section_at(file: &[u8], at: usize) -> Part

@@ -33,9 +33,6 @@ const TWO_GROUPS: u16 = 128;
 
 const THREE_GROUPS: u16 = 16384;
 
-// The form and the count take a group each.
-const FRONT: usize = 2;
-
 // How many bytes a number takes.
 fn number_size(n: u16) -> usize
     ensures { λ r. ⌜ (r ≡ length (spelt n)) × (r ≤ 3) ⌝ }
@@ -138,7 +135,7 @@ fn save_place(store: &[u8], p: usize, lengths: [u16; 16], out: &mut [u8]) -> Sav
 {
     let sizes = sizes_of(lengths);
     let count = sizes.count;
-    let size = FRONT + sizes.bytes;
+    let size = file::FRONT + sizes.bytes;
     if out.len() < size {
         return Saved::Refused(answers::OUTPUT_TOO_SMALL);
     }

@@ -19,12 +19,6 @@ pub enum Fed {
     Refused(u8),
 }
 
-// What a full section takes in the file, with its length.
-const ENTRY: usize = file::LONGEST as usize + 2;
-
-// The form and the count take a byte each.
-const FRONT: usize = 2;
-
 // The bytes of section k of a body of so many bytes.
 fn size_at(length: usize, k: usize) -> u16
     requires { ⌜ (length ≤ longestBody) × (k ≤ lastOf length) ⌝ }
@@ -80,7 +74,7 @@ fn file_size(length: usize, last: usize) -> usize
 {
     let size = size_at(length, last);
     let entry = entry_size(size);
-    FRONT + ENTRY * last + entry
+    file::FRONT + file::ENTRY * last + entry
 }
 
 // The file at the front of an output that has room for it.
@@ -92,7 +86,7 @@ fn write_file(label: Label, body: &[u8], count: u8, out: &mut [u8])
     let form = file::FORM as u8;
     out[0] = form;
     out[1] = count;
-    let mut at = FRONT;
+    let mut at = file::FRONT;
     let mut k: u8 = 0;
     while k < count {
         let more = write_one(label, body, k, &mut out[at..]);
