@@ -35,8 +35,7 @@ pub section-written : SectionWritten
 unfolding sectionLent
 section-written label body five fits k known output room =
     ap writeOut
-    (write-answered label body k output
-    (
+    (write-answered label body k output (
       λ (l : longestBody < length body). omega arith,
       (
         λ (l : 31 < label .version). omega arith,

@@ -30,7 +30,7 @@ module _ (s : List ℕ) (t : Trigger) (id : List ℕ) where
   unfolding belongsOf isId
   belongs-exactly = or-so _ _ (tables.same (t .idlength) 0) (and-so _ _ (most (t .id .place + t .id .length) (length s)) (bytes-so (nameShown s t) id))
 
-  pub read-belongs : Octets s → Read-Belongs s t id
+  pub read-belongs : Read-Belongs s t id
   read-belongs o e =
       let p = all-placed s o t e in
       let u : t .user .place + t .user .length ≡ length s = p .user in

@@ -60,5 +60,5 @@ pub id-shown : Id-Shown
 unfolding bytesOf
 id-shown d id aim user = take-append-seam id (aimType aim ∷ (counted (aimBytes aim) ++ counted user))
 
-pub all-placed : (s : List ℕ) → Octets s → All-Placed s
+pub all-placed : (s : List ℕ) → All-Placed s
 all-placed s o t e = let w = read-bytes s o t e in rw (w .2) (subst (λ l. Placed l (answerOf (messageOf s))) (sym (w .1)) (message-placed (messageOf s)))

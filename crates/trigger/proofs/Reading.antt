@@ -138,16 +138,22 @@ module _ (m : Message) (f : Fit m) where
       laid-clean (nameBytes (m .application)) (aimType (m .aim)) (aimBytes (m .aim)) (m .user)
       (f .small) (name-even (m .application)) (aim-allowed (m .aim) (f .aim)) (aim-ascii (m .aim) (f .aim))
 
-  pub bytes-say : Bytes-Say m
+  says : messageOf (bytesOf m) ≡ m
   unfolding bytesOf
-  bytes-say =
+  says =
       laid-says (nameBytes (m .application)) (aimType (m .aim)) (aimBytes (m .aim)) (m .user)
       ∙ rw (name-fro (m .application), aim-fro (m .aim) (f .aim))
 
-  pub bytes-read : Bytes-Read m
-  bytes-read =
+  reads : readOf (bytesOf m) ≡ Answer.Trigger (answerOf m)
+  reads =
       clean-reads (bytesOf m) bytes-clean
-      ∙ ap Answer.Trigger (clean-answer (bytesOf m) bytes-clean ∙ ap answerOf bytes-say)
+      ∙ ap Answer.Trigger (clean-answer (bytesOf m) bytes-clean ∙ ap answerOf says)
+
+pub bytes-say : (m : Message) → Bytes-Say m
+bytes-say = says
+
+pub bytes-read : (m : Message) → Bytes-Read m
+bytes-read = reads
 
 pub one-message : One-Message
 one-message m n f g e = sym (bytes-say m f) ∙ ap messageOf e ∙ bytes-say n g
@@ -177,13 +183,13 @@ module _ (s : List ℕ) (o : Octets s) where
         small = rw (clean-bytes c) (c .head .small);
       }
 
-  pub read-bytes : Read-Bytes s
-  read-bytes t e =
-      let w = reads-clean s t e in
-      (clean-fits (w .0), sym (clean-bytes (w .0)), w .1 ∙ clean-answer s (w .0))
+pub read-bytes : (s : List ℕ) → Read-Bytes s
+read-bytes s o t e =
+    let w = reads-clean s t e in
+    (clean-fits s o (w .0), sym (clean-bytes s o (w .0)), w .1 ∙ clean-answer s (w .0))
 
-  pub exactly : Exactly s
-  exactly t = (
-    λ e. let w = read-bytes t e in (messageOf s, w .0, w .1, w .2),
-    λ w. ap readOf (w .2) ∙ bytes-read (w .0) (w .1) ∙ ap Answer.Trigger (sym (w .3)),
-  )
+pub exactly : (s : List ℕ) → Exactly s
+exactly s o t = (
+  λ e. let w = read-bytes s o t e in (messageOf s, w .0, w .1, w .2),
+  λ w. ap readOf (w .2) ∙ bytes-read (w .0) (w .1) ∙ ap Answer.Trigger (sym (w .3)),
+)

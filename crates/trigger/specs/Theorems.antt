@@ -117,18 +117,18 @@ module _ (s : List ℕ) where
   abbrev pub Refused-Range : Type 0
   Refused-Range = (n : ℕ) → readOf s ≡ Answer.Refused n → (20 ≤ n) × (n ≤ 26)
 
-  -- what is read as a trigger is the bytes of one that fits, and the answer is that one's
+  -- of bytes, what is read as a trigger is the bytes of one that fits, and the answer is that one's
   abbrev pub Read-Bytes : Type 0
   Read-Bytes =
-      (t : Trigger) → readOf s ≡ Answer.Trigger t → Fit (messageOf s) × (s ≡ bytesOf (messageOf s)) × (t ≡ answerOf (messageOf s))
+      Octets s → (t : Trigger) → readOf s ≡ Answer.Trigger t → Fit (messageOf s) × (s ≡ bytesOf (messageOf s)) × (t ≡ answerOf (messageOf s))
 
-  -- a payload is read as a trigger exactly when it is the bytes of a message that fits, and the answer is that message's
+  -- a payload of bytes is read as a trigger exactly when it is the bytes of a message that fits, and the answer is that message's
   abbrev pub Exactly : Type 0
-  Exactly = (t : Trigger) → (readOf s ≡ Answer.Trigger t) ↔ ((m : Message) × Fit m × (s ≡ bytesOf m) × (t ≡ answerOf m))
+  Exactly = Octets s → (t : Trigger) → (readOf s ≡ Answer.Trigger t) ↔ ((m : Message) × Fit m × (s ≡ bytesOf m) × (t ≡ answerOf m))
 
-  -- the places of every trigger that is read are true
+  -- the places of every trigger that is read of bytes are true
   abbrev pub All-Placed : Type 0
-  All-Placed = (t : Trigger) → readOf s ≡ Answer.Trigger t → Placed s t
+  All-Placed = Octets s → (t : Trigger) → readOf s ≡ Answer.Trigger t → Placed s t
 
   -- two answers that keep the promise of `trigger::read_trigger` are equal
   abbrev pub One-Reading : Type 0
@@ -145,9 +145,9 @@ module _ (s : List ℕ) where
     Belongs-Exactly =
         (belongsOf s t id ≡ true) ↔ ((t .idlength ≡ 0) ⊎ ((t .id .place + t .id .length ≤ length s) × (nameShown t ≡ id)))
 
-    -- of a trigger that was read from the payload
+    -- of a trigger that was read from the payload, which is of bytes
     abbrev pub Read-Belongs : Type 0
-    Read-Belongs = readOf s ≡ Answer.Trigger t → (belongsOf s t id ≡ true) ↔ ((t .idlength ≡ 0) ⊎ (nameShown t ≡ id))
+    Read-Belongs = Octets s → readOf s ≡ Answer.Trigger t → (belongsOf s t id ≡ true) ↔ ((t .idlength ≡ 0) ⊎ (nameShown t ≡ id))
 
     -- two answers that keep the promise of `trigger::belongs` are equal
     abbrev pub One-Belonging : Type 0
@@ -156,10 +156,10 @@ module _ (s : List ℕ) where
 module _ (m : Message) where
   -- the bytes of a trigger that fits say it, and are read as it
   abbrev pub Bytes-Say : Type 0
-  Bytes-Say = messageOf (bytesOf m) ≡ m
+  Bytes-Say = Fit m → messageOf (bytesOf m) ≡ m
 
   abbrev pub Bytes-Read : Type 0
-  Bytes-Read = readOf (bytesOf m) ≡ Answer.Trigger (answerOf m)
+  Bytes-Read = Fit m → readOf (bytesOf m) ≡ Answer.Trigger (answerOf m)
 
   -- the places before the target's bytes and the user data, and what stands there
   abbrev pub aimed : ℕ
