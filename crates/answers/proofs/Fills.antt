@@ -4,11 +4,10 @@
 --   refused-fills             a refusal keeps the laws
 --   fills                     a call that is answered by a table of refusals keeps the laws
 --   zero-exactly              the low 8 bits are 0 exactly when no row of the table holds
-use mathlib.Core.Path.{_≡_, refl, sym, ap, _∙_}
-use mathlib.Core.Bool.{Bool, true, false}
+use mathlib.Core.Path.{_≡_, refl, ap}
 use mathlib.Core.List.{List, [], _∷_}
 use mathlib.Core.Logic.{_↔_}
-use Prim.Native.Nat.{ℕ, _*_, _/_, _%_, _^_, _<_}
+use Prim.Native.Nat.{ℕ, _%_, _^_, _<_}
 use native.Mathlib.Omega.{arith}
 use lib.ListN.{length}
 use borrow.Author.Tests.{eq-eqb, ne-eqb}
@@ -16,7 +15,7 @@ use Rattle.base.specs.Choice.{Row, first}
 use Rattle.base.specs.Tables.{Rule, None, Agree, Each}
 use Rattle.base.proofs.Cases.{by}
 use Rattle.base.proofs.Tables.{among, denied}
-use Rattle.answers.specs.Answers.{Out, out, refusalIn, sizeCode, sizeIn, sizeOr, filled, Fills}
+use Rattle.answers.specs.Answers.{out, sizeCode, sizeOr, filled, Fills}
 
 module _ {A : Type 0} (bytes refused : ℕ → A) (n : ℕ) where
   pub size-back : n < 2 ^ 16 → sizeOr bytes refused (sizeCode n) ≡ bytes n

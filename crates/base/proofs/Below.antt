@@ -1,18 +1,17 @@
 -- Laws on `some`, `every` and `lowest`, each for the place of a loop where it is wanted.
 --   some-none, some-more, some-found, some-end, some-next, some-all     every-none, every-next, every-all, every-fails
 --   lowest-none, lowest-more, lowest-found, lowest-end, lowest-le, lowest-all, lowest-holds
-use mathlib.Core.Path.{_≡_, refl, sym, ap, _∙_}
-use mathlib.Core.Bool.{Bool, true, false, not, _&&_, _||_}
-use mathlib.Core.Logic.{_⊎_, ⊎-elim, inl, inr}
+use mathlib.Core.Path.{_≡_, refl, sym, _∙_}
+use mathlib.Core.Bool.{Bool, true, false, _&&_, _||_}
+use mathlib.Core.Logic.{⊎-elim}
 use Prim.Native.Nat.{ℕ, zero, suc, _+_, _<_, _≤_}
 use native.Mathlib.Numerals.{add-one}
 use native.Mathlib.Nat.{eq-or-lt-of-le, le-of-suc-le-suc, not-suc-le-zero}
 use native.Mathlib.Omega.{arith}
 use lib.Dec.{ltb}
 use borrow.Author.Tests.{lt-ltb, le-ltb, ltb-true, ltb-false}
-use Rattle.base.specs.Choice.{if_then_else_}
 use Rattle.base.specs.Below.{some, every, lowest}
-use Rattle.base.proofs.Cases.{by, unlike, and-left, and-right, or-left, or-right}
+use Rattle.base.proofs.Cases.{by, unlike, and-left, and-right}
 
 module _ (f : ℕ → Bool) where
   pub some-none : some 0 f ≡ false

@@ -3,14 +3,13 @@
 --   none-above    shifted down by last it is at most 1: no bit above last
 --   one-set       a number below 2 ^ k that is not 0 has a bit below k
 --   bit-set, bit-kept   the bits of `m | 1 << n`
-use mathlib.Core.Path.{_≡_, refl, sym, ap, _∙_}
-use mathlib.Core.Bool.{true, false}
-use mathlib.Core.Logic.{_↔_}
+use mathlib.Core.Path.{_≡_, ap, _∙_}
+use mathlib.Core.Bool.{true}
 use Prim.Native.Nat.{ℕ, zero, suc, _+_, _-_, _*_, _/_, _%_, _^_, _<_, _≤_, max}
 use native.Mathlib.Nat.{le-div-iff-mul-le, div-lt-iff-lt-mul, two-pow-succ, mul-div-cancel, max-zero}
 use native.Mathlib.Numerals.{add-one}
 use native.Mathlib.Omega.{arith}
-use lib.Dec.{eqb, ltb}
+use lib.Dec.{ltb}
 use lib.Pow.{pow-pos, pow-mono, pow-lt, pow-add}
 use lib.Bits.{bitOr, or-step, or-shr}
 use borrow.Author.Tests.{eqb-true, eq-eqb, ltb-true, ltb-false}

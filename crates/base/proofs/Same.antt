@@ -2,17 +2,16 @@
 --   same-refl, same-equal     it holds of equal lists, and of no others
 --   same-unequal              where it fails the lists differ
 use mathlib.Core.Path.{_≡_, refl, sym, ap, _∙_}
-use mathlib.Core.Bool.{Bool, true, false, _&&_}
+use mathlib.Core.Bool.{true, false}
 use mathlib.Core.List.{List}
-use Prim.Native.Nat.{ℕ, _<_}
-use native.Mathlib.Omega.{arith}
+use Prim.Native.Nat.{ℕ}
 use lib.Dec.{eqb}
-use lib.ListN.{length, getD}
+use lib.ListN.{length}
 use lib.Seq.{ext-getD}
 use borrow.Author.Tests.{eqb-true, eq-eqb}
 use Rattle.base.specs.Below.{every}
 use Rattle.base.specs.Bytes.{byte, same}
-use Rattle.base.proofs.Cases.{by, unlike, and-left, and-right}
+use Rattle.base.proofs.Cases.{unlike, and-left, and-right}
 use Rattle.base.proofs.Below.{every-all, every-each}
 
 pub same-refl : (a : List ℕ) → same a a ≡ true

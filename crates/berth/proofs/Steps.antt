@@ -19,7 +19,7 @@ use Rattle.berth.specs.Berth.{berthSize, storeSize, places, sections, be
 use Rattle.berth.specs.Calls.{isPlace, isBerth, goesIn, putIn, wipedIn, wipedWhereIn, standsIn, copiedIn}
 use Rattle.berth.proofs.Berths.{standing-length, where-same}
 use Rattle.berth.proofs.Laid.{zeros-length, zeros-add, laid-length, laid-none, laid-beside}
-use lib.ListN.{length, take, drop, replicate, drop-of-length-le}
+use lib.ListN.{length, drop, replicate, drop-of-length-le}
 use borrow.Author.Tests.{eq-eqb, ne-eqb, eqb-true, eqb-false, ltb-true, lt-ltb, le-leb, lt-leb}
 use Rattle.base.specs.Bytes.{byte, part, same, zeros}
 use Rattle.base.specs.Below.{every}

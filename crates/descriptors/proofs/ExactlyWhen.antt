@@ -8,20 +8,20 @@
 --   one-step, one-view   two answers that keep the promise of `descriptors::step_at`, or of `view`, are equal
 use mathlib.Core.Path.{_≡_, refl, sym, ap, subst, _∙_}
 use mathlib.Core.List.{List, []}
-use mathlib.Core.Logic.{_↔_, _⊎_, ⊎-elim, inl, inr}
+use mathlib.Core.Logic.{_⊎_, ⊎-elim, inl, inr}
 use Prim.Native.Nat.{ℕ, _+_, _<_, _≤_}
 use native.Mathlib.Omega.{arith}
-use lib.Dec.{ltb, eqb}
+use lib.Dec.{ltb}
 use lib.ListN.{length}
 use borrow.Author.Tests.{ltb-true, ltb-false}
-use Rattle.base.specs.Bytes.{byte, part}
+use Rattle.base.specs.Bytes.{byte}
 use Rattle.base.proofs.Cases.{by}
 use Rattle.base.proofs.Bytes.{length-part}
 use Rattle.descriptors.specs.declared.Descriptor.{Descriptor}
 use Rattle.descriptors.specs.declared.Step.{Step}
 use Rattle.descriptors.specs.Loop.{stepOf, viewOf, contentOf}
 use Rattle.descriptors.specs.Answer.{stepCode}
-use Rattle.descriptors.specs.Theorems.{Stands, Beyond, RunsPast, Refused-19, Refused-Range, Over, Reads, View-Whole, View-None, One-Step, One-View}
+use Rattle.descriptors.specs.Theorems.{Beyond, RunsPast, Refused-19, Refused-Range, Over, Reads, View-Whole, View-None, One-Step, One-View}
 use Rattle.descriptors.proofs.Steps.{Tells, step-tells, step-over, step-past, step-reads, reads-there}
 
 module _ (s : List ℕ) (at : ℕ) where

@@ -1,10 +1,9 @@
 -- The trigger Tap's mark, in plain words of the loop `s`.
 --   tap-exactly   a descriptor is read with tag 0x72 and length 24, and its view is the mark
 --   one-tap       two answers that keep the promise of `descriptors::is_trigger_tap` are equal
-use mathlib.Core.Path.{_≡_, refl, sym, ap, subst, _∙_}
-use mathlib.Core.Bool.{Bool, true, false, _&&_}
+use mathlib.Core.Path.{_≡_, refl, sym, ap, _∙_}
+use mathlib.Core.Bool.{Bool, true, _&&_}
 use mathlib.Core.List.{List}
-use mathlib.Core.Logic.{_↔_}
 use Prim.Native.Nat.{ℕ, _+_, _<_, _≤_}
 use native.Mathlib.Omega.{arith}
 use lib.Dec.{eqb}
@@ -17,7 +16,7 @@ use Rattle.base.proofs.Bytes.{byte-part, length-part}
 use Rattle.base.proofs.Cases.{unlike, and-left, and-right}
 use Rattle.descriptors.specs.declared.Descriptor.{Descriptor}
 use Rattle.descriptors.specs.declared.Step.{Step}
-use Rattle.descriptors.specs.Loop.{stepOf, viewOf}
+use Rattle.descriptors.specs.Loop.{stepOf}
 use Rattle.descriptors.specs.Mark.{mark, sameLetter, markAt, marks, isTriggerTap}
 use Rattle.descriptors.specs.Theorems.{Marked, Tap-Exactly, One-Tap}
 use Rattle.descriptors.proofs.ExactlyWhen.{view-whole}

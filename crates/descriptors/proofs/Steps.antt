@@ -1,8 +1,8 @@
 -- Laws on a step: when it is over, when it is refused, when it reads.
 --   step-over, step-past, step-reads   what the step is, by where the place and the descriptor's end lie
 --   read-where                         what is known of a descriptor that was read
-use mathlib.Core.Path.{_≡_, refl, sym, ap, subst, _∙_}
-use mathlib.Core.Bool.{Bool, true, false, _||_}
+use mathlib.Core.Path.{_≡_, refl, sym, subst, _∙_}
+use mathlib.Core.Bool.{false, _||_}
 use mathlib.Core.List.{List}
 use Prim.Native.Nat.{ℕ, _+_, _-_, _<_, _≤_}
 use native.Mathlib.Omega.{arith}
@@ -10,7 +10,7 @@ use native.Mathlib.Nat.{add-sub-cancel-left}
 use lib.ListN.{length, take, drop}
 use lib.Dec.{ltb, eqb}
 use borrow.Author.Tests.{lt-ltb, le-ltb, eq-eqb, ne-eqb, ltb-true, ltb-false, eqb-true, eqb-false}
-use Rattle.base.specs.Bytes.{byte, part}
+use Rattle.base.specs.Bytes.{byte}
 use Rattle.base.proofs.Cases.{by, either, or-right, unlike}
 use Rattle.descriptors.specs.declared.Descriptor.{Descriptor}
 use Rattle.descriptors.specs.declared.Step.{Step}

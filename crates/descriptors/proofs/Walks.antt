@@ -5,7 +5,7 @@
 --   few            a walk has no more answers than steps
 --   settled        a walk of a loop is over or refused by then: more steps answer no more
 use mathlib.Core.Path.{_≡_, refl, sym, ap, _∙_}
-use mathlib.Core.List.{List, [], _∷_, _++_}
+use mathlib.Core.List.{List, _∷_, _++_}
 use Prim.Native.Nat.{ℕ, zero, suc, _+_, _*_, _/_, _%_, _^_, _<_, _≤_}
 use native.Mathlib.Numerals.{add-one}
 use native.Mathlib.Nat.{add-suc}
@@ -15,8 +15,8 @@ use lib.Seq.{drop-cons, drop-drop, drop-length}
 use Rattle.base.specs.Bytes.{byte, part}
 use Rattle.descriptors.specs.declared.Descriptor.{Descriptor}
 use Rattle.descriptors.specs.declared.Step.{Step}
-use Rattle.descriptors.specs.Loop.{stepOf, contentOf, descriptorAt}
-use Rattle.descriptors.specs.Walk.{onward, walk, walkOf, Unrefused, headOf, tiles}
+use Rattle.descriptors.specs.Loop.{stepOf, descriptorAt}
+use Rattle.descriptors.specs.Walk.{onward, walk, Unrefused, tiles}
 use Rattle.descriptors.specs.Theorems.{Few, Tiling, Settled, Empty-Loop}
 use Rattle.descriptors.proofs.Steps.{Tells, step-tells}
 

@@ -1,13 +1,12 @@
 -- The number and the values of the answer lose nothing.
 --   scan-told
-use mathlib.Core.Path.{_≡_, refl, sym, ap}
-use mathlib.Core.List.{List, [], _∷_}
+use mathlib.Core.Path.{sym, ap}
+use mathlib.Core.List.{List}
 use Prim.Native.Nat.{ℕ}
 use lib.ListN.{getD}
-use Rattle.section.specs.declared.Header.{Header}
 use Rattle.answers.specs.Answers.{Told}
 use Rattle.answers.proofs.Same.{valueless}
-use Rattle.file.specs.Answer.{scanTold, Scan-Told}
+use Rattle.file.specs.Answer.{Scan-Told}
 use Rattle.file.specs.declared.Scan.{Scan}
 
 -- the table of the header whose fields are a list's first seven

@@ -1,6 +1,6 @@
 -- The number and the values of the answer to reading a file.
 use mathlib.Core.Path.{_≡_}
-use mathlib.Core.List.{List, [], _∷_}
+use mathlib.Core.List.{[], _∷_}
 use Rattle.answers.specs.Answers.{Told, told}
 use Rattle.file.specs.declared.Scan.{Scan}
 

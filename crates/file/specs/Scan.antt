@@ -6,7 +6,7 @@ use mathlib.Core.List.{List, [], _∷_}
 use mathlib.Core.Bool.{Bool, true, false, not, _||_}
 use lib.Dec.{ltb, eqb}
 use lib.ListN.{length, getD, set, replicate}
-use Rattle.base.specs.Choice.{if_then_else_, Row, _if_, first}
+use Rattle.base.specs.Choice.{if_then_else_, _if_, first}
 use Rattle.base.specs.Bytes.{part}
 use Rattle.section.specs.Section.{readOf}
 use Rattle.section.specs.declared.Header.{Header}

@@ -1,13 +1,12 @@
 -- How a text grows.
 --   nothing, one, word     by nothing, one byte, or a word
 --   then                   one text after another is their join
-use mathlib.Core.Path.{_≡_, refl, sym, ap, subst, _∙_}
-use mathlib.Core.Bool.{true, false}
+use mathlib.Core.Path.{_≡_, sym, ap, subst, _∙_}
 use mathlib.Core.List.{List, [], _∷_, _++_, append-assoc, append-nil}
 use Prim.Native.Nat.{ℕ, _+_, _/_, _%_, _<_, _≤_}
 use native.Mathlib.Numerals.{add-one}
 use native.Mathlib.Omega.{arith}
-use lib.ListN.{length, take, drop, set, length-append, length-take}
+use lib.ListN.{length, take, set, length-append}
 use lib.Seq.{take-suc-set, take-at, take-length, length-take-le}
 use borrow.Rule.Slice.PartMut.{putMid, postOf}
 use borrow.Author.Tests.{lt-leb, le-leb}

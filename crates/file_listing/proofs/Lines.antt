@@ -1,10 +1,9 @@
 -- How the lines of a listing follow each other.
 --   no-section, a-section, no-missing, a-missing     the line of one number, where it has one
 --   no-line, one-more, all-lines                     the lines of the numbers from 0 on
-use mathlib.Core.Path.{_≡_, refl, sym, ap, subst, _∙_}
-use mathlib.Core.Bool.{true, false, not}
-use mathlib.Core.List.{List, [], _∷_, _++_}
-use Prim.Native.Nat.{ℕ, suc, _+_, _*_, _<_, _≤_}
+use mathlib.Core.Path.{_≡_}
+use mathlib.Core.List.{List}
+use Prim.Native.Nat.{ℕ, _+_, _*_, _≤_}
 use native.Mathlib.Numerals.{add-one}
 use native.Mathlib.Nat.{mul-suc}
 use native.Mathlib.Omega.{arith}

@@ -2,16 +2,15 @@
 --   listed-within     what is answered as the text's length lies within the output
 --   text-short        no listing has more than 390 bytes (`specs/Answer.antt` has the words)
 --   always-listed     so an output of that many is never too small
-use mathlib.Core.Path.{_≡_, refl, sym, ap, subst, _∙_}
-use mathlib.Core.Bool.{Bool, true, false, not, _&&_}
-use mathlib.Core.List.{List, [], _∷_, _++_}
+use mathlib.Core.Path.{_≡_, refl, ap}
+use mathlib.Core.Bool.{true}
+use mathlib.Core.List.{List, _++_}
 use mathlib.Core.Logic.{⊎-elim}
 use Prim.Native.Nat.{ℕ, zero, suc, _+_, _-_, _*_, _<_, _≤_}
 use native.Mathlib.Omega.{arith}
 use lib.Dec.{ltb, leb, eqb}
 use lib.ListN.{length, getD, drop, length-append}
 use borrow.Author.Tests.{le-ltb, lt-leb, ltb-true, ltb-false, eqb-true}
-use Rattle.base.specs.Choice.{if_then_else_}
 use Rattle.base.specs.Below.{every}
 use Rattle.base.specs.Bytes.{part}
 use Rattle.base.specs.Octets.{Octets}
@@ -22,9 +21,9 @@ use Rattle.section.proofs.Laws.{sound-facts, sound-fits}
 use Rattle.file.specs.Layout.{sameTable}
 use Rattle.file.specs.Scan.{scanOf, foundAt}
 use Rattle.file.specs.declared.Scan.{Scan}
-use Rattle.file.proofs.Held.{held, Holds, Lies}
-use Rattle.file_listing.specs.Words.{place, decimal, field, ascii, newline, lines}
-use Rattle.file_listing.specs.Listing.{headLine, sectionLine, missingLine, completeLine, refusedLine, sectionOf, missingOf, endOf, tableText, answerText, textOf, listing, listOf}
+use Rattle.file.proofs.Held.{held}
+use Rattle.file_listing.specs.Words.{place, decimal, lines}
+use Rattle.file_listing.specs.Listing.{headLine, sectionLine, missingLine, refusedLine, sectionOf, missingOf, endOf, tableText, answerText, textOf, listing, listOf}
 use Rattle.file_listing.specs.Answer.{Text-Short, Always-Listed}
 use Rattle.file_listing.specs.declared.Listed.{Listed}
 

@@ -3,7 +3,7 @@
 --   refused-text, table-text     the text of a refused file, and of a table
 --   too-small, fits              the output has no room for it, or has
 --   table-last                   a table's last number is at most 15
-use mathlib.Core.Path.{_≡_, refl, sym, ap, subst, _∙_}
+use mathlib.Core.Path.{_≡_, sym, ap, _∙_}
 use mathlib.Core.Bool.{true, false}
 use mathlib.Core.List.{List, _++_}
 use Prim.Native.Nat.{ℕ, _+_, _<_, _≤_}

@@ -3,7 +3,7 @@ use Prim.Native.Nat.{ℕ, _+_}
 use mathlib.Core.List.{List, [], _∷_, _++_}
 use lib.Dec.{ltb}
 use lib.ListN.{length, getD, drop}
-use Rattle.base.specs.Choice.{if_then_else_, Row, _if_, first}
+use Rattle.base.specs.Choice.{if_then_else_, _if_, first}
 use Rattle.base.specs.Below.{every}
 use Rattle.section.specs.declared.Header.{Header}
 use Rattle.file.specs.Scan.{scanOf, foundAt}

@@ -1,9 +1,8 @@
 -- Text as bytes: words, and decimal numbers without leading zeros.
 use Prim.Native.Nat.{ℕ, zero, suc, _+_, _/_, _%_}
-use Prim.Native.Char.{Char, code}
+use Prim.Native.Char.{code}
 use Prim.Native.String as string
 use Prim.Native.String.{String}
-use mathlib.Core.Bool.{Bool}
 use mathlib.Core.List.{List, [], _∷_, _++_}
 use lib.Dec.{leb}
 use Rattle.base.specs.Choice.{if_then_else_}

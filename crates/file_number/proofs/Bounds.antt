@@ -1,19 +1,18 @@
 -- How far a number reaches.
 --   within        a number that is read ends inside the file, after the place where it begins, and is at most 65,535
 --   spelt-some, spelt-1-long, spelt-2-long   how many groups a number takes
-use mathlib.Core.Path.{_≡_, refl, sym, ap, _∙_}
-use mathlib.Core.Bool.{Bool, true, false, _||_, _&&_}
+use mathlib.Core.Path.{_≡_}
+use mathlib.Core.Bool.{false, _||_}
 use mathlib.Core.List.{List, [], _∷_}
-use Prim.Native.Nat.{ℕ, suc, _+_, _/_, _<_, _≤_, _-_}
+use Prim.Native.Nat.{ℕ, _+_, _<_, _≤_, _-_}
 use native.Mathlib.Omega.{arith}
 use lib.Dec.{ltb}
 use lib.ListN.{length, drop, length-drop}
 use borrow.Author.Tests.{ltb-true, ltb-false}
-use Rattle.base.specs.Choice.{if_then_else_}
 use Rattle.base.proofs.Cases.{by, unlike, or-left, or-right}
 use Rattle.file_number.specs.Number.{largest, spelling, spelt, groups, worth, cutOff, notShortest, numberIn, numberAt}
 use Rattle.file_number.specs.declared.Number.{Number}
-use Rattle.file_number.proofs.Spelling.{spelt-1, spelt-2, spelt-3}
+use Rattle.file_number.proofs.Spelling.{spelt-1, spelt-2}
 
 -- groups that are not cut off are some, and stand in the bytes
 some-groups : (s : List ℕ) → cutOff s ≡ false → (1 ≤ length (groups s)) × (length (groups s) ≤ length s)

@@ -4,14 +4,14 @@
 --   one-spelling    two numbers that are spelt at the front of the same bytes are one
 --   refused-11      11 is given exactly when no number is spelt there
 --   example-12      P12
-use mathlib.Core.Path.{_≡_, refl, sym, ap, subst, _∙_}
-use mathlib.Core.Bool.{Bool, true, false, _||_}
+use mathlib.Core.Path.{_≡_, refl, sym, ap, _∙_}
+use mathlib.Core.Bool.{_||_}
 use mathlib.Core.List.{List, [], _∷_, _++_}
 use mathlib.Core.Logic.{_↔_, _⊎_, ⊎-elim, inl, inr}
-use Prim.Native.Nat.{ℕ, suc, _+_, _*_, _/_, _%_, _<_, _≤_}
+use Prim.Native.Nat.{ℕ, _+_, _*_, _/_, _%_, _<_, _≤_}
 use native.Mathlib.Omega.{arith}
-use lib.Dec.{ltb, eqb}
-use lib.ListN.{length, length-append}
+use lib.Dec.{ltb}
+use lib.ListN.{length}
 use borrow.Author.Tests.{le-ltb, ltb-true, ltb-false}
 use Rattle.base.proofs.Cases.{by, same-or}
 use Rattle.file_number.specs.Number.{largest, spelling, spelt, groups, worth, cutOff, lastIsZero, notShortest, numberIn, Bytes}

@@ -2,20 +2,19 @@
 --   none-1, none-2, none-3       the file ends before a group without its top bit
 --   zero-2, zero-3, above-3      the last group is 0, or the third says too much
 --   one, two, three              the number of one, two and three groups
-use mathlib.Core.Path.{_≡_, refl, sym, ap, _∙_}
-use mathlib.Core.Bool.{Bool, true, false, _||_, _&&_}
+use mathlib.Core.Path.{_≡_, sym}
+use mathlib.Core.Bool.{false}
 use mathlib.Core.List.{List, [], _∷_}
-use Prim.Native.Nat.{ℕ, suc, _+_, _*_, _/_, _%_, _<_, _≤_}
+use Prim.Native.Nat.{ℕ, suc, _+_, _*_, _%_, _<_, _≤_}
 use native.Mathlib.Numerals.{add-one}
 use native.Mathlib.Omega.{arith}
-use lib.Dec.{ltb, eqb}
-use lib.ListN.{length, getD, drop, drop-of-length-le}
+use lib.Dec.{ltb}
+use lib.ListN.{length, drop, drop-of-length-le}
 use lib.Seq.{drop-cons}
-use borrow.Author.Tests.{lt-ltb, le-ltb, eq-eqb, ne-eqb, ltb-true, ltb-false, eqb-false}
-use Rattle.base.specs.Choice.{if_then_else_}
+use borrow.Author.Tests.{lt-ltb, le-ltb, ne-eqb, ltb-true, eqb-false}
 use Rattle.base.specs.Bytes.{byte}
 use Rattle.base.proofs.Cases.{by, unlike}
-use Rattle.file_number.specs.Number.{groups, worth, cutOff, lastIsZero, notShortest, numberIn, numberAt, largest}
+use Rattle.file_number.specs.Number.{groups, worth, cutOff, lastIsZero, numberIn, numberAt, largest}
 use Rattle.file_number.specs.declared.Number.{Number}
 
 -- the byte at a place, and those after it

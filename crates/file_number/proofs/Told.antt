@@ -1,10 +1,10 @@
 -- The number and the values of the answers lose nothing.
 --   number-told, spelled-told
 use mathlib.Core.Path.{_≡_, sym, ap}
-use mathlib.Core.List.{List, [], _∷_}
+use mathlib.Core.List.{[], _∷_}
 use Rattle.answers.specs.Answers.{Told}
 use Rattle.answers.proofs.Same.{valueless}
-use Rattle.file_number.specs.Answer.{numberTold, spelledTold, Number-Told, Spelled-Told}
+use Rattle.file_number.specs.Answer.{Number-Told, Spelled-Told}
 use Rattle.file_number.specs.declared.Number.{Number}
 use Rattle.file_number.specs.declared.Written.{Written}
 

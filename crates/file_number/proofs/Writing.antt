@@ -1,15 +1,13 @@
 -- What is written, for each way through the writer.
 --   small-1, small-2, small-3    15: the output has no room for the groups
 --   put-1, put-2, put-3          the groups stand at the front of the output
-use mathlib.Core.Path.{_≡_, refl, sym, ap, _∙_}
-use mathlib.Core.Bool.{true, false}
-use mathlib.Core.List.{List, [], _∷_, _++_}
-use Prim.Native.Nat.{ℕ, suc, _+_, _*_, _/_, _%_, _<_, _≤_}
+use mathlib.Core.Path.{_≡_, refl}
+use mathlib.Core.List.{List, [], _∷_}
+use Prim.Native.Nat.{ℕ, _+_, _/_, _%_, _<_, _≤_}
 use native.Mathlib.Omega.{arith}
-use lib.Dec.{ltb}
 use lib.ListN.{length, set, drop}
 use borrow.Author.Tests.{lt-ltb, le-ltb}
-use Rattle.file_number.specs.Number.{spelt, writing, writtenOf}
+use Rattle.file_number.specs.Number.{writing, writtenOf}
 use Rattle.file_number.proofs.Spelling.{spelt-1, spelt-2, spelt-3}
 use Rattle.file_number.specs.declared.Written.{Written}
 

@@ -1,6 +1,6 @@
 -- The number and the values of the answers to reading and writing a number.
 use mathlib.Core.Path.{_≡_}
-use mathlib.Core.List.{List, [], _∷_}
+use mathlib.Core.List.{[], _∷_}
 use Rattle.answers.specs.Answers.{Told, told}
 use Rattle.file_number.specs.declared.Number.{Number}
 use Rattle.file_number.specs.declared.Written.{Written}

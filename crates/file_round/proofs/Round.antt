@@ -23,7 +23,7 @@ use Rattle.shelf_ask.proofs.Held.{in-place, copy-held, whole-held, missing-held
 use Rattle.file.specs.Layout.{fileOf, chosen}
 use Rattle.shelf_save.specs.Save.{Save, refuse, unsaved, written, savedFile, saveOf}
 use Rattle.shelf_save.specs.declared.Saved.{Saved}
-use Rattle.shelf_laws.specs.State.{State, loadOn, saveOut, copyOut, wholeIn, missingIn}
+use Rattle.shelf_laws.specs.State.{State, saveOut, copyOut, wholeIn, missingIn}
 use Rattle.shelf_laws.specs.History.{Question, copied, wholly, lacking, saved, about, reply, afterAll}
 use Rattle.shelf_laws.proofs.Places.{free-le}
 use Rattle.shelf_laws.proofs.Kept.{Good}

@@ -5,17 +5,15 @@
 --   refused-range                no other number is given
 -- They are one law of tables (`Tables` of base): each test in the definition says what stands here, which `decided` finds.
 use mathlib.Core.Path.{_≡_, refl, sym, ap, subst, _∙_}
-use mathlib.Core.List.{List, [], _∷_}
-use mathlib.Core.Logic.{_↔_, _⊎_, Iff·trans, true-and}
+use mathlib.Core.List.{List}
+use mathlib.Core.Logic.{_↔_, Iff·trans, true-and}
 use Prim.Native.Nat.{ℕ, _<_, _≤_}
 use native.Mathlib.Omega.{arith}
-use lib.ListN.{length}
-use Rattle.base.specs.Tables.{None, above, said, Agree}
+use Rattle.base.specs.Tables.{None, said, Agree}
 use Rattle.base.proofs.Tables.{words, given, passed, silent, among}
 use Rattle.section.specs.Section.{faults, headerOf, readOf, numberOf}
 pub use Rattle.section.specs.Theorems.{PayloadShort, WrongIndicator, LengthOutOfRange, LongerThanPayload, ShorterThanPayload, NumberAboveLast, LastAbove15, NotCurrent, table, NoneBefore}
 use Rattle.section.specs.Theorems.{Refused-1, Refused-2, Refused-3, Refused-4, Refused-5, Refused-6, Refused-7, Refused-8, Not-Refused, Sound-Exactly, Refused-Range}
-use Rattle.section.specs.declared.Header.{Header}
 use Rattle.section.specs.declared.Reading.{Reading}
 use Rattle.section.specs.declared.Reading.the-variants.{Sound, Refused}
 

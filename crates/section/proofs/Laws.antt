@@ -5,17 +5,15 @@
 use mathlib.Core.Path.{_≡_, refl, sym, _∙_}
 use mathlib.Core.List.{List}
 use mathlib.Core.Logic.{inl, inr}
-use Prim.Native.Nat.{ℕ, _-_, _<_, _≤_}
+use Prim.Native.Nat.{ℕ, _<_}
 use native.Mathlib.Omega.{arith}
 use lib.ListN.{length}
-use Rattle.base.specs.Octets.{Octets}
 use Rattle.base.specs.Tables.{None}
 use Rattle.base.proofs.Bytes.{word-fits}
 use Rattle.section.specs.Section.{readOf, headerOf, sectionSize, sectionLength, sectionNumber, lastSectionNumber}
 pub use Rattle.section.specs.Theorems.{SoundFacts}
 use Rattle.section.specs.Theorems.{Sound-Fits, Unique}
 use Rattle.section.specs.declared.Header.{Header}
-use Rattle.section.specs.declared.Reading.{Reading}
 use Rattle.section.specs.declared.Reading.the-variants.{Sound}
 use Rattle.section.proofs.ExactlyWhen.{table, sound, not-refused}
 

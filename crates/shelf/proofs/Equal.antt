@@ -4,21 +4,19 @@
 --   same-spoiled, same-place, same-free    equal records are spoiled alike, and have their keys and free places alike
 --   same-with                              and stay equal when one place of both becomes the same
 use mathlib.Core.Path.{_≡_, refl, sym, ap, _∙_}
-use mathlib.Core.Bool.{Bool, true, false, not, _&&_, _||_}
-use mathlib.Core.Logic.{_⊎_, ⊎-elim}
+use mathlib.Core.Bool.{Bool, false, not}
+use mathlib.Core.Logic.{⊎-elim}
 use Prim.Native.Nat.{ℕ, zero, suc, _<_}
 use native.Mathlib.Omega.{arith}
-use lib.Dec.{ltb}
-use lib.ListN.{length, getD, set}
+use lib.ListN.{length}
 use lib.Seq.{getD-set-same, getD-set-other}
-use Rattle.base.specs.Choice.{if_then_else_}
 use Rattle.base.specs.Below.{some, lowest}
 use Rattle.base.proofs.Cases.{by, same-or}
-use Rattle.berth.specs.Berth.{places, sections}
+use Rattle.berth.specs.Berth.{places}
 use Rattle.shelf.specs.declared.Key.{Key}
 use Rattle.shelf.specs.Record.{Place}
 use Rattle.shelf.specs.Record.{Shelf}
-use Rattle.shelf.specs.Record.{freePlace, placeAt, withPlace, wrongAt, holds, sameKey, spoiledPlace, alike, spoiledOf, hasKey, placeOf, freeOf, Same}
+use Rattle.shelf.specs.Record.{freePlace, placeAt, withPlace, spoiledPlace, alike, spoiledOf, hasKey, placeOf, freeOf, Same}
 
 -- tests that agree below n
 pub some-alike : (f g : ℕ → Bool) (n : ℕ) → ((k : ℕ) → k < n → f k ≡ g k) → some n f ≡ some n g

@@ -3,7 +3,7 @@
 --   place-le, free-le              both are at most 4
 --   place-has, place-first, place-taken   the place of a held key is the lowest that has it, and is taken
 --   free-free, free-first          the free place is free, and no lower one is
-use mathlib.Core.Path.{_≡_, ap, _∙_}
+use mathlib.Core.Path.{_≡_}
 use mathlib.Core.Bool.{Bool, true, false, not}
 use Prim.Native.Nat.{ℕ, _<_, _≤_}
 use borrow.Author.Tests.{not-true, not-false}

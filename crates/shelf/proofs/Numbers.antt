@@ -8,18 +8,17 @@
 use mathlib.Core.Path.{_≡_, refl, sym, ap, _∙_}
 use mathlib.Core.Bool.{Bool, true, false, not, _&&_}
 use mathlib.Core.List.{List}
-use Prim.Native.Nat.{ℕ, zero, suc, _+_, _*_, _/_, _%_, _^_, _<_, _≤_}
+use Prim.Native.Nat.{ℕ, zero, suc, _+_, _*_, _/_, _%_, _<_}
 use native.Mathlib.Omega.{arith}
-use lib.Dec.{eqb, ltb}
+use lib.Dec.{eqb}
 use lib.ListN.{length, getD}
-use borrow.Author.Tests.{eq-eqb, ne-eqb, eqb-true, eqb-false, le-ltb, lt-ltb, ltb-true, ltb-false}
+use borrow.Author.Tests.{eq-eqb, ne-eqb, eqb-true, eqb-false, lt-ltb}
 use Rattle.base.specs.Below.{some}
-use Rattle.base.specs.Choice.{if_then_else_}
 use Rattle.base.proofs.Cases.{by, unlike, and-left, and-right}
-use Rattle.shelf.specs.Record.{Place, Shelf, lengthAt, holds, spoiledPlace, spoiledOf, placeAt, freePlace, fresh, hasKey, placeOf, freeOf}
+use Rattle.shelf.specs.Record.{lengthAt, holds, spoiledPlace, spoiledOf, placeAt, fresh, hasKey, placeOf, freeOf}
 use Rattle.shelf.specs.declared.Key.{Key}
 use Rattle.base.specs.Bits.{bit}
-use Rattle.shelf.specs.Layout.{keyNumber, numberFor, heldLength, lengthIn, lengthsIn, tableIn, takenIn, placeIn, shelfIn, shelfAt, noRecord}
+use Rattle.shelf.specs.Layout.{keyNumber, numberFor, lengthIn, lengthsIn, tableIn, takenIn, placeIn, shelfIn, shelfAt, noRecord}
 use Rattle.shelf.specs.Calls.{hasPlace, hasSection, keyAmong, placeAmong, freeAmong, versionAmong, lastAmong, maskAmong, lengthAmong}
 use Rattle.shelf.proofs.Lists.{getD-listed}
 

@@ -4,8 +4,8 @@
 --   not-held, none-free      no place has a key; no place is free
 --   sound-place              what a taken place of a record that is not spoiled is like
 --   one-place, place-only    and there a key has one place
-use mathlib.Core.Path.{_≡_, refl, sym, ap, _∙_}
-use mathlib.Core.Bool.{Bool, true, false, not, _&&_, _||_}
+use mathlib.Core.Path.{_≡_, sym, ap, _∙_}
+use mathlib.Core.Bool.{Bool, true, false, not}
 use mathlib.Core.Logic.{_↔_, _⊎_, ⊎-elim, inl, inr}
 use Prim.Native.Nat.{ℕ, _<_, _≤_}
 use native.Mathlib.Omega.{arith}
@@ -16,12 +16,12 @@ use Rattle.base.proofs.Cases.{by, same-or}
 use Rattle.shelf.proofs.Find.{place-has, place-first}
 use Rattle.base.specs.Below.{some, lowest}
 use Rattle.base.proofs.Below.{some-which, some-found, lowest-all, lowest-below}
-use Rattle.base.proofs.Tables.{words, less, same, itself, or-so, and-so, not-so, fails, denied}
+use Rattle.base.proofs.Tables.{words, same, or-so, fails, denied}
 use Rattle.berth.specs.Berth.{places, sections, berthSize}
 use Rattle.shelf.specs.declared.Key.{Key}
 use Rattle.shelf.specs.Record.{Place}
 use Rattle.shelf.specs.Record.{Shelf}
-use Rattle.shelf.specs.Record.{placeAt, lengthAt, holds, sameKey, wrongAt, spoiledPlace, alike, spoiledOf, hasKey, placeOf, freeOf}
+use Rattle.shelf.specs.Record.{placeAt, lengthAt, spoiledPlace, alike, spoiledOf, hasKey, placeOf, freeOf}
 
 -- some number below n passes, in words
 abbrev pub Some : ℕ → (ℕ → Type 0) → Type 0

@@ -13,7 +13,6 @@ use Prim.Native.Nat.{ℕ, _+_, _<_, _≤_}
 use native.Mathlib.Omega.{arith}
 use lib.Dec.{eqb, ltb}
 use borrow.Author.Tests.{eq-eqb, eqb-true, not-true, not-false, ltb-true, ltb-false}
-use Rattle.base.specs.Below.{lowest}
 use Rattle.base.proofs.Below.{every-all, every-each, lowest-le, lowest-holds, lowest-below}
 use Rattle.base.specs.Tables.{Decides}
 use Rattle.base.proofs.Cases.{by, unlike}

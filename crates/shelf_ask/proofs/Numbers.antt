@@ -3,12 +3,12 @@
 --   last-read, last-low           its last number
 --   gap-read                      its lowest missing number
 --   length-read, length-past, lengths-read      the length of a section, and all sixteen
-use mathlib.Core.Path.{_≡_, refl, sym, ap, _∙_}
-use mathlib.Core.Bool.{Bool, true, false, not}
+use mathlib.Core.Path.{_≡_, sym, ap, _∙_}
+use mathlib.Core.Bool.{true, false, not}
 use mathlib.Core.List.{List}
 use Prim.Native.Nat.{ℕ, _+_, _*_, _%_, _<_, _≤_}
 use native.Mathlib.Omega.{arith}
-use lib.Dec.{eqb, ltb}
+use lib.Dec.{ltb}
 use lib.ListN.{length, getD, List·getD-eq-default}
 use borrow.Author.Tests.{eq-eqb, le-ltb, lt-ltb, ltb-true, ltb-false}
 use Rattle.base.specs.Bits.{bit}
@@ -16,7 +16,7 @@ use Rattle.base.specs.Below.{lowest}
 use Rattle.base.proofs.Cases.{by}
 use Rattle.shelf.specs.Record.{placeAt, lengthAt, holds, spoiledOf, placeOf}
 use Rattle.shelf.specs.declared.Key.{Key}
-use Rattle.shelf.specs.Layout.{lengthIn, lengthsIn, takenIn, tableIn, shelfIn, shelfAt}
+use Rattle.shelf.specs.Layout.{lengthIn, lengthsIn, takenIn, tableIn, shelfAt}
 use Rattle.shelf.specs.Calls.{placeAmong, lastAmong, maskAmong, lengthAmong, lengthsAmong}
 use Rattle.shelf.proofs.Lists.{length-listed, listed-same}
 use Rattle.shelf.proofs.Numbers.{at-count, spoiled-count, taken-at, table-at, held-at, length-at, among-place, among-last, among-mask, among-length}

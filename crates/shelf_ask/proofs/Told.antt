@@ -1,7 +1,7 @@
 -- The answers in numbers.
 --   whole-told, missing-told, copy-told       what the layer's call answers, told in a number, is what the boundary's answers
 --   whole-back, missing-back                  the answer comes back out of its number
-use mathlib.Core.Path.{_≡_, refl, sym, ap, _∙_}
+use mathlib.Core.Path.{_≡_, refl, ap, _∙_}
 use mathlib.Core.List.{List}
 use Prim.Native.Nat.{ℕ, _+_, _*_, _/_, _%_, _<_}
 use native.Mathlib.Omega.{arith}

@@ -2,7 +2,7 @@
 --   begin-17, begin-18, begun      what the code leaves
 --   begin-done                     84 numbers and 65,536 bytes are a fresh shelf's
 --   begin-unique                   two answers that keep the promise are equal, with the numbers and the stores that they leave
-use mathlib.Core.Path.{_≡_, refl, sym, ap, _∙_}
+use mathlib.Core.Path.{_≡_, sym, ap, _∙_}
 use mathlib.Core.List.{List}
 use Prim.Native.Nat.{ℕ}
 use lib.ListN.{length}
@@ -15,7 +15,7 @@ use Rattle.shelf_write.specs.Writes.{freshWords}
 use Rattle.shelf_write.specs.Calls.{freshPut}
 use Rattle.shelf_write.proofs.Lent.{fresh-put, fresh-lent}
 use Rattle.shelf_begin.specs.declared.Begun.{Begun}
-use Rattle.shelf_begin.specs.On.{Leaving, leaving, beginOn}
+use Rattle.shelf_begin.specs.On.{leaving, beginOn}
 
 module _ (words store : List ℕ) where
   pub begin-17 : (length store ≡ storeSize → ⊥) → leaving (Begun.Refused 17) words store ≡ beginOn words store

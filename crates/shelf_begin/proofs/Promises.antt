@@ -3,7 +3,7 @@
 --   whole-begun        a whole store is zeroed
 --   always-fresh       the record is fresh in either case
 --   refused-untouched  a refused call leaves the store as it was
-use mathlib.Core.Path.{_≡_, refl, sym, _∙_}
+use mathlib.Core.Path.{_≡_, refl}
 use mathlib.Core.List.{List, [], _∷_}
 use mathlib.Core.Logic.{_↔_, Iff·trans, true-and}
 use Prim.Native.Nat.{ℕ}

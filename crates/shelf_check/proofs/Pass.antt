@@ -6,7 +6,6 @@ use mathlib.Core.Bool.{Bool, true, false, not, _&&_, _||_}
 use Prim.Native.Nat.{ℕ, zero, suc, _+_, _<_, _≤_}
 use native.Mathlib.Omega.{arith}
 use lib.Dec.{eqb, leb}
-use lib.ListN.{getD}
 use borrow.Author.Tests.{leb-true, eqb-false, not-true, not-false}
 use Rattle.base.proofs.Cases.{same-or, and-left, and-right, or-left, or-right}
 use Rattle.shelf_check.specs.Fine.{FineColumn, FineColumns, FineHeads, NoneAbove, OneHeld}

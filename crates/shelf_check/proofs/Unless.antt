@@ -1,11 +1,10 @@
 -- The number that is answered unless the record is spoiled.
 --   spoiled, unspoiled     which of the two it is
 --   told-by-0              where 0 is handed in, what is answered tells whether it is spoiled
-use mathlib.Core.Path.{_≡_, refl}
+use mathlib.Core.Path.{_≡_}
 use mathlib.Core.Bool.{Bool, true, false, not}
 use Prim.Native.Nat.{ℕ}
 use lib.Dec.{eqb}
-use Rattle.base.proofs.Cases.{by}
 use Rattle.shelf_check.specs.Unless.{unlessSpoiled}
 
 pub spoiled : {b : Bool} (number : ℕ) → b ≡ true → 18 ≡ unlessSpoiled b number

@@ -9,7 +9,6 @@ use lib.Dec.{eqb}
 use lib.ListN.{length, getD}
 use borrow.Author.Tests.{eq-eqb, ne-eqb}
 use Rattle.base.proofs.Cases.{by}
-use Rattle.shelf_write.specs.Writes.{heldIn}
 use Rattle.shelf_write.specs.Calls.{heldPut}
 use Rattle.shelf_write.proofs.Writes.{held-length}
 use Rattle.shelf_write.proofs.Lent.{held-put}

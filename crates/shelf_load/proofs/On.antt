@@ -2,10 +2,10 @@
 --   below-lent, loaded-lent                    the record after a table's head and lengths are written
 --   load-said, load-shelf, load-store          the load
 use mathlib.Core.Path.{_≡_, refl, sym, ap, _∙_}
-use mathlib.Core.Bool.{Bool, true, false, not}
+use mathlib.Core.Bool.{true, false, not}
 use mathlib.Core.List.{List}
 use mathlib.Core.Logic.{⊎-elim}
-use Prim.Native.Nat.{ℕ, zero, suc, _+_, _<_, _≤_}
+use Prim.Native.Nat.{ℕ, zero, suc, _<_, _≤_}
 use native.Mathlib.Omega.{arith}
 use lib.Dec.{eqb, ltb}
 use lib.ListN.{length, getD, set, replicate, length-set}
@@ -13,17 +13,16 @@ use lib.Seq.{ext-getD, getD-set-same, getD-set-other, set-getD}
 use borrow.Author.Tests.{eqb-true, eqb-false, lt-ltb, le-ltb, ltb-true, ltb-false}
 use Rattle.base.specs.Octets.{Octets}
 use Rattle.base.specs.Choice.{if_then_else_}
-use Rattle.base.specs.Bytes.{part, byte}
+use Rattle.base.specs.Bytes.{part}
 use Rattle.base.proofs.Bytes.{octets-part}
-use Rattle.base.proofs.Cases.{by, same-or, and-left, and-right}
-use Rattle.section.specs.Section.{headerOf}
+use Rattle.base.proofs.Cases.{by, same-or, and-left}
 use Rattle.section.specs.declared.Header.{Header}
-use Rattle.section.proofs.Laws.{SoundFacts, sound-facts, sound-fits}
-use Rattle.berth.specs.Berth.{places, sections, storeSize}
-use Rattle.shelf.specs.Record.{Place, Shelf, keyOf, emptyTable, withLength, placeAt, withPlace, spoiledOf, placeOf, freeOf}
+use Rattle.section.proofs.Laws.{sound-fits}
+use Rattle.berth.specs.Berth.{places, storeSize}
+use Rattle.shelf.specs.Record.{Place, Shelf, keyOf, withLength, placeAt, withPlace, spoiledOf, placeOf, freeOf}
 use Rattle.shelf.specs.declared.Key.{Key}
 use Rattle.shelf.specs.Layout.{listed, takenIn, shelfIn, shelfAt}
-use Rattle.shelf_write.specs.Writes.{heldIn, headIn}
+use Rattle.shelf_write.specs.Writes.{headIn}
 use Rattle.shelf.proofs.Find.{free-le}
 use Rattle.shelf.proofs.Lists.{length-listed, getD-listed}
 use Rattle.shelf.proofs.Numbers.{at-count, spoiled-count, taken-at}
@@ -31,11 +30,10 @@ use Rattle.shelf_write.proofs.Lent.{four, with-at, with-with, head-lent, head-f
 use Rattle.file.specs.Scan.{scanOf}
 use Rattle.file.specs.Layout.{sameTable}
 use Rattle.file.specs.declared.Scan.{Scan}
-use Rattle.file.specs.declared.Scanned.{Scanned}
-use Rattle.file.proofs.Held.{Lies, held}
+use Rattle.file.proofs.Held.{held}
 use Rattle.shelf_load.specs.declared.Loaded.{Loaded}
-use Rattle.shelf_load.specs.Load.{After, loadedPlace, no, tableOf, answered, loadOf}
-use Rattle.shelf_load.specs.On.{heldBelow, loadedIn, tableBy, wordsBy, loadOn}
+use Rattle.shelf_load.specs.Load.{tableOf, answered, loadOf}
+use Rattle.shelf_load.specs.On.{heldBelow, tableBy, wordsBy, loadOn}
 use Rattle.shelf_load.proofs.Holding.{below-length}
 
 -- the first k of sixteen lengths

@@ -1,7 +1,7 @@
 -- The answer in a number.
 --   told       what the layer's call leaves, told in a number, is what the boundary's leaves
 --   loaded-back     the answer comes back out of its number
-use mathlib.Core.Path.{_≡_, refl, ap, _∙_}
+use mathlib.Core.Path.{_≡_, refl, ap}
 use mathlib.Core.List.{List}
 use Prim.Native.Nat.{ℕ, _<_}
 use native.Mathlib.Omega.{arith}

@@ -3,7 +3,7 @@ use mathlib.Core.Path.{_≡_, sym, ap, _∙_}
 use mathlib.Core.List.{List}
 use Prim.Native.Nat.{ℕ}
 use Rattle.shelf_load.specs.declared.Loaded.{Loaded}
-use Rattle.shelf_load.specs.On.{Leaving, leaving, loadOn}
+use Rattle.shelf_load.specs.On.{leaving, loadOn}
 
 pub load-file-unique :
     (words store file : List ℕ)

@@ -15,7 +15,7 @@ use Rattle.shelf.specs.Record.{freeOf}
 use Rattle.shelf.specs.Layout.{shelfAt}
 use Rattle.file.specs.declared.Scanned.{Scanned}
 use Rattle.shelf_load.specs.Load.{tableOf}
-use Rattle.shelf_load.specs.On.{Leaving, leaving, loadedIn, tableBy}
+use Rattle.shelf_load.specs.On.{Leaving, leaving, tableBy}
 
 -- each section that was found lies in the file, fits a berth, and has no number above the last, which is below 16
 unfoldable pub Within : List ℕ → List ℕ → List ℕ → ℕ → Type 0

@@ -1,22 +1,18 @@
 -- What a free place happens to hold never matters: offers to equal records get the same answer, leave the same store and equal records.
 --   SameAfter      the same answer, the same store, and equal records
 --   same-offer     so of every payload and every store
-use mathlib.Core.Path.{_≡_, refl, sym, ap, subst, _∙_}
+use mathlib.Core.Path.{_≡_, refl, ap, subst, _∙_}
 use mathlib.Core.List.{List}
-use mathlib.Core.Bool.{Bool, true, false, not}
-use Prim.Native.Nat.{ℕ, _<_}
+use Prim.Native.Nat.{ℕ}
 use lib.Dec.{eqb}
 use lib.ListN.{length}
-use borrow.Author.Tests.{eqb-true, eqb-false}
-use Rattle.base.specs.Choice.{if_then_else_}
 use Rattle.base.proofs.Cases.{by}
-use Rattle.berth.specs.Berth.{places, sections, storeSize, put, wipedWhere}
+use Rattle.berth.specs.Berth.{places, sections, put, wipedWhere}
 use Rattle.section.specs.Section.{readOf, headerOf}
 use Rattle.section.specs.declared.Header.{Header}
 use Rattle.section.specs.declared.Reading.{Reading}
 use Rattle.section.specs.declared.Reading.the-variants as reading
-use Rattle.shelf.specs.Record.{placeAt, withPlace, holds, spoiledOf, placeOf, freeOf, Same}
-use Rattle.shelf.specs.Record.{Place}
+use Rattle.shelf.specs.Record.{placeAt, withPlace, holds, placeOf, Same}
 use Rattle.shelf.specs.Record.{Shelf}
 use Rattle.shelf.proofs.Equal.{Four, same-spoiled, same-place, same-free, same-with}
 use Rattle.shelf.proofs.Find.{place-le, place-taken}
@@ -25,7 +21,7 @@ use Rattle.shelf_offer.specs.declared.Step.the-variants.{Refuse, Repeats
 use Rattle.shelf_offer.specs.Offer.{After, begunPlace, addedPlace, offerOf}
 use Rattle.shelf.specs.Record.{keyOf}
 use Rattle.shelf_offer.specs.Steps.{heldStep, newStep, soundStep, readingStep, stepOf, done}
-use Rattle.shelf_offer.proofs.Steps.{InRange, Fits, below, step-done, step-fits}
+use Rattle.shelf_offer.proofs.Steps.{Fits, below, step-done, step-fits}
 
 pub record SameAfter (x y : After) : Type 0 where
   pub said : x .said ≡ y .said

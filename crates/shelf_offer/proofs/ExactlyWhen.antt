@@ -7,9 +7,9 @@
 -- They are one law of tables (`Tables` of base); `offer-number` says that an offer's number is the table's.
 use mathlib.Core.Path.{_≡_, refl, sym, ap, _∙_}
 use mathlib.Core.List.{List, [], _∷_, _++_}
-use mathlib.Core.Bool.{Bool, true, false, not, _&&_, _||_}
+use mathlib.Core.Bool.{false, not, _&&_, _||_}
 use mathlib.Core.Logic.{_↔_, _⊎_, Iff·trans}
-use Prim.Native.Nat.{ℕ, _<_, _≤_}
+use Prim.Native.Nat.{ℕ, _<_}
 use native.Mathlib.Omega.{arith}
 use lib.Dec.{eqb}
 use lib.ListN.{length}
@@ -21,8 +21,6 @@ use Rattle.base.proofs.Same.{same-refl, same-equal}
 use Rattle.base.proofs.Tables.{words, and-so, not-so, number-first, given, passed}
 use Rattle.berth.specs.Berth.{places, storeSize, standing}
 use Rattle.section.specs.Section.{faults, headerOf, readOf}
-use Rattle.section.specs.declared.Header.{Header}
-use Rattle.section.specs.declared.Reading.{Reading}
 use Rattle.section.specs.declared.Reading.the-variants as reading
 use Rattle.section.proofs.ExactlyWhen as section
 use Rattle.shelf.specs.Record.{placeAt, lengthAt, holds, spoiledOf, placeOf, freeOf}
@@ -30,8 +28,7 @@ use Rattle.shelf.specs.declared.Key.{Key}
 use Rattle.shelf.specs.Record.{Place}
 use Rattle.shelf.specs.Record.{Shelf}
 use Rattle.shelf.proofs.Words.{Some, Held, HasKey, Spoiled, decided, not-held, none-free}
-use Rattle.shelf_offer.specs.declared.Offered.{Offered}
-use Rattle.shelf_offer.specs.Offer.{After, numberOf, newOf, heldOf, soundOf, readingOf, offerOf}
+use Rattle.shelf_offer.specs.Offer.{numberOf, newOf, heldOf, soundOf, readingOf, offerOf}
 use Rattle.shelf.specs.Record.{keyOf}
 
 bytes-so : (a b : List ℕ) → Decides (same a b) (a ≡ b)

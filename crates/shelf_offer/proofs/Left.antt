@@ -10,7 +10,6 @@ use native.Mathlib.Omega.{arith}
 use lib.Dec.{eqb}
 use lib.ListN.{length}
 use borrow.Author.Tests.{eq-eqb, ne-eqb, eqb-true, eqb-false}
-use Rattle.base.specs.Choice.{if_then_else_}
 use Rattle.base.specs.Bits.{bit}
 use Rattle.base.proofs.Cases.{by, unlike}
 use Rattle.answers.specs.Answers.{lent}

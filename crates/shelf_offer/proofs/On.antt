@@ -4,22 +4,20 @@
 --   offer-said, offer-shelf, offer-store              an offer on lent numbers is the offer to the record that they are
 use mathlib.Core.Path.{_≡_, refl, sym, ap, subst, _∙_}
 use mathlib.Core.List.{List}
-use mathlib.Core.Bool.{Bool, true, false, not}
-use Prim.Native.Nat.{ℕ, _<_, _≤_}
+use mathlib.Core.Bool.{true}
+use Prim.Native.Nat.{ℕ, _<_}
 use native.Mathlib.Omega.{arith}
 use lib.ListN.{length}
-use borrow.Author.Tests.{eq-eqb, ne-eqb}
-use lib.Dec.{eqb}
 use Rattle.base.specs.Octets.{Octets}
 use Rattle.base.specs.Bits.{bit}
-use Rattle.berth.specs.Berth.{berthSize, storeSize, places, sections, put, wipedWhere}
+use Rattle.berth.specs.Berth.{storeSize, sections, put, wipedWhere}
 use Rattle.berth.specs.Calls.{putIn, wipedWhereIn}
 use Rattle.berth.proofs.Berths.{where-length, where-same}
 use Rattle.section.specs.Section.{headerOf}
 use Rattle.section.specs.declared.Header.{Header}
-use Rattle.shelf.specs.Record.{Place, Shelf, keyOf, placeAt, withPlace, holds, spoiledOf, placeOf, freeOf}
+use Rattle.shelf.specs.Record.{Shelf, keyOf, placeAt, withPlace, holds, placeOf, freeOf}
 use Rattle.shelf.specs.declared.Key.{Key}
-use Rattle.shelf.specs.Layout.{takenIn, tableIn, shelfIn, shelfAt}
+use Rattle.shelf.specs.Layout.{takenIn, tableIn, shelfAt}
 use Rattle.shelf.specs.Calls.{placeAmong, freeAmong, maskAmong}
 use Rattle.shelf_write.specs.Writes.{heldIn, headIn}
 use Rattle.shelf_write.specs.Calls.{heldPut, headPut}

@@ -1,9 +1,9 @@
 -- The calls on berths, at a berth of a whole store and with bytes that go into it.
 --   put-at, wiped-at, wiped-none, stands-at, stood      what each call does there
 --   other-length                            bytes of another length do not stand there
-use mathlib.Core.Path.{_≡_, refl, sym, ap, _∙_}
+use mathlib.Core.Path.{_≡_, refl, sym, _∙_}
 use mathlib.Core.List.{List}
-use mathlib.Core.Bool.{Bool, true, false}
+use mathlib.Core.Bool.{Bool, false}
 use Prim.Native.Nat.{ℕ, zero, suc, _<_, _≤_}
 use native.Mathlib.Omega.{arith}
 use lib.Pow.{pow-pos}

@@ -2,37 +2,31 @@
 --   held-again, held-last, held-adds, held-repeats, held-differs    the steps of a held key with the same version and last
 --   step-done                                an offer is its step, done
 --   Fits, step-fits                          what a step that writes may rely on
-use mathlib.Core.Path.{_≡_, refl, sym, ap, subst, _∙_}
+use mathlib.Core.Path.{_≡_, refl, subst, _∙_}
 use mathlib.Core.List.{List}
-use mathlib.Core.Bool.{Bool, true, false, not}
+use mathlib.Core.Bool.{true, false, not}
 use Prim.Native.Nat.{ℕ, _<_, _≤_}
 use native.Mathlib.Omega.{arith}
 use lib.Dec.{eqb}
 use lib.ListN.{length}
-use borrow.Author.Tests.{eq-eqb, ne-eqb, eqb-true, eqb-false, not-true, not-false}
-use Rattle.base.specs.Choice.{if_then_else_}
+use borrow.Author.Tests.{eq-eqb, ne-eqb, eqb-true, eqb-false, not-false}
 use Rattle.base.specs.Bytes.{same}
 use Rattle.base.proofs.Cases.{by, either}
-use Rattle.berth.specs.Berth.{berthSize, storeSize, places, sections, put, wipedWhere, standing}
-use Rattle.berth.proofs.Berths.{where-length}
-use Rattle.berth.specs.Calls.{putIn, wipedWhereIn, standsIn}
+use Rattle.berth.specs.Berth.{berthSize, storeSize, places, sections, standing}
 use Rattle.section.specs.Section.{readOf, headerOf}
 use Rattle.section.specs.declared.Header.{Header}
 use Rattle.section.specs.declared.Reading.{Reading}
 use Rattle.section.specs.declared.Reading.the-variants as reading
 use Rattle.section.proofs.Laws.{SoundFacts, sound-facts}
-use Rattle.shelf.specs.Record.{placeAt, withPlace, lengthAt, holds, spoiledOf, placeOf, freeOf}
+use Rattle.shelf.specs.Record.{placeAt, lengthAt, holds, spoiledOf, placeOf, freeOf}
 use Rattle.shelf.specs.Record.{Place}
 use Rattle.shelf.specs.Record.{Shelf}
 use Rattle.shelf.proofs.Find.{place-le, place-taken, free-le}
-use Rattle.shelf.proofs.Words.{SoundPlace, sound-place}
-use Rattle.shelf_offer.specs.declared.Offered.{Offered}
 use Rattle.shelf_offer.specs.declared.Step.{Step}
 use Rattle.shelf_offer.specs.declared.Step.the-variants.{Refuse, Repeats, Begins, BeginsAgain, Adds}
-use Rattle.shelf_offer.specs.Offer.{After, begunPlace, addedPlace, newOf, heldOf, soundOf, readingOf, offerOf}
+use Rattle.shelf_offer.specs.Offer.{newOf, heldOf, soundOf, readingOf, offerOf}
 use Rattle.shelf.specs.Record.{keyOf}
 use Rattle.shelf_offer.specs.Steps.{heldStep, newStep, soundStep, readingStep, stepOf, done}
-use Rattle.shelf_offer.proofs.Stands.{put-at, wiped-at, stands-at}
 
 pub held-again : (place : Place) (store payload : List ℕ) (p : ℕ) (h : Header) → (place .version ≡ h .version → ⊥) → BeginsAgain p ≡ heldStep place store payload p h
 unfolding heldStep

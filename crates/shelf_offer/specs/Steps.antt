@@ -2,7 +2,7 @@
 -- it is proved that the two parts are it (`step-done`, `decided`). Last, a step that writes, as numbers that one function hands to another.
 use Prim.Native.Nat.{ℕ, _+_, _*_}
 use mathlib.Core.List.{List}
-use mathlib.Core.Bool.{Bool, not}
+use mathlib.Core.Bool.{not}
 use lib.Dec.{eqb}
 use lib.ListN.{length}
 use Rattle.base.specs.Choice.{if_then_else_}

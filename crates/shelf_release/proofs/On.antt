@@ -24,7 +24,7 @@ use Rattle.shelf_ask.proofs.Alike.{by-holding}
 use Rattle.shelf_release.specs.declared.Released.{Released}
 use Rattle.shelf_release.specs.Release.{After, releaseOf}
 use Rattle.shelf_release.specs.On.{Leaving, leaving, wordsBy, releaseOn}
-use Rattle.shelf_release.proofs.Steps.{refuse, done, release-refused, release-done}
+use Rattle.shelf_release.proofs.Steps.{release-refused, release-done}
 
 module _ (words store : List ℕ) (key : Key) where
   abbrev by-answer : After → Leaving

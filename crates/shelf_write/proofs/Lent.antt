@@ -6,12 +6,12 @@ use mathlib.Core.Bool.{true}
 use mathlib.Core.List.{List}
 use Prim.Native.Nat.{ℕ, _<_, _≤_}
 use native.Mathlib.Omega.{arith}
-use lib.ListN.{length, set}
+use lib.ListN.{length}
 use lib.Seq.{getD-set-same, set-set}
 use borrow.Author.Tests.{eq-eqb, lt-ltb}
 use Rattle.shelf.specs.Record.{Place, Shelf, freePlace, emptyTable, withLength, fresh, placeAt, withPlace}
 use Rattle.shelf.specs.declared.Key.{Key}
-use Rattle.shelf.specs.Layout.{takenIn, placeIn, shelfIn, shelfAt}
+use Rattle.shelf.specs.Layout.{takenIn, shelfIn, shelfAt}
 use Rattle.shelf_write.specs.Writes.{heldIn, freedIn, headIn, freshWords}
 use Rattle.shelf_write.specs.Calls.{heldPut, headPut, freedPut, freshPut}
 use Rattle.shelf.proofs.Numbers.{at-count, place-at}

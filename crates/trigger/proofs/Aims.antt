@@ -4,17 +4,16 @@
 --   aim-fits                       bytes without a fault say what fits
 --   aim-allowed, aim-ascii         what fits has no fault
 --   aim-told                       the target is the one that the reader answers
-use mathlib.Core.Path.{_≡_, refl, sym, ap, subst, _∙_}
+use mathlib.Core.Path.{_≡_, refl, sym, ap, _∙_}
 use mathlib.Core.Bool.{Bool, true, false, _&&_}
 use mathlib.Core.List.{List, [], _∷_, _++_}
-use Prim.Native.Nat.{ℕ, zero, suc, _+_, _-_, _*_, _/_, _%_, _<_, _≤_}
+use Prim.Native.Nat.{ℕ, zero, suc, _+_, _*_, _/_, _%_, _<_, _≤_}
 use native.Mathlib.Nat.{add-zero}
 use native.Mathlib.Omega.{arith}
 use lib.Dec.{eqb, ltb, leb}
 use lib.ListN.{length, drop, List·getD-eq-default}
 use lib.Seq.{drop-length}
 use borrow.Author.Tests.{eq-eqb, ne-eqb, eqb-true, eqb-false, ltb-true, ltb-false, le-ltb, lt-leb}
-use Rattle.base.specs.Choice.{if_then_else_}
 use Rattle.base.specs.Bytes.{byte, word, part}
 use Rattle.base.specs.Below.{some}
 use Rattle.base.specs.Octets.{Octets}
@@ -22,7 +21,7 @@ use Rattle.base.proofs.Below.{some-all, some-each}
 use Rattle.base.proofs.Cases.{by, either}
 use Rattle.base.proofs.Bytes.{word-fits, word-part, length-part, byte-part}
 use Rattle.trigger_faults.specs.Fields.{wrongLength, isUri, someHigh}
-use Rattle.trigger.specs.Trigger.{kindOf, moduleOf, extent}
+use Rattle.trigger.specs.Trigger.{kindOf, moduleOf}
 use Rattle.trigger.specs.Layout.{Aim, aimType, aimBytes, FitAim, FitUri, twoBytes, targetIn}
 use Rattle.trigger.specs.declared.Target.{Target}
 use Rattle.trigger_faults.proofs.Truth.{and-none}

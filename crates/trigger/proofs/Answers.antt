@@ -1,7 +1,7 @@
 -- A trigger's number and values lose nothing (`specs/Answer.antt` has the words).
 --   numbers-back, reading-comes-back
 use mathlib.Core.Path.{_≡_, refl, sym, ap, _∙_}
-use mathlib.Core.List.{List, [], _∷_, _++_, append-nil}
+use mathlib.Core.List.{List, [], _++_, append-nil}
 use Prim.Native.Nat.{ℕ}
 use Rattle.base.proofs.Tables.{among}
 use Rattle.trigger_faults.specs.Fields.{faults}

@@ -1,25 +1,20 @@
 -- A trigger belongs to an application exactly when its id length is 0 or its id bytes equal the application's.
 --   belongs-exactly   of any trigger with any payload: its id bytes then lie in the payload
 --   read-belongs      of a trigger that was read from the payload
-use mathlib.Core.Path.{_≡_, refl, sym, ap, _∙_}
-use mathlib.Core.Bool.{true}
+use mathlib.Core.Path.{_≡_}
 use mathlib.Core.List.{List}
-use mathlib.Core.Logic.{_↔_, _⊎_, ⊎-elim, inl, inr}
+use mathlib.Core.Logic.{⊎-elim, inl, inr}
 use Prim.Native.Nat.{ℕ, _+_, _≤_}
 use native.Mathlib.Omega.{arith}
 use lib.ListN.{length}
-use Rattle.base.specs.Bytes.{part, same}
-use Rattle.base.specs.Octets.{Octets}
+use Rattle.base.specs.Bytes.{same}
 use Rattle.base.specs.Tables.{Decides}
 use Rattle.base.proofs.Tables.{most, or-so, and-so}
 use Rattle.base.proofs.Tables as tables
 use Rattle.base.proofs.Same.{same-refl, same-equal}
-use Rattle.trigger.specs.declared.Answer.{Answer}
 use Rattle.trigger.specs.declared.Trigger.{Trigger}
-use Rattle.trigger.specs.Trigger.{readOf}
 use Rattle.trigger.specs.Theorems.{nameShown, Belongs-Exactly, Read-Belongs}
 use Rattle.trigger.specs.Belongs.{isId, belongsOf}
-use Rattle.trigger.specs.Places.{Placed}
 use Rattle.trigger.proofs.Places.{all-placed}
 
 bytes-so : (a b : List ℕ) → Decides (same a b) (a ≡ b)

@@ -1,14 +1,13 @@
 -- A payload without a fault: what holds of it, and that it alone is read as a trigger.
 --   clean-reads   it is read as the trigger that its fields say
 --   reads-clean   what is read as a trigger is clean, and the trigger is that one
-use mathlib.Core.Path.{_≡_, refl, sym, ap, subst, _∙_}
-use mathlib.Core.Bool.{Bool, true, false}
+use mathlib.Core.Path.{_≡_, refl, sym, _∙_}
 use mathlib.Core.List.{List}
 use mathlib.Core.Logic.{⊎-elim}
-use Prim.Native.Nat.{ℕ, _+_, _<_, _≤_}
+use Prim.Native.Nat.{ℕ, _+_, _≤_}
 use native.Mathlib.Omega.{arith}
 use lib.ListN.{length}
-use borrow.Author.Tests.{le-ltb, eq-eqb, ne-eqb}
+use borrow.Author.Tests.{le-ltb, ne-eqb}
 use Rattle.base.specs.Bytes.{word}
 use Rattle.base.proofs.Cases.{same-or}
 use Rattle.trigger.specs.declared.Answer.{Answer}

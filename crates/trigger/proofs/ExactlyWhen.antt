@@ -2,17 +2,17 @@
 --   refused-20 .. refused-26   the number is given exactly when a row of it is so and none above it is
 --   not-refused                no number is given exactly when none is so
 --   refused-range              no other number is given
-use mathlib.Core.Path.{_≡_, refl, sym, ap, subst, _∙_}
+use mathlib.Core.Path.{_≡_, refl, subst}
 use mathlib.Core.Bool.{true}
-use mathlib.Core.List.{List, [], _∷_}
-use mathlib.Core.Logic.{_↔_, _⊎_, Iff·trans, true-and}
+use mathlib.Core.List.{List}
+use mathlib.Core.Logic.{_↔_, Iff·trans, true-and}
 use Prim.Native.Nat.{ℕ, _+_, _<_, _≤_}
 use native.Mathlib.Omega.{arith}
 use lib.Dec.{ltb}
 use lib.ListN.{length}
 use borrow.Author.Tests.{ltb-true, lt-ltb}
 use Rattle.base.specs.Bytes.{byte, word}
-use Rattle.base.specs.Tables.{Rule, _says_, None, above, said, Agree, Decides}
+use Rattle.base.specs.Tables.{said, Agree, Decides}
 use Rattle.base.proofs.Tables.{words, less, same, not-so, and-so, passed, among}
 use Rattle.base.proofs.Below.{some-found, some-which}
 use Rattle.trigger.specs.declared.Answer.{Answer}

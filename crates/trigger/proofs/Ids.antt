@@ -1,6 +1,6 @@
 -- Laws on an application id's bytes.
 --   id-outside, id-inside   whether the bytes at a place are an id, by the tests of the code
-use mathlib.Core.Path.{_≡_, refl}
+use mathlib.Core.Path.{_≡_}
 use mathlib.Core.Bool.{false}
 use mathlib.Core.List.{List}
 use Prim.Native.Nat.{ℕ, _+_, _-_, _<_, _≤_}

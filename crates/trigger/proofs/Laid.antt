@@ -1,16 +1,16 @@
 -- Laws on the layout: where its fields stand, and what is read there.
 --   byte-after, word-after, part-after      what stands behind a front part
 --   name-length .. whole-length             of each field of `laid name type target user`
-use mathlib.Core.Path.{_≡_, refl, sym, ap, _∙_}
-use mathlib.Core.List.{List, [], _∷_, _++_}
-use Prim.Native.Nat.{ℕ, _+_, _*_, _/_, _%_, _<_, _≤_}
+use mathlib.Core.Path.{_≡_, _∙_}
+use mathlib.Core.List.{List, _∷_, _++_}
+use Prim.Native.Nat.{ℕ, _+_}
 use native.Mathlib.Nat.{add-assoc}
 use native.Mathlib.Omega.{arith}
-use lib.ListN.{length, take, drop, length-append}
+use lib.ListN.{length, length-append}
 use lib.Seq.{getD-append-add, drop-append-add, take-append-seam, take-length}
 use Rattle.base.specs.Bytes.{byte, word, part}
-use Rattle.trigger_faults.specs.Fields.{idLength, targetAt, userAt}
-use Rattle.trigger.specs.Layout.{twoBytes, counted, laid}
+use Rattle.trigger_faults.specs.Fields.{idLength}
+use Rattle.trigger.specs.Layout.{counted, laid}
 
 module _ (p q : List ℕ) (k n : ℕ) (e : n ≡ length p + k) where
   pub byte-after : byte (p ++ q) n ≡ byte q k

@@ -1,8 +1,7 @@
 -- Laws on target lengths: a module has 6 bytes and a tap 2, where there are any.
-use mathlib.Core.Path.{_≡_, sym}
+use mathlib.Core.Path.{_≡_}
 use mathlib.Core.Bool.{false}
 use Prim.Native.Nat.{ℕ}
-use native.Mathlib.Omega.{arith}
 use lib.Dec.{eqb}
 use borrow.Author.Tests.{eqb-true, ne-eqb}
 use Rattle.base.proofs.Cases.{by, unlike}

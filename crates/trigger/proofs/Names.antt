@@ -3,20 +3,19 @@
 --   name-size             as many bytes
 --   name-fits             bytes say what fits
 --   name-told, id-told    the description and the id's place are those that the reader answers
-use mathlib.Core.Path.{_≡_, refl, sym, ap, _∙_}
+use mathlib.Core.Path.{_≡_, refl, sym}
 use mathlib.Core.List.{List, [], _∷_, _++_}
-use Prim.Native.Nat.{ℕ, _+_, _-_, _*_, _/_, _%_, _<_, _≤_}
+use Prim.Native.Nat.{ℕ, _+_, _*_, _/_, _%_, _≤_}
 use native.Mathlib.Omega.{arith}
 use lib.Dec.{eqb}
-use lib.ListN.{length, drop, length-drop}
+use lib.ListN.{length, length-drop}
 use lib.Seq.{getD-drop}
-use borrow.Author.Tests.{eq-eqb, ne-eqb, eqb-true, eqb-false}
-use Rattle.base.specs.Bytes.{byte, word, part}
+use borrow.Author.Tests.{ne-eqb, eqb-false}
 use Rattle.base.specs.Octets.{Octets}
 use Rattle.base.proofs.Cases.{by}
 use Rattle.base.proofs.Bytes.{word-high, word-low, word-fits, word-part, length-part}
 use Rattle.trigger_faults.specs.Fields.{idLength}
-use Rattle.trigger.specs.Trigger.{descriptionOf, idOf, extent}
+use Rattle.trigger.specs.Trigger.{descriptionOf, idOf}
 use Rattle.trigger.specs.Layout.{Application, nameBytes, FitName, twoBytes, descriptionIn, idIn}
 use Rattle.trigger.specs.Message.{nameFrom, nameIn}
 

@@ -1,18 +1,13 @@
 -- Places are true: they lie in the payload, apart and in order, and what stands there is what the trigger says.
 --   all-placed                           of every trigger that is read
 --   id-shown, target-shown, user-shown   the bytes at the places
-use mathlib.Core.Path.{_≡_, refl, sym, ap, subst, _∙_}
-use mathlib.Core.List.{List, [], _∷_, _++_}
-use Prim.Native.Nat.{ℕ, _+_, _<_, _≤_}
+use mathlib.Core.Path.{sym, subst}
+use mathlib.Core.List.{List, _∷_, _++_}
+use Prim.Native.Nat.{ℕ, _+_, _≤_}
 use native.Mathlib.Omega.{arith}
 use lib.ListN.{length}
 use lib.Seq.{take-append-seam}
-use Rattle.base.specs.Bytes.{part}
-use Rattle.base.specs.Octets.{Octets}
-use Rattle.trigger.specs.declared.Answer.{Answer}
-use Rattle.trigger.specs.declared.Trigger.{Trigger}
-use Rattle.trigger.specs.Trigger.{readOf}
-use Rattle.trigger.specs.Layout.{Application, Aim, Message, nameBytes, aimType, aimBytes, idIn, targetIn, laid, counted, bytesOf, answerOf}
+use Rattle.trigger.specs.Layout.{Application, Aim, Message, nameBytes, aimType, aimBytes, idIn, targetIn, counted, bytesOf, answerOf}
 use Rattle.trigger.specs.Theorems.{aimed, ended, Target-Shown, User-Shown, Id-Shown, All-Placed}
 use Rattle.trigger.specs.Message.{messageOf}
 use Rattle.trigger.specs.Places.{Lies, TargetLies, Placed}

@@ -3,22 +3,20 @@
 --   read-bytes               what is read as a trigger is the bytes of one that fits, and the answer is that one's
 --   bytes-say, one-message   the bytes of a trigger say it and no other
 --   exactly                  both directions in one statement
-use mathlib.Core.Path.{_≡_, refl, sym, ap, subst, _∙_}
-use mathlib.Core.Bool.{Bool, true, false, _&&_}
-use mathlib.Core.List.{List, [], _∷_, _++_}
-use mathlib.Core.Logic.{_↔_}
-use Prim.Native.Nat.{ℕ, _+_, _<_, _≤_}
+use mathlib.Core.Path.{_≡_, refl, sym, ap, _∙_}
+use mathlib.Core.Bool.{false, _&&_}
+use mathlib.Core.List.{List}
+use Prim.Native.Nat.{ℕ, _+_, _≤_}
 use native.Mathlib.Omega.{arith}
 use lib.ListN.{length}
-use Rattle.base.specs.Bytes.{byte, word, part}
+use Rattle.base.specs.Bytes.{byte, word}
 use Rattle.base.specs.Octets.{Octets}
 use Rattle.base.proofs.Bytes.{length-part, octets-part}
 use Rattle.trigger.specs.declared.Answer.{Answer}
 use Rattle.trigger.specs.declared.Trigger.{Trigger}
-use Rattle.trigger_faults.specs.Fields.{wrongLength, isUri, someHigh, idLength, targetAt, userAt}
+use Rattle.trigger_faults.specs.Fields.{wrongLength, isUri, idLength, targetAt, userAt}
 use Rattle.trigger.specs.Trigger.{targetOf, triggerOf, readOf}
 use Rattle.trigger.specs.Layout.{Application, Message, Fit, nameBytes, aimType, aimBytes, laid, bytesOf, answerOf}
-use Rattle.trigger_faults.proofs.Exits.{Head, Aimed, Ended}
 use Rattle.trigger.specs.Theorems.{Bytes-Say, Bytes-Read, One-Message, Read-Bytes, Exactly}
 use Rattle.trigger.specs.Message.{nameFrom, aimFrom, nameIn, targetBytesIn, userIn, messageOf}
 use Rattle.trigger.proofs.Laid.{name-length, name-part, type-byte, target-length, target-part, user-length, user-part, whole-length}

@@ -1,14 +1,14 @@
 -- The law of tables in which a number may stand more than once: it is given exactly when a row of it holds and none above does.
 --   given-so       of an answer that is read off a table
 --   given-alone    of a number that stands once: its row holds, and no row above it does
-use mathlib.Core.Path.{_≡_, refl, sym, ap, _∙_}
-use mathlib.Core.Bool.{Bool, true, false, not, _&&_}
+use mathlib.Core.Path.{_≡_, sym, ap, _∙_}
+use mathlib.Core.Bool.{true, not}
 use mathlib.Core.List.{List, [], _∷_}
-use mathlib.Core.Logic.{_↔_, _⊎_, ⊎-elim, inl, inr}
+use mathlib.Core.Logic.{_↔_, ⊎-elim, inl, inr}
 use Prim.Native.Nat.{ℕ}
 use lib.Dec.{eqb}
 use borrow.Author.Tests.{eqb-true, eqb-false}
-use Rattle.base.specs.Choice.{Row, first, if_then_else_}
+use Rattle.base.specs.Choice.{Row, first}
 use Rattle.base.specs.Tables.{Rule, None, above, said, Agree}
 use Rattle.base.proofs.Tables.{number-first, denied}
 use Rattle.base.proofs.Cases.{by, unlike, and-left, and-right}

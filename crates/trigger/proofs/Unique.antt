@@ -1,7 +1,7 @@
 -- Two answers that keep a promise are equal.
 --   one-reading      of `trigger::read_trigger`
 --   one-belonging    of `trigger::belongs`
-use mathlib.Core.Path.{_≡_, sym, _∙_}
+use mathlib.Core.Path.{sym, _∙_}
 use mathlib.Core.List.{List}
 use Prim.Native.Nat.{ℕ}
 use Rattle.trigger.specs.declared.Trigger.{Trigger}

@@ -3,18 +3,17 @@
 --   unrolls       a length, the bytes under it, and the rest
 --   clean-laid    the whole payload
 use mathlib.Core.Path.{_≡_, refl, sym, ap, _∙_}
-use mathlib.Core.List.{List, [], _∷_, _++_, append-nil}
-use Prim.Native.Nat.{ℕ, suc, _+_, _/_, _%_, _<_, _≤_}
+use mathlib.Core.List.{List, _∷_, _++_, append-nil}
+use Prim.Native.Nat.{ℕ, _+_, _<_, _≤_}
 use native.Mathlib.Numerals.{add-one}
 use native.Mathlib.Omega.{arith}
-use lib.ListN.{length, take, drop, take-append-drop}
+use lib.ListN.{length, drop, take-append-drop}
 use lib.Seq.{drop-cons, drop-drop, drop-length}
 use Rattle.base.specs.Bytes.{byte, word, part}
 use Rattle.base.specs.Octets.{Octets}
 use Rattle.base.proofs.Bytes.{word-high, word-low, length-part}
-use Rattle.trigger_faults.specs.Fields.{idLength, targetAt, userAt}
+use Rattle.trigger_faults.specs.Fields.{targetAt, userAt}
 use Rattle.trigger.specs.Layout.{twoBytes, counted, laid}
-use Rattle.trigger_faults.proofs.Exits.{Head, Aimed, Ended}
 use Rattle.trigger.specs.Message.{nameIn, targetBytesIn, userIn}
 use Rattle.trigger.proofs.Clean.{Clean}
 

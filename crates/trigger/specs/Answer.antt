@@ -7,7 +7,6 @@ use lib.ListN.{getD}
 use Rattle.base.specs.Choice.{if_then_else_}
 use Rattle.answers.specs.Answers.{Told, told}
 use Rattle.trigger.specs.Trigger.{extent, readOf}
-use Rattle.trigger.specs.declared.Extent.{Extent}
 use Rattle.trigger.specs.declared.Module.{Module}
 use Rattle.trigger.specs.declared.Reserved.{Reserved}
 use Rattle.trigger.specs.declared.Target.{Target}

@@ -6,7 +6,6 @@ use mathlib.Core.Bool.{Bool, _&&_, _||_}
 use lib.ListN.{length}
 use lib.Dec.{leb, eqb}
 use Rattle.base.specs.Bytes.{part, same}
-use Rattle.trigger.specs.declared.Extent.{Extent}
 use Rattle.trigger.specs.declared.Trigger.{Trigger}
 
 -- the n bytes from a place lie in the payload, and are an id

@@ -3,12 +3,10 @@
 --   aim-numbers                          a target's five numbers, in the code's struct
 --   lent-refused, lent-short, lent-put   each way out of a call
 use mathlib.Core.Path.{_≡_, refl, sym, ap, subst, _∙_}
-use mathlib.Core.Bool.{Bool, true, false}
 use mathlib.Core.List.{List, [], _∷_, _++_}
-use mathlib.Core.Logic.{_↔_}
 use Prim.Native.Nat.{ℕ, _<_, _≤_}
 use native.Mathlib.Omega.{arith}
-use lib.Dec.{ltb, eqb}
+use lib.Dec.{ltb}
 use lib.ListN.{length, drop}
 use borrow.Author.Tests.{lt-ltb, le-ltb, ne-eqb, ltb-true, ltb-false}
 use Rattle.base.proofs.Cases.{by}
@@ -23,7 +21,6 @@ use Rattle.trigger.proofs.Answers.{numbers-back}
 use Rattle.trigger.proofs.ExactlyWhen.{refused-range}
 use Rattle.trigger_answers.specs.Aim.{aimOf}
 use Rattle.trigger_answers.specs.Lent.{triggerLent, Read-Untouched, Read-Accepted, Read-Comes-Back, By-Its-Numbers}
-use Rattle.trigger_answers.specs.declared.Aim.{Aim}
 
 pub aim-numbers : (t : Target) → targetNumbers t ≡ aimOf t .kind ∷ aimOf t .of ∷ aimOf t .first ∷ aimOf t .second ∷ aimOf t .third ∷ []
 aim-numbers Target.None = refl

@@ -2,12 +2,11 @@
 --   narrow       of every trigger that is read
 use mathlib.Core.Path.{_≡_}
 use mathlib.Core.List.{List}
-use Prim.Native.Nat.{ℕ, _+_, _<_, _≤_}
+use Prim.Native.Nat.{ℕ, _+_, _≤_}
 use native.Mathlib.Omega.{arith}
 use lib.ListN.{length}
 use Rattle.base.specs.Octets.{Octets}
 use Rattle.trigger.specs.declared.Answer.{Answer}
-use Rattle.trigger.specs.declared.Extent.{Extent}
 use Rattle.trigger.specs.declared.Target.{Target}
 use Rattle.trigger.specs.declared.Trigger.{Trigger}
 use Rattle.trigger.specs.Trigger.{readOf}

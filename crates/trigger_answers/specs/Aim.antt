@@ -1,6 +1,5 @@
 -- How the code goes about a trigger's eleven numbers: a target's five in a struct, and places that fit 16 bits.
 use Prim.Native.Nat.{ℕ, _<_}
-use mathlib.Core.List.{List, [], _∷_}
 use Rattle.trigger.specs.declared.Extent.{Extent}
 use Rattle.trigger.specs.declared.Target.{Target}
 use Rattle.trigger.specs.declared.Trigger.{Trigger}

@@ -1,11 +1,9 @@
 -- How the boundary answers the reading of a trigger: a number of refusal or 0, and the trigger's eleven numbers in a lent buffer.
 use Prim.Native.Nat.{ℕ, _≤_}
 use mathlib.Core.Path.{_≡_}
-use mathlib.Core.Bool.{Bool}
 use mathlib.Core.List.{List}
 use mathlib.Core.Logic.{_↔_}
 use lib.ListN.{length}
-use Rattle.base.specs.Octets.{Octets}
 use Rattle.answers.specs.Answers.{Out, puts}
 use Rattle.trigger.specs.declared.Target.{Target}
 use Rattle.trigger.specs.declared.Trigger.{Trigger}

@@ -4,13 +4,12 @@
 --   refused-so, parted                          what the answer of `parts_of` says
 --   placed                                      what is answered where no part has a fault
 use mathlib.Core.Path.{_≡_, refl, sym, ap, _∙_}
-use mathlib.Core.Bool.{Bool, true, false, _&&_}
+use mathlib.Core.Bool.{false, _&&_}
 use mathlib.Core.List.{List, [], _∷_, _++_}
-use Prim.Native.Nat.{ℕ, _+_, _<_, _≤_}
+use Prim.Native.Nat.{ℕ, _+_, _≤_}
 use native.Mathlib.Omega.{arith}
 use lib.ListN.{length}
-use lib.Dec.{eqb}
-use borrow.Author.Tests.{ltb-true, ltb-false, eqb-true, eqb-false, not-false}
+use borrow.Author.Tests.{ltb-false, eqb-true, eqb-false, not-false}
 use Rattle.base.specs.Choice.{Row, first}
 use Rattle.base.proofs.Cases.{by}
 use Rattle.base.specs.Bytes.{byte, word}

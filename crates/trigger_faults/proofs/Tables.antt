@@ -7,10 +7,8 @@ use mathlib.Core.Path.{_≡_, refl, sym, ap, _∙_}
 use mathlib.Core.Bool.{Bool, true, false, not, _&&_}
 use mathlib.Core.List.{List, [], _∷_, _++_}
 use Prim.Native.Nat.{ℕ}
-use native.Mathlib.Omega.{arith}
 use lib.Dec.{eqb}
-use borrow.Author.Tests.{eqb-false}
-use Rattle.base.specs.Choice.{Row, first, if_then_else_}
+use Rattle.base.specs.Choice.{Row, first}
 use Rattle.base.proofs.Cases.{by, unlike, and-left, and-right}
 use Rattle.trigger_faults.specs.Parts.{faultOf}
 

@@ -1,10 +1,10 @@
 -- The number and the values of the parts lose nothing.
 --   parts-told
 use mathlib.Core.Path.{_≡_, sym, ap}
-use mathlib.Core.List.{List, [], _∷_}
+use mathlib.Core.List.{[], _∷_}
 use Rattle.answers.specs.Answers.{Told}
 use Rattle.answers.proofs.Same.{valueless}
-use Rattle.trigger_faults.specs.Parts.{partsTold, Parts-Told}
+use Rattle.trigger_faults.specs.Parts.{Parts-Told}
 use Rattle.trigger_faults.specs.declared.Parts.{Parts}
 
 pub parts-told : Parts-Told

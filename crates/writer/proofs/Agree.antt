@@ -1,24 +1,21 @@
 -- Sections written and read agree.
 --   reads-back    a written section is read as its label, its number, the last number and its part of the body
 --   writes-back   a sound section whose reserved bits are 1 is laid out as its own fields are
-use mathlib.Core.Path.{_≡_, refl, sym, ap, _∙_}
-use mathlib.Core.List.{List, [], _∷_, _++_}
+use mathlib.Core.Path.{_≡_, ap, _∙_}
+use mathlib.Core.List.{List, _∷_}
 use mathlib.Core.Logic.{inl, inr, ⊎-elim}
-use Prim.Native.Nat.{ℕ, _+_, _-_, _*_, _/_, _%_, _<_, _≤_}
+use Prim.Native.Nat.{ℕ, _+_, _-_, _*_, _/_, _%_, _≤_}
 use native.Mathlib.Omega.{arith}
-use lib.ListN.{length, drop, length-append, length-drop}
+use lib.ListN.{length, drop, length-drop}
 use lib.Seq.{drop-cons}
-use borrow.Author.Tests.{le-ltb, lt-ltb, eq-eqb, ne-eqb}
 use Rattle.base.specs.Bytes.{byte}
-use Rattle.base.specs.Octets.{Octets}
-use Rattle.section.specs.Section.{readOf, headerOf}
-use Rattle.section.specs.declared.Header.{Header}
+use Rattle.section.specs.Section.{readOf}
 use Rattle.section.specs.declared.Reading.the-variants.{Sound}
-use Rattle.section.proofs.Laws.{SoundFacts, sound-facts}
+use Rattle.section.proofs.Laws.{sound-facts}
 use Rattle.section.proofs.ExactlyWhen.{sound}
 use Rattle.writer.specs.Writer.{full, longestBody, lastOf, bodyAt, sectionOf, written}
 pub use Rattle.writer.specs.Theorems.{found}
-use Rattle.writer.specs.Theorems.{Reads-Back, ReservedOnes, labelIn, Writes-Back}
+use Rattle.writer.specs.Theorems.{Reads-Back, Writes-Back}
 use Rattle.writer.specs.declared.Label.{Label}
 use Rattle.writer.proofs.Laws.{last-le, length-body, ends-within, starts-within, length-section}
 

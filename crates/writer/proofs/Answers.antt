@@ -2,14 +2,14 @@
 --   count-comes-back, count-accepted    of how many sections there are
 --   section-comes-back, section-fills   of a section
 --   count-told, write-told              what the writer promised, told in these numbers
-use mathlib.Core.Path.{_≡_, refl, sym, ap, _∙_}
-use mathlib.Core.List.{List, [], _∷_}
-use Prim.Native.Nat.{ℕ, _+_, _*_, _/_, _%_, _^_, _<_, _≤_}
+use mathlib.Core.Path.{_≡_, refl, ap, _∙_}
+use mathlib.Core.List.{List}
+use Prim.Native.Nat.{ℕ, _+_, _*_, _%_, _^_, _≤_}
 use native.Mathlib.Omega.{arith}
 use lib.ListN.{length, take, drop, length-append, length-take}
-use borrow.Author.Tests.{eq-eqb, ne-eqb, ltb-true, ltb-false}
+use borrow.Author.Tests.{eq-eqb}
 use Rattle.base.proofs.Tables.{among}
-use Rattle.answers.specs.Answers.{out, refusalIn, sizeCode, Fills, filled}
+use Rattle.answers.specs.Answers.{out, refusalIn}
 use Rattle.answers.proofs.Fills.{size-back, through, fills}
 use Rattle.writer.specs.Writer.{full, lastOf, bodyAt, sectionOf, written, uncounted, countOf, Write, write, unwritten, refuse, placed, writeOf}
 use Rattle.writer.specs.Answer.{countedCode, countedIn, countLent, writtenCode, writtenIn, writeOut, sectionLent, Count-Comes-Back, Count-Accepted, Section-Comes-Back, Section-Fills}

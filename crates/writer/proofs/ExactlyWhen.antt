@@ -2,13 +2,12 @@
 -- (`specs/Theorems.antt` has the words).
 --   count-40, count-answered                       the count of sections
 --   write-exactly, write-none, write-answered      a section
-use mathlib.Core.Path.{_≡_, refl}
+use mathlib.Core.Path.{refl}
 use mathlib.Core.List.{List, [], _∷_}
-use mathlib.Core.Logic.{_↔_, Iff·trans, true-and}
-use Prim.Native.Nat.{ℕ, _+_, _%_, _^_, _<_}
+use mathlib.Core.Logic.{Iff·trans, true-and}
+use Prim.Native.Nat.{ℕ, _+_}
 use native.Mathlib.Omega.{arith}
-use lib.ListN.{length}
-use Rattle.base.specs.Tables.{Rule, _says_, None, above, said, Agree}
+use Rattle.base.specs.Tables.{_says_, said, Agree}
 use Rattle.base.proofs.Tables.{words, given, number-first, silent}
 use Rattle.answers.proofs.Fills.{zero-exactly}
 use Rattle.writer.specs.Writer.{lastOf, written, uncounted, countOf, Write, unwritten, refuse, placed, writeOf}

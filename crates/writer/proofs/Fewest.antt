@@ -2,14 +2,13 @@
 --   all-full      every body but the last is full
 --   bodies-join   the bodies of all the sections, joined, are the given body
 --   fewest        no list of bodies of at most 1,016 bytes that joins to the given body has fewer members
-use mathlib.Core.Path.{_≡_, refl, sym, ap, subst, _∙_}
+use mathlib.Core.Path.{_≡_, refl, sym, ap, _∙_}
 use mathlib.Core.List.{List, [], _∷_, _++_, append-nil}
-use Prim.Native.Nat.{ℕ, zero, suc, _+_, _-_, _*_, _/_, _<_, _≤_}
-use native.Mathlib.Numerals.{add-one}
+use Prim.Native.Nat.{ℕ, zero, suc, _+_, _-_, _*_, _/_, _≤_}
 use native.Mathlib.Omega.{arith}
 use lib.ListN.{length, take, drop, length-append, length-drop, drop-of-length-le, take-append-drop}
-use lib.Seq.{length-take-le, take-add, drop-drop}
-use Rattle.writer.specs.Writer.{full, longestBody, lastOf, bodyAt}
+use lib.Seq.{length-take-le, take-add}
+use Rattle.writer.specs.Writer.{full, lastOf, bodyAt}
 pub use Rattle.writer.specs.Theorems.{firstBodies}
 use Rattle.writer.specs.Theorems.{joined, EachAtMost, All-Full, Bodies-Join, Fewest}
 

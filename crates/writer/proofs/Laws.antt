@@ -7,20 +7,17 @@
 --   joined         a header and a body, written one after the other
 --   length-body, length-section   the sizes of a section's body and of a section
 --   write-15, write-done          the last two answers of a write
-use mathlib.Core.Path.{_≡_, refl, sym, ap, _∙_}
-use mathlib.Core.Bool.{Bool, true, false}
-use mathlib.Core.List.{List, [], _∷_, _++_, append-nil}
-use Prim.Native.Nat.{ℕ, _+_, _-_, _*_, _/_, _<_, _≤_}
+use mathlib.Core.Path.{_≡_, sym, ap, _∙_}
+use mathlib.Core.List.{List, _++_, append-nil}
+use Prim.Native.Nat.{ℕ, _+_, _-_, _*_, _<_, _≤_}
 use native.Mathlib.Omega.{arith}
 use lib.Dec.{ltb}
-use lib.ListN.{length, take, drop, length-append, length-take, length-drop, drop-of-length-le, take-append-drop}
+use lib.ListN.{length, take, drop, length-append, length-drop, drop-of-length-le, take-append-drop}
 use lib.Seq.{take-length, drop-length, take-at, drop-at, length-take-le}
 use borrow.Rule.Slice.PartMut.{midOf, putMid}
 use borrow.Author.Tests.{ltb-true, ltb-false, le-ltb, lt-ltb}
-use Rattle.base.specs.Choice.{if_then_else_}
-use Rattle.base.specs.Bytes.{part}
-use Rattle.base.proofs.Cases.{by, either}
-use Rattle.writer.specs.Writer.{full, longestBody, lastOf, endOf, bodyAt, sectionOf, headerOf, written, Write, write, writeOf}
+use Rattle.base.proofs.Cases.{by}
+use Rattle.writer.specs.Writer.{full, longestBody, lastOf, endOf, bodyAt, sectionOf, headerOf, written, write, writeOf}
 use Rattle.writer.specs.declared.Written.{Written}
 use Rattle.writer.specs.declared.Label.{Label}
 

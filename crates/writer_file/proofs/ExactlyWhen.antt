@@ -1,13 +1,12 @@
 -- "Given exactly when": 40, 41 and 15, in their order, and what is left where none of them is so (`specs/Theorems.antt` has the words).
 --   feed-exactly, feed-none, feed-answered
 --   fed-largest         the file has at most 16,418 bytes
-use mathlib.Core.Path.{_≡_, refl}
-use mathlib.Core.List.{List, [], _∷_}
-use mathlib.Core.Logic.{_↔_}
-use Prim.Native.Nat.{ℕ, _%_, _^_, _<_, _≤_}
+use mathlib.Core.Path.{refl}
+use mathlib.Core.List.{List}
+use Prim.Native.Nat.{ℕ}
 use native.Mathlib.Omega.{arith}
 use lib.ListN.{length}
-use Rattle.base.specs.Tables.{Rule, _says_, None, above, said, Agree}
+use Rattle.base.specs.Tables.{said, Agree}
 use Rattle.base.proofs.Tables.{words, given, number-first, silent}
 use Rattle.answers.proofs.Fills.{zero-exactly}
 use Rattle.writer.specs.declared.Label.{Label}

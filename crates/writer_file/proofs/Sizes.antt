@@ -7,23 +7,22 @@
 --   front-size, file-size, file-small      its size, and that of the file, which is at most 16,418
 --   entry-room                 there is room for the next section
 use mathlib.Core.Path.{_≡_, refl, sym, ap, subst, _∙_}
-use mathlib.Core.Bool.{true, false}
 use mathlib.Core.List.{List, [], _∷_, _++_, append-assoc}
-use Prim.Native.Nat.{ℕ, zero, suc, _+_, _-_, _*_, _/_, _<_, _≤_}
+use Prim.Native.Nat.{ℕ, zero, suc, _+_, _-_, _*_, _<_, _≤_}
 use native.Mathlib.Omega.{arith}
 use native.Mathlib.Numerals.{add-one}
 use lib.Dec.{ltb}
-use lib.ListN.{length, drop, length-append}
+use lib.ListN.{length, length-append}
 use borrow.Author.Tests.{lt-ltb, le-ltb, ltb-true, ltb-false}
 use mathlib.Core.Logic.{⊎-elim}
 use Rattle.base.proofs.Cases.{by, same-or}
-use Rattle.file_number.specs.Number.{spelling, spelt}
+use Rattle.file_number.specs.Number.{spelt}
 use Rattle.file_number.proofs.Spelling.{spelt-1, spelt-2}
-use Rattle.file.specs.Layout.{form, listed, fileOf}
-use Rattle.writer.specs.Writer.{full, longestBody, lastOf, endOf, bodyAt, sectionOf, written}
+use Rattle.file.specs.Layout.{listed, fileOf}
+use Rattle.writer.specs.Writer.{full, longestBody, lastOf, endOf, bodyAt, written}
 use Rattle.writer.specs.declared.Label.{Label}
 use Rattle.writer.proofs.Laws.{last-le, starts-within, ends-within, length-body, length-section}
-use Rattle.writer_file.specs.Feeding.{sectionsBelow, sectionsOf, feedFile}
+use Rattle.writer_file.specs.Feeding.{sectionsBelow, feedFile}
 use Rattle.writer_file.specs.Sizes.{sizeAt, entrySize, fileSize, frontOf}
 use Rattle.writer_file.proofs.Laws.{listed-one-more}
 

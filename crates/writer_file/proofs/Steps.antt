@@ -3,7 +3,7 @@
 --   starts, not-unspelt        the length is written
 --   counts, not-unwritten      and the section after it
 --   one-written                what the buffer then is
-use mathlib.Core.Path.{_≡_, refl, sym, ap, _∙_}
+use mathlib.Core.Path.{_≡_, sym, ap, _∙_}
 use mathlib.Core.List.{List, _++_}
 use Prim.Native.Nat.{ℕ, _+_, _-_, _≤_}
 use native.Mathlib.Omega.{arith}

@@ -2,21 +2,20 @@
 --   file-comes-back, file-fills
 --   feed-told        what feeding promised, told in this number
 use mathlib.Core.Path.{_≡_, refl, ap, _∙_}
-use mathlib.Core.Bool.{Bool, true, false}
 use mathlib.Core.List.{List, [], _∷_}
 use Prim.Native.Nat.{ℕ, _^_, _<_, _≤_}
 use native.Mathlib.Omega.{arith}
 use lib.Dec.{ltb}
 use lib.ListN.{length}
 use borrow.Author.Tests.{ltb-false}
-use Rattle.base.specs.Choice.{first, _if_}
+use Rattle.base.specs.Choice.{_if_}
 use Rattle.base.proofs.Cases.{by}
 use Rattle.base.proofs.Tables.{among}
-use Rattle.answers.specs.Answers.{out, Fills, filled}
+use Rattle.answers.specs.Answers.{out}
 use Rattle.answers.proofs.Fills.{size-back, through, fills, refused-fills}
 use Rattle.writer.specs.Writer.{longestBody}
 use Rattle.writer.specs.declared.Label.{Label}
-use Rattle.writer_file.specs.Feeding.{feedFile, Feed, feed, unfed, refuse, placed, feedOf}
+use Rattle.writer_file.specs.Feeding.{feedFile, Feed, feed, refuse, placed, feedOf}
 use Rattle.writer_file.specs.Answer.{fedCode, fedIn, feedOut, fileLent, File-Comes-Back, File-Fills}
 use Rattle.writer_file.specs.declared.Fed.{Fed}
 use Rattle.writer_file.proofs.ExactlyWhen.{fed-largest}

@@ -1,6 +1,6 @@
 -- What the steps of feeding come to: how many bytes a section and the file take, from the body's length alone.
 use Prim.Native.Nat.{ℕ, _+_, _-_, _*_}
-use mathlib.Core.List.{List, [], _∷_, _++_}
+use mathlib.Core.List.{List, _++_}
 use lib.ListN.{length}
 use Rattle.file_number.specs.Number.{spelt}
 use Rattle.file.specs.Layout.{form, longest, listed}

@@ -1,12 +1,11 @@
 -- The longest listing is as long as is said of it.
 --   longest-list   the file of sixteen full sections has a list of 390 bytes
-use mathlib.Core.Path.{_≡_, refl, sym, ap, _∙_}
-use mathlib.Core.List.{List, [], _∷_, _++_}
-use Prim.Native.Nat.{ℕ, zero, suc, _+_, _-_, _*_, _/_, _<_, _≤_}
+use mathlib.Core.Path.{_≡_, refl, ap, _∙_}
+use mathlib.Core.List.{List, _++_}
+use Prim.Native.Nat.{ℕ, zero, suc, _+_, _*_, _<_}
 use native.Mathlib.Omega.{arith}
 use lib.ListN.{length, take, drop, replicate, length-replicate, length-drop}
 use lib.Seq.{length-take-le}
-use Rattle.section.specs.declared.Header.{Header}
 use Rattle.file_listing.specs.Words.{place, decimal, lines}
 use Rattle.file_listing.specs.Listing.{headLine, sectionLine, completeLine}
 use Rattle.file_listing.specs.Answer.{largestList, Longest-List}

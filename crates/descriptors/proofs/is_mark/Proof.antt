@@ -1,9 +1,7 @@
 -- `descriptors::is_mark` meets its contract: what the loop has gathered is what holds of every place passed. Assumes nothing.
 use borrow.Author.Needs.{needs}
-use native.Mathlib.Omega.{arith}
-use mathlib.Core.Path.{_≡_, sym, ap, _∙_}
-use Prim.Native.Nat.{ℕ, _+_, _-_, _≤_}
-use lib.ListN.{length}
+use mathlib.Core.Path.{_≡_, sym}
+use Prim.Native.Nat.{_+_, _-_, _≤_}
 use Rattle.base.specs.Bytes.{byte}
 use Rattle.base.specs.Below.{every}
 use Rattle.base.proofs.Below.{every-none}

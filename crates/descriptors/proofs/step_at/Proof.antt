@@ -1,7 +1,6 @@
 -- `descriptors::step_at` meets its contract: each return is a law on a step. Assumes nothing.
 use borrow.Author.Needs.{needs}
 use native.Mathlib.Omega.{arith}
-use mathlib.Core.Path.{_≡_, sym}
 use Prim.Native.Nat.{_+_}
 use Rattle.descriptors.proofs.Steps.{step-over, step-past, step-reads}
 use Rattle.descriptors.proofs.step_at.Statement.{statement}

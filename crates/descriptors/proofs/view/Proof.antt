@@ -1,12 +1,9 @@
 -- `descriptors::view` meets its contract: the descriptor that the step reads ends within the loop. Assumes nothing.
 use borrow.Author.Needs.{needs}
 use native.Mathlib.Omega.{arith}
-use native.Mathlib.Nat.{add-sub-cancel-left}
-use mathlib.Core.Path.{_≡_, sym, ap, _∙_}
-use Prim.Native.Nat.{ℕ, _+_, _≤_}
-use lib.ListN.{length, take, drop}
+use mathlib.Core.Path.{sym, _∙_}
 use denote.Ref.{now}
-use Rattle.descriptors.specs.Loop.{stepOf, viewOf, contentOf}
+use Rattle.descriptors.specs.Loop.{viewOf}
 use Rattle.descriptors.specs.Theorems.{Stands}
 use Rattle.descriptors.proofs.Steps.{reads-there, view-reads}
 use Rattle.descriptors.proofs.view.Statement.{statement}

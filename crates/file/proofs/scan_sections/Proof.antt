@@ -6,7 +6,6 @@ use Prim.Native.Nat.{_+_, _-_, _<_, _≤_, _^_}
 use native.Mathlib.Omega.{arith}
 use lib.ListN.{length, set, length-set}
 use borrow.Author.Needs.{needs}
-use Rattle.section.specs.declared.Header.{Header}
 use Rattle.file.specs.Scan.{Seen, nothing, firstOf, sectionAt, sectionsOf}
 use Rattle.file.specs.declared.Part.{Part}
 use Rattle.file.proofs.Found.{found, sound-number}

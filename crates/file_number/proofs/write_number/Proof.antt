@@ -1,6 +1,6 @@
 -- `file_number::write_number` meets its promise: the groups that were put stand at the front of the output.
 use native.Mathlib.Omega.{arith}
-use lib.ListN.{length-set, length}
+use lib.ListN.{length-set}
 use borrow.Author.Needs.{needs}
 use Rattle.file_number.proofs.Writing.{small-1, small-2, small-3, put-1, put-2, put-3}
 use Rattle.file_number.proofs.write_number.Statement.{statement}

@@ -1,7 +1,6 @@
 -- `shelf_ask::complete` meets its promise.
-use mathlib.Core.Path.{_≡_, sym, ap, _∙_}
+use mathlib.Core.Path.{sym, _∙_}
 use Rattle.base.proofs.Tests.{told}
-use native.Mathlib.Omega.{arith}
 use Rattle.shelf_ask.proofs.Held.{whole-refused, whole-lacks, whole-complete}
 use Rattle.shelf_ask.proofs.Numbers.{last-read, last-low, gap-read}
 use borrow.Author.Needs.{needs}

@@ -1,5 +1,5 @@
 -- `shelf_ask::copy_section` meets its promise.
-use mathlib.Core.Path.{_≡_, sym, ap, _∙_}
+use mathlib.Core.Path.{sym, ap, _∙_}
 use Rattle.base.proofs.Tests.{told}
 use Rattle.shelf_ask.proofs.Held.{copy-refused, copy-16, copy-15, copy-done}
 use Rattle.shelf_ask.proofs.Numbers.{length-read, length-past}

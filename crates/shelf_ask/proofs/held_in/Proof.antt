@@ -1,5 +1,5 @@
 -- `shelf_ask::held_in` meets its promise.
-use mathlib.Core.Path.{_≡_, sym, ap, _∙_}
+use mathlib.Core.Path.{sym}
 use Rattle.base.proofs.Tests.{told}
 use Rattle.shelf_ask.proofs.Held.{in-17, in-18, in-14, in-place}
 use Rattle.shelf_ask.proofs.Numbers.{place-read}

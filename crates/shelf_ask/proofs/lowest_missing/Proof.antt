@@ -1,5 +1,5 @@
 -- `shelf_ask::lowest_missing` meets its promise.
-use mathlib.Core.Path.{_≡_, sym, ap, _∙_}
+use mathlib.Core.Path.{sym, _∙_}
 use Rattle.base.proofs.Tests.{told}
 use native.Mathlib.Omega.{arith}
 use Rattle.shelf_ask.proofs.Held.{missing-refused, missing-lowest, missing-nothing}

@@ -1,5 +1,5 @@
 -- `shelf_begin::begin_code` meets its promise: case by case.
-use mathlib.Core.Path.{sym, ap, _∙_}
+use mathlib.Core.Path.{sym, ap}
 use Rattle.shelf_begin.proofs.Told.{told}
 use Rattle.shelf_begin.specs.Answer.{begunCode}
 use borrow.Author.Needs.{needs}

@@ -1,6 +1,4 @@
 -- `shelf_load::lies` meets its promise: by its three tests.
-use native.Mathlib.Omega.{arith}
-use borrow.Author.Needs.{needs}
 use Rattle.shelf_load.proofs.Laws.{no-section, starts-past, ends-within}
 use Rattle.shelf_load.proofs.lies.Statement.{statement}
 use Rattle.shelf_load.proofs.lies.Tie as tie

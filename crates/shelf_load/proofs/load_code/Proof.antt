@@ -1,5 +1,5 @@
 -- `shelf_load::load_code` meets its promise: case by case.
-use mathlib.Core.Path.{sym, ap, _∙_}
+use mathlib.Core.Path.{sym, ap}
 use Rattle.shelf_load.proofs.Told.{told}
 use Rattle.shelf_load.specs.Answer.{loadedCode}
 use borrow.Author.Needs.{needs}

@@ -1,8 +1,8 @@
 -- `shelf_offer::carried` meets its promise: 18, a section more, a table begun, or a refused reading's own number.
 use borrow.Author.Tests.{eqb-true}
-use mathlib.Core.Path.{_≡_, sym, _∙_}
+use mathlib.Core.Path.{sym, _∙_}
 use Rattle.base.proofs.Tests.{told}
-use Rattle.section.proofs.Laws.{SoundFacts, sound-facts}
+use Rattle.section.proofs.Laws.{sound-facts}
 use Rattle.shelf_offer.proofs.Steps.{step-refused}
 use Rattle.shelf_offer.proofs.Left.{all-spoiled, refused-lent, wrote-added}
 use borrow.Author.Needs.{needs}

@@ -1,5 +1,5 @@
 -- `shelf_offer::carry_out` meets its promise: all of the payload is the payload.
-use mathlib.Core.Path.{_≡_, sym, ap, subst, _∙_}
+use mathlib.Core.Path.{ap, _∙_}
 use denote.Ref.{now}
 use Rattle.shelf_offer.specs.Answer.{offerLent}
 use Rattle.shelf_check.proofs.Whole.{all}

@@ -1,5 +1,4 @@
 -- `shelf_offer::held_step` meets its promise: each `return` is a case of the definition, by what was read in the numbers.
-use native.Mathlib.Omega.{arith}
 use mathlib.Core.Path.{_≡_, sym, _∙_}
 use denote.Ref.{now}
 use Rattle.shelf.specs.Record.{placeAt, lengthAt}

@@ -1,6 +1,6 @@
 -- `shelf_offer::offer_sound` meets its promise: the step that was found settles the offer, or is carried out.
 use native.Mathlib.Omega.{arith}
-use Rattle.section.proofs.Laws.{SoundFacts, sound-facts}
+use Rattle.section.proofs.Laws.{sound-facts}
 use Rattle.shelf_offer.proofs.Left.{settles, leads}
 use borrow.Author.Needs.{needs}
 use Rattle.shelf_offer.proofs.offer_sound.Statement.{statement}

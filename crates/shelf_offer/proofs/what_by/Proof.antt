@@ -1,7 +1,6 @@
 -- `shelf_offer::what_by` meets its promise: each case is the definition's.
-use mathlib.Core.Path.{_≡_, sym, ap, _∙_}
+use mathlib.Core.Path.{sym, ap, _∙_}
 use Prim.Native.Nat.{_+_, _*_}
-use native.Mathlib.Omega.{arith}
 use Rattle.shelf_offer.specs.Steps.{whatBy}
 use borrow.Author.Needs.{needs}
 use Rattle.shelf_offer.proofs.what_by.Statement.{statement}

@@ -1,5 +1,5 @@
 -- `shelf_release::release_code` meets its promise: case by case.
-use mathlib.Core.Path.{sym, ap, _∙_}
+use mathlib.Core.Path.{sym, ap}
 use Rattle.shelf_release.proofs.Told.{told}
 use Rattle.shelf_release.specs.Answer.{releasedCode}
 use borrow.Author.Needs.{needs}

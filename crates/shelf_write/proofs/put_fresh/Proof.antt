@@ -1,12 +1,11 @@
 -- `shelf_write::put_fresh` meets its promise: number by number.
 use borrow.Author.Needs.{needs}
 use Rattle.base.proofs.Tests.{tests}
-use mathlib.Core.Path.{_≡_, sym, _∙_}
+use mathlib.Core.Path.{_≡_}
 use Prim.Native.Nat.{_≤_, _-_}
 use native.Mathlib.Omega.{arith}
 use lib.ListN.{length, length-set}
 use borrow.Author.Tests.{eq-eqb}
-use Rattle.shelf.specs.Layout.{listed}
 use Rattle.shelf_write.specs.Writes.{freshNumber, freshWords}
 use Rattle.shelf_write.specs.Calls.{freshPut}
 use Rattle.shelf.proofs.Lists.{Filled, filled-more, filled-all}

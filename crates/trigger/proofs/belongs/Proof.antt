@@ -2,7 +2,7 @@
 use borrow.Author.Needs.{needs}
 use native.Mathlib.Omega.{arith}
 use borrow.Author.Tests.{eq-eqb, ne-eqb}
-use mathlib.Core.Path.{_≡_, _∙_}
+use mathlib.Core.Path.{_∙_}
 use Rattle.trigger.specs.Belongs.{belongsOf}
 use Rattle.trigger.proofs.Ids.{id-outside, id-inside}
 use Rattle.trigger.proofs.belongs.Statement.{statement}

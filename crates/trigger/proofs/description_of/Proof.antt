@@ -1,12 +1,8 @@
 -- `trigger::description_of` meets its contract. Assumes nothing.
-use borrow.Author.Needs.{needs}
 use native.Mathlib.Omega.{arith}
 use borrow.Author.Tests.{eq-eqb, ne-eqb}
-use mathlib.Core.Path.{_≡_, sym, _∙_}
-use Prim.Native.Nat.{_+_, _≤_}
+use mathlib.Core.Path.{sym, _∙_}
 use denote.Ref.{now}
-use lib.ListN.{length}
-use Rattle.base.specs.Bytes.{word}
 use Rattle.trigger.specs.Trigger.{descriptionOf}
 use Rattle.trigger_faults.proofs.Exits.{Head, head-sound}
 use Rattle.trigger.proofs.description_of.Statement.{statement}

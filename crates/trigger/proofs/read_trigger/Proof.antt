@@ -2,7 +2,7 @@
 -- nothing.
 use borrow.Author.Needs.{needs}
 use Rattle.base.proofs.Tests.{told}
-use Rattle.trigger_faults.proofs.Exits.{Parted, parted, refused-so, read-on}
+use Rattle.trigger_faults.proofs.Exits.{parted, refused-so, read-on}
 use Rattle.trigger.specs.Trigger.{readOf}
 use Rattle.trigger.specs.declared.Answer.{Answer}
 use Rattle.trigger.proofs.read_trigger.Statement.{statement}

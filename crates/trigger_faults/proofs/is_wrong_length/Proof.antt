@@ -1,5 +1,4 @@
 -- `trigger_faults::is_wrong_length` meets its contract: each arm fixes the type. Assumes nothing.
-use borrow.Author.Needs.{needs}
 use borrow.Author.Tests.{eq-eqb, ne-eqb}
 use Rattle.trigger_faults.specs.Fields.{wrongLength}
 use Rattle.trigger_faults.proofs.Truth.{and-none, or-none}

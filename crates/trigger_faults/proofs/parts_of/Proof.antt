@@ -1,8 +1,8 @@
 -- `trigger_faults::parts_of` meets its contract: each part's fault decides, and the places are the definition's. Assumes nothing.
 use borrow.Author.Needs.{needs}
 use native.Mathlib.Omega.{arith}
-use mathlib.Core.Path.{_≡_, sym, ap, _∙_}
-use Prim.Native.Nat.{ℕ, _+_, _≤_}
+use mathlib.Core.Path.{_≡_, sym, _∙_}
+use Prim.Native.Nat.{_+_, _≤_}
 use denote.Ref.{now}
 use lib.ListN.{length}
 use Rattle.trigger_faults.specs.Fields.{targetAt, userAt}

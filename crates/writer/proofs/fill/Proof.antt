@@ -1,11 +1,11 @@
 -- `writer::fill` meets its promise: the header and the body are written one after the other, and nothing is left over.
 use borrow.Author.Needs.{needs}
-use mathlib.Core.Path.{_≡_, sym, ap, _∙_}
+use mathlib.Core.Path.{sym, ap, _∙_}
 use mathlib.Core.List.{_++_}
 use lib.ListN.{length}
 use native.Mathlib.Omega.{arith}
 use lib.Seq.{length-take-le}
-use Rattle.writer.specs.Writer.{sectionOf, headerOf}
+use Rattle.writer.specs.Writer.{sectionOf}
 use Rattle.writer.proofs.Laws.{joined}
 use Rattle.writer.proofs.fill.Statement.{statement}
 use Rattle.writer.proofs.fill.Tie as tie

@@ -6,7 +6,7 @@ use Prim.Native.Nat.{ℕ, _≤_, _*_, _+_, _-_}
 use lib.ListN.{length, take, drop, length-drop}
 use lib.Seq.{length-take-le}
 use Rattle.base.proofs.Tests.{tests}
-use Rattle.writer.specs.Writer.{full, lastOf, endOf, bodyAt, written, writeOf}
+use Rattle.writer.specs.Writer.{full, lastOf, bodyAt, written, writeOf}
 use Rattle.writer.proofs.Laws.{last-le, starts-within, span, cut, length-body, length-section, write-15, write-done}
 use Rattle.writer.proofs.write_section.Statement.{statement}
 use Rattle.writer.proofs.write_section.Tie as tie

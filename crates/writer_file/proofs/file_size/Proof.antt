@@ -5,7 +5,7 @@ use Prim.Native.Nat.{_≤_}
 use native.Mathlib.Omega.{arith}
 use Rattle.writer.specs.Writer.{lastOf}
 use Rattle.writer.proofs.Laws.{last-le}
-use Rattle.writer_file.specs.Sizes.{sizeAt, entrySize, fileSize}
+use Rattle.writer_file.specs.Sizes.{sizeAt, entrySize}
 use Rattle.writer_file.proofs.Sizes.{entry-small}
 use Rattle.writer_file.proofs.file_size.Statement.{statement}
 use Rattle.writer_file.proofs.file_size.Tie as tie

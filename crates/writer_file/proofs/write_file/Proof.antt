@@ -1,13 +1,11 @@
 -- `writer_file::write_file` meets its promise: after each turn the front of the file stands, up to one section more.
 use borrow.Author.Needs.{needs}
-use mathlib.Core.Path.{_≡_, ap, _∙_}
-use Prim.Native.Nat.{_+_, _-_, _≤_}
+use mathlib.Core.Path.{_≡_, _∙_}
+use Prim.Native.Nat.{_-_, _≤_}
 use mathlib.Core.List.{_++_}
 use native.Mathlib.Omega.{arith}
 use lib.ListN.{length, drop, set, length-set}
-use Rattle.writer.specs.Writer.{lastOf}
-use Rattle.writer.proofs.Laws.{last-le}
-use Rattle.writer_file.specs.Sizes.{sizeAt, entrySize, frontOf}
+use Rattle.writer_file.specs.Sizes.{frontOf}
 use Rattle.writer_file.proofs.Filing.{Begun, begins-at, begins, at-inside, rest-room, next-small, next-at, next-front, ends}
 use Rattle.writer_file.proofs.write_file.Statement.{statement}
 use Rattle.writer_file.proofs.write_file.Tie as tie

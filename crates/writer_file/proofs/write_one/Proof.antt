@@ -1,8 +1,6 @@
 -- `writer_file::write_one` meets its promise: the length is written, and the section after it.
 use borrow.Author.Needs.{needs}
-use mathlib.Core.Path.{_≡_}
-use native.Mathlib.Omega.{arith}
-use Rattle.writer_file.proofs.Steps.{Room, starts, not-unspelt, starts-inside, counts, not-unwritten, one-written}
+use Rattle.writer_file.proofs.Steps.{Room, not-unspelt, starts-inside, counts, not-unwritten, one-written}
 use Rattle.writer_file.proofs.write_one.Statement.{statement}
 use Rattle.writer_file.proofs.write_one.Tie as tie
 
