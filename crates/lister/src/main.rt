@@ -5,7 +5,9 @@ use libc::STDERR_FILENO;
 use libc::STDIN_FILENO;
 use libc::STDOUT_FILENO;
 ghost use mathlib.Core.Path.{_≡_};
+ghost use Prim.Native.Nat.{_+_};
 ghost use lib.ListN.{length};
+ghost use Rattle.file.specs.Layout.{largestFile};
 ghost use Rattle.file_listing.specs.Listing.{listing, listOf};
 ghost use Rattle.file_listing.specs.Answer.{largestList};
 ghost use Rattle.lister.specs.Input.{Within};
@@ -16,8 +18,10 @@ enum Input {
     Failed,
 }
 
-// Reads until the input ends or the buffer is full. A read that fails is not the end of the input.
+// Reads until the input ends or the buffer is full, which has room for one byte more than the largest file: what was cut off at its end is
+// too long for a file. A read that fails is not the end of the input.
 fn read_input(buffer: &mut [u8]) -> Input
+    requires { ⌜ length (now buffer) ≡ largestFile + 1 ⌝ }
     ensures { λ r. ⌜ Within (length (now (buffer .exit))) r ⌝ }
 {
     let mut n = 0;
