@@ -25,8 +25,8 @@ pub record Kept (t : Moment) : Type 0 where
   -- its clock stands where the account's last move went
   pub clock : t .book .now ≡ t .account .now
   -- each accepted activation is applied exactly once or still waits: no two accepted are alike, and those applied
-  -- with those that wait are the accepted in some order. The account keeps these by itself; that the record goes with it is
-  -- `sound`, `waits`, `states` and `exact`
+  -- with those that wait are the accepted in some order. `once` the account keeps by itself, `distinct` is the record's doing; that the
+  -- record goes with the account is `sound`, `clock`, `waits`, `states` and `exact`
   pub distinct : Distinct (t .account .accepted)
   pub once : Rearranged (t .account .accepted) (t .account .applied ++ t .account .waiting)
   -- it waits only while its time is ahead of the clock
@@ -35,10 +35,10 @@ pub record Kept (t : Moment) : Type 0 where
   pub waits : waitingOf (t .book .held) ≡ t .account .waiting
   -- the states are what the account's applied ones, in their order, have made of all Released
   pub states : t .book .apps ≡ runOf (fresh .apps) (t .account .applied)
-  -- an accepted activation is for one of the applications, and is held while its memory lasts
+  -- an accepted activation is for one of the applications, and is held until its time is more than 60,000 before the clock
   pub known : All (λ a. above (a .application) ≡ false) (t .account .accepted)
   pub held : All (λ a. (isHeld a (t .book .held) ≡ true) ⊎ (past (t .book .now) (a .time) ≡ true)) (t .account .accepted)
-  -- and what is held is that and no more: the accepted ones whose memory lasts, in the order of the offers
+  -- and what is held is that and no more, in the order of the offers
   pub exact : map (λ (h : Held). h .activation) (t .book .held) ≡ stillHeld (t .account)
 
 -- offered again within its memory, with whatever action: 33, and nothing changes

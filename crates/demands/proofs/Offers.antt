@@ -1,5 +1,5 @@
 -- What a sound section is answered, proved of the functions that a host calls: the layer's law, told of lent numbers.
---   nine-exactly, began-exactly, began-again-exactly, added-exactly, repeat-exactly, ten-exactly
+--   unsound-answered, nine-exactly, began-exactly, began-again-exactly, added-exactly, repeat-exactly, ten-exactly
 use mathlib.Core.Path.{_≡_, sym, ap, subst, _∙_}
 use mathlib.Core.Logic.{_↔_}
 use mathlib.Core.List.{List}
@@ -16,7 +16,7 @@ use Rattle.shelf_laws.proofs.Ranges.{OfferRange, range}
 use Rattle.shelf_laws.proofs.Histories.{holds-all}
 use Rattle.shelf_histories.specs.History.{History, offerAfter}
 use Rattle.shelf_histories.proofs.After.{next-answer}
-use Rattle.demands.specs.Offers.{Exactly, NineExactly, BeganExactly, BeganAgainExactly, AddedExactly, RepeatExactly, TenExactly}
+use Rattle.demands.specs.Offers.{Exactly, UnsoundAnswered, NineExactly, BeganExactly, BeganAgainExactly, AddedExactly, RepeatExactly, TenExactly}
 use Rattle.demands.proofs.Shelf.{same-log}
 
 -- the answer comes back out of its number
@@ -40,6 +40,9 @@ offered-exactly a r h key payload of =
       λ e. both .0 (sym (said-back h payload) ∙ ap offeredIn (sym (told h payload) ∙ e) ∙ back a r),
       λ w. told h payload ∙ ap offeredCode (both .1 w),
     ))
+
+pub unsound-answered : UnsoundAnswered
+unsound-answered h payload n e = told h payload ∙ ap offeredCode (says.unsound-said (h .calls) payload n e)
 
 pub nine-exactly : NineExactly
 nine-exactly = offered-exactly (Offered.Refused 9) (omega arith, omega arith)

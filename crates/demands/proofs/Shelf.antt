@@ -1,17 +1,18 @@
 -- The buyer's third condition, proved of the functions that a host calls: the layer's laws, told of lent numbers.
 --   held-exactly, complete-exactly, more-reception, asked-exactly, released-exactly, never-17-18, handed-out
 use mathlib.Core.Path.{_≡_, refl, sym, ap, subst, _∙_}
-use mathlib.Core.Bool.{true}
+use mathlib.Core.Bool.{Bool, true, false}
 use mathlib.Core.Logic.{_↔_}
 use mathlib.Core.List.{List, [], _∷_}
 use Prim.Native.Nat.{ℕ, _≤_}
 use native.Mathlib.Omega.{arith}
+use Rattle.base.specs.Choice.{if_then_else_}
 use Rattle.section.specs.Section.{sectionNumber}
 use Rattle.shelf.specs.declared.Key.{Key}
 use Rattle.shelf_offer.specs.declared.Offered.{Offered}
 use Rattle.shelf_ask.specs.declared.Whole.{Whole}
 use Rattle.answers.specs.Answers.{refusalIn}
-use Rattle.shelf_laws.specs.State.{offerTo, releaseFrom, wholeIn}
+use Rattle.shelf_laws.specs.State.{offerTo, wholeIn}
 use Rattle.shelf_laws.specs.Answers.{accepted}
 use Rattle.shelf_laws.specs.Named.{keyIn}
 use Rattle.shelf_laws.specs.History.{Entry, about, reply, replyNo, numberIn, afterAll, logOf, Each, copy, whole, offer, release}
@@ -23,7 +24,7 @@ use Rattle.shelf_laws.proofs.Complete as complete-table
 use Rattle.shelf_laws.proofs.Reception as reception
 use Rattle.shelf_laws.proofs.HandedOut as handed
 use Rattle.shelf_laws.proofs.Questions as questions
-use Rattle.shelf_laws.proofs.Ranges.{OfferRange, ReleaseRange, Range, range, ranges-all}
+use Rattle.shelf_laws.proofs.Ranges.{OfferRange, Range, range, ranges-all}
 use Rattle.shelf_laws.proofs.Never.{most-16}
 use Rattle.shelf_laws.proofs.Histories.{holds-all}
 use Rattle.shelf_offer.specs.Answer.{offeredCode}
@@ -31,7 +32,7 @@ use Rattle.shelf_release.specs.declared.Released.{Released}
 use Rattle.shelf_release.specs.Answer.{releasedCode}
 use Rattle.shelf_ask.specs.Answer.{wholeCode, wholeBack, copyOut}
 use Rattle.shelf_histories.specs.Numbers.{replied, answered, inNumbers}
-use Rattle.shelf_histories.specs.History.{History, logAfter, wholeAfter, releaseAfter, EachLine}
+use Rattle.shelf_histories.specs.History.{History, logAfter, wholeAfter, EachLine}
 use Rattle.shelf_histories.proofs.Back.{whole-told, entry-number}
 use Rattle.shelf_histories.proofs.OneHistory.{one-history}
 use Rattle.shelf_histories.proofs.After.{reply-range, reply-after, reply-refusal, next-answer, next-reply}
@@ -99,20 +100,17 @@ more-reception key version last bytes first second calm-first calm-second offers
 pub asked-exactly : AskedExactly
 asked-exactly h q = reply-after h q ∙ ap replied (questions.asked-exactly (h .calls) q ∙ ap (λ log. replyBy log q) (sym (same-log h)))
 
--- a release that is not refused is done
-done-by : (a : Released) → ReleaseRange a → releasedCode a ≡ 0 → a ≡ Released.Done
-done-by Released.Done r e = refl
-done-by (Released.Refused n) r e = let a : 1 ≤ n = r .0 in absurd (omega arith)
+-- its number
+release-code : (held : Bool) → releasedCode (if held then Released.Done else Released.Refused 14) ≡ (if held then 0 else 14)
+release-code true = refl
+release-code false = refl
 
 pub released-exactly : ReleasedExactly
 released-exactly h key =
-    let s = afterAll (h .calls) in
-    let said = ap (λ a. a .code) (next-answer h (release key)) in
-    subst (λ log. (releaseAfter h key .code ≡ 0) ↔ (heldBy key log ≡ true)) (sym (same-log h))
-    (let both = held.released-exactly (h .calls) key in (
-      λ e. both .0 (done-by (releaseFrom s key .said) (range s (holds-all (h .calls) .good) (release key)) (sym said ∙ e)),
-      λ t. said ∙ ap releasedCode (both .1 t),
-    ))
+    ap (λ a. a .code) (next-answer h (release key))
+    ∙ ap releasedCode (held.released-exactly (h .calls) key)
+    ∙ release-code (heldBy key (logOf (h .calls)))
+    ∙ ap (λ log. if heldBy key log then 0 else 14) (sym (same-log h))
 
 pub never-17-18 : Never17Nor18
 never-17-18 h =

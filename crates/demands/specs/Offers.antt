@@ -1,4 +1,4 @@
--- Document 01, "Offering a sound section", of the functions that a host calls: what a sound section is answered after any history. The
+-- Document 01, "Offering a sound section", of the functions that a host calls: what a payload is answered after any history. The
 -- theorems are in proofs/Offers.
 --
 -- `heldBy`, `since`, `versionSince`, `lastSince`, `bytesSince` and `Full` (shelf_laws, specs/Log) read the log that the numbers tell, and
@@ -8,7 +8,8 @@ use mathlib.Core.Path.{_≡_}
 use mathlib.Core.Bool.{true, false}
 use mathlib.Core.Logic.{_↔_, _⊎_}
 use mathlib.Core.List.{List}
-use Rattle.section.specs.Section.{version, sectionNumber, lastSectionNumber}
+use Rattle.section.specs.Section.{readOf, version, sectionNumber, lastSectionNumber}
+use Rattle.section.specs.declared.Reading.the-variants.{Refused}
 use Rattle.shelf.specs.declared.Key.{Key}
 use Rattle.shelf_offer.specs.declared.Offered.{Offered}
 use Rattle.shelf_offer.specs.Answer.{offeredCode}
@@ -24,6 +25,10 @@ Exactly number Says =
     (h : History) (key : Key) (payload : List ℕ)
     → SectionOf key payload
     → (offerAfter h payload .code ≡ number) ↔ Says key payload (logAfter h)
+
+-- a payload that is not sound is answered the number of its reading, whatever is held
+abbrev pub UnsoundAnswered : Type 0
+UnsoundAnswered = (h : History) (payload : List ℕ) (n : ℕ) → readOf payload ≡ Refused n → offerAfter h payload .code ≡ n
 
 -- new key, no free place: four tables are held, and not that of the section
 abbrev pub NineExactly : Type 0

@@ -19,6 +19,7 @@ use mathlib.Core.Bool.{true}
 use mathlib.Core.Logic.{_↔_}
 use mathlib.Core.List.{List}
 use lib.ListN.{length}
+use Rattle.base.specs.Choice.{if_then_else_}
 use Rattle.base.specs.Octets.{Octets}
 use Rattle.section.specs.Section.{sectionNumber}
 use Rattle.answers.specs.Answers.{refusalIn, filled}
@@ -57,13 +58,14 @@ MoreReception =
     × (wholeAfter first key ≡ complete → wholeAfter second key ≡ complete)
 
 -- beside it: every question is answered what the log says (shelf_laws, specs/Questions): a copy the bytes with which the section was last
--- accepted or loaded, a save the file of all of them, the lowest missing number the lowest that was not; and 14, 16 and 15 in their order
+-- accepted or loaded, a save the file of all of them, completeness as above, the lowest missing number the lowest from 0 to the table's last that
+-- was not since it last began; and 14, 16 and 15 in their order
 abbrev pub AskedExactly : Type 0
 AskedExactly = (h : History) (q : Question) → replyAfter h q ≡ replied (replyBy (logAfter h) q)
 
--- a table is released exactly when it is held
+-- a release is done where the table is held, and else refused 14
 abbrev pub ReleasedExactly : Type 0
-ReleasedExactly = (h : History) (key : Key) → (releaseAfter h key .code ≡ 0) ↔ (heldBy key (logAfter h) ≡ true)
+ReleasedExactly = (h : History) (key : Key) → releaseAfter h key .code ≡ (if heldBy key (logAfter h) then 0 else 14)
 
 -- no call of a history is answered 17 or 18
 abbrev pub Never17Nor18 : Type 0

@@ -1,13 +1,15 @@
 -- A table is held exactly when the log has a beginning of it and no release since.
 --   held-place, place-held, unheld-place, place-unheld    then, and only then, it has a place on the shelf
 --   held-exactly         and every question about it is answered otherwise than 14
---   released-exactly     and a release of it is done
+--   released-exactly     and a release of it is done, which else is 14
 use mathlib.Core.Path.{_≡_, refl, sym, ap, _∙_}
 use mathlib.Core.Bool.{true, false}
 use mathlib.Core.List.{List}
-use Prim.Native.Nat.{ℕ, _<_, _≤_}
+use Prim.Native.Nat.{_<_, _≤_}
 use native.Mathlib.Omega.{arith}
+use lib.Dec.{ltb}
 use borrow.Author.Tests.{ltb-true, ltb-false, lt-ltb}
+use Rattle.base.specs.Choice.{if_then_else_}
 use Rattle.base.proofs.Cases.{by, unlike}
 use Rattle.berth.specs.Berth.{places}
 use Rattle.shelf.specs.Record.{placeOf}
@@ -64,27 +66,13 @@ held-exactly h q = (
 
 -- one release
 module _ (s : State) (g : Good s) (key : Key) where
-  refused-unheld : {n : ℕ} → Refusal s key n → placeOf s.shelf key ≡ places
-  refused-unheld (Refusal.17-store l) = absurd (l (g .lent))
-  refused-unheld (Refusal.18-spoiled e) = absurd (unlike (sym e ∙ g .unspoiled))
-  refused-unheld (Refusal.14-unheld e) = e
-
-  done-held : {r : After} → Goes s key r → r .said ≡ Released.Done → placeOf s.shelf key < places
-  done-held (Goes.refuses _ _) e = absurd (let z : _≡_ {A = ℕ} 0 1 = cc in omega arith)
-  done-held (Goes.done _ _ i) e = i
-
-  held-done : {r : After} → Goes s key r → placeOf s.shelf key < places → r .said ≡ Released.Done
-  held-done (Goes.refuses _ y) i = let z : placeOf s.shelf key ≡ places = refused-unheld y in absurd (omega arith)
-  held-done (Goes.done _ _ _) i = refl
+  released-by : {r : After} → Goes s key r → r .said ≡ (if ltb (placeOf s.shelf key) places then Released.Done else Released.Refused 14)
+  released-by (Goes.refuses _ (Refusal.17-store l)) = absurd (l (g .lent))
+  released-by (Goes.refuses _ (Refusal.18-spoiled e)) = absurd (unlike (sym e ∙ g .unspoiled))
+  released-by (Goes.refuses _ (Refusal.14-unheld e)) = rw e
+  released-by (Goes.done _ _ i) = rw (lt-ltb _ _ i)
 
 pub released-exactly : ReleasedExactly
-released-exactly h key = (
-  λ e.
-      by (heldBy key (logOf h))
-      (λ t. t)
-      (λ f.
-      let i : placeOf (afterAll h .shelf) key < places = done-held (afterAll h) (holds-all h .good) key (goes (afterAll h) key) e in
-      let z : placeOf (afterAll h .shelf) key ≡ places = unheld-place h key f in
-      absurd (omega arith)),
-  λ t. held-done (afterAll h) (holds-all h .good) key (goes (afterAll h) key) (held-place h key t),
-)
+released-exactly h key =
+    released-by (afterAll h) (holds-all h .good) key (goes (afterAll h) key)
+    ∙ sym (ap (λ held. if held then Released.Done else Released.Refused 14) (holds-all h .table key .held))

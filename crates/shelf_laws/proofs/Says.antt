@@ -1,5 +1,6 @@
 -- What a sound section is answered after a history, by the log alone.
 --   offered-exactly
+--   unsound-said       .. and a payload that is not sound, by its own number
 use mathlib.Core.Path.{_≡_, sym, ap, subst, _∙_}
 use mathlib.Core.Bool.{true, false}
 use mathlib.Core.Logic.{_↔_, ⊎-elim, inl, inr}
@@ -13,7 +14,7 @@ use Rattle.base.specs.Bytes.{same}
 use Rattle.base.proofs.Cases.{by, same-or, unlike}
 use Rattle.base.proofs.Same.{same-refl, same-equal}
 use Rattle.section.specs.Section.{readOf, headerOf, version, sectionNumber, lastSectionNumber}
-use Rattle.section.specs.declared.Reading.the-variants.{Sound}
+use Rattle.section.specs.declared.Reading.the-variants.{Sound, Refused}
 use Rattle.section.proofs.Laws.{sound-facts}
 use Rattle.berth.specs.Berth.{sections, places, storeSize, standing}
 use Rattle.shelf.specs.Record.{placeAt, lengthAt, holds, placeOf, freeOf}
@@ -171,6 +172,11 @@ module _ (h : List Call) (payload : List ℕ) (sound : readOf payload ≡ Sound 
       let d : Differs key payload log = rw (e, f) at w in
       ⊎-elim (said-last (d .0) (d .1)) (λ x. said-other (d .0) (d .1) (x .0) (x .1)) (d .2) ∙ ap Offered.Refused (sym (eqb-true _ _ f)))
       (λ f. absurd (rw (e, f) at w)))
+
+pub unsound-said : (h : List Call) (payload : List ℕ) (n : ℕ) → readOf payload ≡ Refused n → offerTo (afterAll h) payload .said ≡ Offered.Refused n
+unfolding offerOf
+unsound-said h payload n e =
+    rw (eq-eqb (length (afterAll h .store)) storeSize (holds-all h .good .lent), holds-all h .good .unspoiled, e)
 
 pub offered-exactly : OfferedExactly
 offered-exactly h key payload of a =

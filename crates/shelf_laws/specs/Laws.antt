@@ -5,6 +5,7 @@ use mathlib.Core.Bool.{Bool, true, false}
 use mathlib.Core.Logic.{_↔_}
 use mathlib.Core.List.{List, [], _++_}
 use lib.ListN.{length, drop}
+use Rattle.base.specs.Choice.{if_then_else_}
 use Rattle.section.specs.Section.{sectionNumber}
 use Rattle.berth.specs.Berth.{sections, storeSize, berthSize, standing}
 use Rattle.shelf.specs.Record.{fresh}
@@ -30,9 +31,10 @@ use Rattle.shelf_laws.specs.Reception.{SectionOf, OfferedIn, Undisturbed
 abbrev pub HeldExactly : Type 0
 HeldExactly = (h : List Call) (q : Question) → (replyNo (replyAfter h q) ≡ 14 → ⊥) ↔ (heldBy (about q) (logOf h) ≡ true)
 
--- and exactly then a release is done (Held)
+-- and then a release is done, which else is refused 14 (Held)
 abbrev pub ReleasedExactly : Type 0
-ReleasedExactly = (h : List Call) (key : Key) → (releaseFrom (afterAll h) key .said ≡ Released.Done) ↔ (heldBy key (logOf h) ≡ true)
+ReleasedExactly =
+    (h : List Call) (key : Key) → releaseFrom (afterAll h) key .said ≡ (if heldBy key (logOf h) then Released.Done else Released.Refused 14)
 
 -- a held table is called complete exactly when every section from 0 to its last was accepted or loaded since it last began (Complete)
 abbrev pub CompleteExactly : Type 0

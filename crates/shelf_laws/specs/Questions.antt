@@ -23,7 +23,7 @@ module _ (key : Key) (log : List Entry) where
   abbrev pub unheld : Row
   unheld = 14 if not (heldBy key log)
 
-  -- section n, if it is one of the sixteen, was accepted or loaded since the table last began
+  -- n is one of the sixteen, and section n was accepted or loaded since the table last began
   abbrev pub has : ℕ → Bool
   has n = ltb n sections && since key log n
 
@@ -41,7 +41,7 @@ module _ (key : Key) (log : List Entry) where
   abbrev pub wholeBy : Whole
   wholeBy = first Whole.Refused (unheld ∷ []) (if allSince then Whole.Complete else Whole.Incomplete)
 
-  -- the lowest number from 0 to its last that was not
+  -- the lowest number from 0 to its last that was not; none where all were
   abbrev pub missingBy : Missing
   missingBy =
       first Missing.Refused (unheld ∷ [])

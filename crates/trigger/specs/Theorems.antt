@@ -161,7 +161,7 @@ module _ (m : Message) where
   abbrev pub Bytes-Read : Type 0
   Bytes-Read = Fit m → readOf (bytesOf m) ≡ Answer.Trigger (answerOf m)
 
-  -- the places before the target's bytes and the user data, and what stands there
+  -- the places where the target's bytes and the user data begin, and what stands there
   abbrev pub aimed : ℕ
   aimed = 3 + length (nameBytes (m .application)) + 3
 
