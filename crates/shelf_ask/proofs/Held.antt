@@ -57,7 +57,7 @@ pub record In (shelf : Shelf) (size : ℕ) (key : Key) (p : ℕ) : Type 0 where
   pub last : placeAt shelf p .last < sections
   pub most : (n : ℕ) → n < sections → lengthAt (placeAt shelf p) n ≤ berthSize
 
-never : {n p : ℕ} → Holding.Refused n ≡ Holding.In p → ⊥
+pub never : {n p : ℕ} → Holding.Refused n ≡ Holding.In p → ⊥
 never e = let z : _≡_ {A = ℕ} 0 1 = cc in omega arith
 
 module _ (shelf : Shelf) (size : ℕ) (key : Key) where
@@ -94,14 +94,14 @@ module _ (shelf : Shelf) (size : ℕ) (key : Key) where
 
 -- a table of refusals that begins with those of every question
 module _ {A : Type 0} (refused : ℕ → A) (more : List Row) (other : A) where
-  still : (rs : List Row) (p number : ℕ) → first Holding.Refused rs (Holding.In p) ≡ Holding.Refused number → first refused (rs ++ more) other ≡ refused number
+  pub still : (rs : List Row) (p number : ℕ) → first Holding.Refused rs (Holding.In p) ≡ Holding.Refused number → first refused (rs ++ more) other ≡ refused number
   still [] p number e = absurd (never (sym e))
   still (r ∷ rs) p number e =
       by (r .when)
       (λ t. let q : Holding.Refused (r .no) ≡ Holding.Refused number = rw t at e in let n : r .no ≡ number = cc in rw t (ap refused n))
       (λ f. rw f (still rs p number (rw f at e)))
 
-  past : (rs : List Row) (p q : ℕ) → first Holding.Refused rs (Holding.In q) ≡ Holding.In p → first refused (rs ++ more) other ≡ first refused more other
+  pub past : (rs : List Row) (p q : ℕ) → first Holding.Refused rs (Holding.In q) ≡ Holding.In p → first refused (rs ++ more) other ≡ first refused more other
   past [] p q e = refl
   past (r ∷ rs) p q e = by (r .when) (λ t. absurd (never (rw t at e))) (λ f. rw f (past rs p q (rw f at e)))
 

@@ -5,3 +5,4 @@ pub mod ExactlyWhen
 pub mod Alike
 pub mod Unique
 pub mod Told
+pub mod Tables

@@ -1,12 +1,15 @@
 -- The numbers and the values of the answers to the shelf's questions, in the numbers that cross the boundary.
 use Prim.Native.Nat.{ℕ, _+_, _*_, _/_, _%_}
 use mathlib.Core.List.{List}
+use mathlib.Core.Bool.{Bool, true, false}
 use lib.Dec.{eqb}
+use lib.ListN.{length}
 use Rattle.base.specs.Choice.{if_then_else_}
-use Rattle.answers.specs.Answers.{Out, out, sizeCode, sizeOr}
+use Rattle.answers.specs.Answers.{Out, out, sizeCode, sizeOr, puts}
 use Rattle.shelf.specs.declared.Key.{Key}
 use Rattle.shelf.specs.Layout.{shelfAt}
 use Rattle.shelf_ask.specs.Ask.{Copy, copyOf, wholeOf, missingOf}
+use Rattle.shelf_ask.specs.Tables.{tableTold}
 use Rattle.shelf_ask.specs.declared.Copied.{Copied}
 use Rattle.shelf_ask.specs.declared.Whole.{Whole}
 use Rattle.shelf_ask.specs.declared.Missing.{Missing}
@@ -16,6 +19,12 @@ abbrev pub wholeCode : Whole → ℕ
 wholeCode Whole.Complete = 256
 wholeCode Whole.Incomplete = 512
 wholeCode (Whole.Refused n) = n
+
+-- its plain truth, for a lamp: held and complete, and nothing else
+abbrev pub isComplete : Whole → Bool
+isComplete Whole.Complete = true
+isComplete Whole.Incomplete = false
+isComplete (Whole.Refused n) = false
 
 -- from bit 8 up: 1 nothing missing, 2 a number, which stands from bit 16 up
 abbrev pub missingCode : Missing → ℕ
@@ -45,6 +54,9 @@ copiedIn = sizeOr Copied.Bytes Copied.Refused
 unfoldable pub wholeLent : List ℕ → List ℕ → Key → ℕ
 wholeLent words store key = wholeCode (wholeOf (shelfAt words) store key)
 
+unfoldable pub completeLent : List ℕ → List ℕ → Key → Bool
+completeLent words store key = isComplete (wholeOf (shelfAt words) store key)
+
 unfoldable pub missingLent : List ℕ → List ℕ → Key → ℕ
 missingLent words store key = missingCode (missingOf (shelfAt words) store key)
 
@@ -53,3 +65,7 @@ copyOut c = out (copiedCode (c .said)) (c .out)
 
 unfoldable pub copyLent : List ℕ → List ℕ → Key → ℕ → List ℕ → Out
 copyLent words store key n bytes = copyOut (copyOf (shelfAt words) store key n bytes)
+
+-- the table in a place, in numbers at the front of a lent buffer
+unfoldable pub tableLent : List ℕ → List ℕ → ℕ → List ℕ → Out
+tableLent words store p fields = puts (tableTold (shelfAt words) (length store) p) fields

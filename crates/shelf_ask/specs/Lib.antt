@@ -1,2 +1,4 @@
 pub mod Ask
+pub mod Tables
+pub mod Calls
 pub mod Answer

@@ -1,8 +1,9 @@
-// Asking the shelf (document 01, "The shelf"): a section's bytes, whether a table is complete, its lowest missing number. The record
-// is the numbers that the host lends.
+// Asking the shelf (document 01, "The shelf"): a section's bytes, whether a table is complete, its lowest missing number, and which
+// table is in a place. The record is the numbers that the host lends.
 use berth::PLACES;
 use berth::STORE;
 use shelf::Key;
+use tables::Table;
 ghost use mathlib.Core.Path.{_≡_};
 ghost use mathlib.Core.Bool.{not};
 ghost use Prim.Native.Nat.{_+_, _<_};
@@ -12,7 +13,9 @@ ghost use Rattle.berth.specs.Berth.{sections};
 ghost use Rattle.shelf.specs.Layout.{shelfAt};
 ghost use Rattle.shelf_ask.specs.Ask.{holdingOf, copy, copyOf, wholeOf, missingOf};
 ghost use Rattle.answers.specs.Answers.{out as outOf};
-ghost use Rattle.shelf_ask.specs.Answer.{wholeLent, missingLent, copyLent};
+ghost use Rattle.shelf_ask.specs.Tables.{takenOf};
+ghost use Rattle.shelf_ask.specs.Calls.{tableAmong};
+ghost use Rattle.shelf_ask.specs.Answer.{wholeLent, completeLent, missingLent, copyLent, tableLent};
 
 // The place of the table that is asked for.
 pub enum Holding {
@@ -157,6 +160,18 @@ pub fn complete_code(words: &[u16], store: &[u8], key: Key) -> u16
     }
 }
 
+// Whether a table is held and complete: no refusal is a yes.
+pub fn is_complete(words: &[u16], store: &[u8], key: Key) -> bool
+    ensures { λ r. ⌜ r ≡ completeLent (now (words .entry)) (now (store .entry)) key ⌝ }
+{
+    let answer = complete(words, store, key);
+    match answer {
+        Whole::Refused(_) => false,
+        Whole::Complete => true,
+        Whole::Incomplete => false,
+    }
+}
+
 // The lowest missing number of a table, in a number whose low 8 bits are the refusal.
 pub fn missing_code(words: &[u16], store: &[u8], key: Key) -> u32
     ensures { λ r. ⌜ r ≡ missingLent (now (words .entry)) (now (store .entry)) key ⌝ }
@@ -177,5 +192,54 @@ pub fn copy_code(words: &[u16], store: &[u8], key: Key, n: u8, out: &mut [u8]) -
     match answer {
         Copied::Refused(no) => answers::wider(no),
         Copied::Bytes(size) => answers::size_code(size),
+    }
+}
+
+// The place asked for where a table is in it, or the first number that refuses the question, put with a store of that size.
+fn taken_in(words: &[u16], size: usize, p: usize) -> Holding
+    ensures { λ r. ⌜ r ≡ takenOf (shelfAt (now (words .entry))) size p ⌝ }
+{
+    if size != STORE {
+        return Holding::Refused(shelf::STORE_SIZE);
+    }
+    if shelf_check::is_spoiled(words) {
+        return Holding::Refused(shelf::SHELF_SPOILED);
+    }
+    if shelf::key_number(words, p) / 256 % 256 != 1 {
+        return Holding::Refused(shelf::TABLE_NOT_HELD);
+    }
+    Holding::In(p)
+}
+
+// The table in place p.
+fn table_in(words: &[u16], p: usize) -> Table
+    ensures { λ r. ⌜ r ≡ tableAmong (now (words .entry)) p ⌝ }
+{
+    let head = shelf::key_number(words, p);
+    let table = (head % 256) as u8;
+    let extension = (head / 65536) as u16;
+    let version = shelf::version_of(words, p);
+    let last = shelf::last_of(words, p);
+    let lengths = shelf::lengths_of(words, p);
+    Table {
+        table,
+        extension,
+        version,
+        last,
+        lengths,
+    }
+}
+
+// Puts the numbers of the table in a place at the front of the buffer, or answers the refusal.
+pub fn table_code(words: &[u16], store: &[u8], place: u8, fields: &mut [u16]) -> u8
+    ensures { λ r. ⌜ outOf r (now (fields .exit)) ≡ tableLent (now (words .entry)) (now (store .entry)) place (now (fields .entry)) ⌝ }
+{
+    let holding = taken_in(words, store.len(), place as usize);
+    match holding {
+        Holding::Refused(no) => no,
+        Holding::In(p) => {
+            let table = table_in(words, p);
+            tables::put_table(table, fields)
+        }
     }
 }

@@ -2,15 +2,18 @@
 --   read-untouched, read-accepted, read-comes-back, by-its-numbers
 --   aim-numbers                          a target's five numbers, in the code's struct
 --   lent-refused, lent-short, lent-put   each way out of a call
+--   belongs-short, belongs-by            both of the question whom a trigger is for
 use mathlib.Core.Path.{_≡_, refl, sym, ap, subst, _∙_}
+use mathlib.Core.Bool.{Bool, false}
 use mathlib.Core.List.{List, [], _∷_, _++_}
 use Prim.Native.Nat.{ℕ, _<_, _≤_}
 use native.Mathlib.Omega.{arith}
 use lib.Dec.{ltb}
-use lib.ListN.{length, drop}
+use lib.ListN.{length, drop, getD, length-append}
 use borrow.Author.Tests.{lt-ltb, le-ltb, ne-eqb, ltb-true, ltb-false}
 use Rattle.base.proofs.Cases.{by}
-use Rattle.answers.specs.Answers.{Out, out, told, puts}
+use Rattle.answers.specs.Answers.{Out, out, puts}
+use Rattle.answers.proofs.Puts.{puts-untouched, puts-values}
 use Rattle.trigger.specs.declared.Target.{Target}
 use Rattle.trigger.specs.declared.Trigger.{Trigger}
 use Rattle.trigger.specs.declared.Answer.{Answer}
@@ -20,7 +23,7 @@ use Rattle.trigger.specs.Answer.{targetNumbers, numbersOf, triggerTold, trigger
 use Rattle.trigger.proofs.Answers.{numbers-back}
 use Rattle.trigger.proofs.ExactlyWhen.{refused-range}
 use Rattle.trigger_answers.specs.Aim.{aimOf}
-use Rattle.trigger_answers.specs.Lent.{triggerLent, Read-Untouched, Read-Accepted, Read-Comes-Back, By-Its-Numbers}
+use Rattle.trigger_answers.specs.Lent.{triggerLent, withId, belongsLent, Read-Untouched, Read-Accepted, Read-Comes-Back, By-Its-Numbers}
 
 pub aim-numbers : (t : Target) → targetNumbers t ≡ aimOf t .kind ∷ aimOf t .of ∷ aimOf t .first ∷ aimOf t .second ∷ aimOf t .third ∷ []
 aim-numbers Target.None = refl
@@ -33,9 +36,6 @@ aim-numbers (Target.Reserved r) = refl
 
 pub eleven : (t : Trigger) → length (numbersOf t) ≡ 11
 eleven t = rw (aim-numbers (t .target))
-
-puts-values : (values old : List ℕ) → length values ≤ length old → puts (told 0 values) old ≡ out 0 (values ++ drop (length values) old)
-puts-values values old h = rw (le-ltb (length old) (length values) h)
 
 module _ (s fields : List ℕ) where
   module _ (n : ℕ) (e : readOf s ≡ Answer.Refused n) where
@@ -53,7 +53,7 @@ module _ (s fields : List ℕ) where
     lent-put h q =
         let room : length (numbersOf t) ≤ length fields = rw (eleven t) h in
         ap (out 0) (q ∙ ap (λ n. numbersOf t ++ drop n fields) (sym (eleven t)))
-        ∙ sym (puts-values (numbersOf t) fields room)
+        ∙ puts-values (numbersOf t) fields room
         ∙ ap (λ r. puts (triggerTold r) fields) (sym e)
 
   abbrev left : Out
@@ -74,8 +74,8 @@ module _ (s fields : List ℕ) where
           (λ x. let h : 11 ≤ length fields = ltb-false _ _ x in subst p (lent-put t e h refl) (c t e h))
 
   pub read-untouched : Read-Untouched s fields
-  read-untouched =
-      each-way (λ o. ¬ (o .code ≡ 0) → o .out ≡ fields) (λ n l e _. refl) (λ t e h _. refl) (λ t e h z. absurd (z refl))
+  unfolding triggerLent
+  read-untouched = puts-untouched (triggerTold (readOf s)) fields
 
   pub read-accepted : Read-Accepted s fields
   read-accepted = (
@@ -93,6 +93,26 @@ module _ (s fields : List ℕ) where
       (λ t e h z. absurd (omega arith))
       (λ t e h z. e ∙ ap Answer.Trigger (sym (numbers-back t (drop 11 fields))))
 
-pub by-its-numbers : (s id : List ℕ) (t : Trigger) → By-Its-Numbers s id t
+-- both ways out of `trigger_belongs`
+module _ (s fields id : List ℕ) where
+  pub belongs-short : length fields < 11 → false ≡ belongsLent s fields id
+  unfolding belongsLent
+  belongs-short h = rw (lt-ltb (length fields) 11 h)
+
+  pub belongs-by :
+      {r : Bool}
+      {place size : ℕ}
+      → 11 ≤ length fields
+      → place ≡ getD fields 2 0
+      → size ≡ getD fields 3 0
+      → r ≡ belongsOf s (withId (getD fields 0 0) place size) id
+      → r ≡ belongsLent s fields id
+  unfolding belongsLent
+  belongs-by h p q e = rw (le-ltb (length fields) 11 h) (e ∙ rw (p, q))
+
+pub by-its-numbers : (s fields id : List ℕ) (t : Trigger) → By-Its-Numbers s fields id t
 unfolding belongsOf
-by-its-numbers s id t = refl
+by-its-numbers s fields id t e h =
+    let left = sym (lent-put s fields t e h refl) in
+    ap (λ o. belongsLent s (o .out) id) left
+    ∙ sym (belongs-by s (numbersOf t ++ drop 11 fields) id (omega (arith, length-append (numbersOf t) (drop 11 fields), eleven t)) refl refl refl)

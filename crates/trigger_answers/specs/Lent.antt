@@ -2,8 +2,11 @@
 use Prim.Native.Nat.{ℕ, _≤_}
 use mathlib.Core.Path.{_≡_}
 use mathlib.Core.List.{List}
+use mathlib.Core.Bool.{Bool, false}
 use mathlib.Core.Logic.{_↔_}
-use lib.ListN.{length}
+use lib.Dec.{ltb}
+use lib.ListN.{length, getD}
+use Rattle.base.specs.Choice.{if_then_else_}
 use Rattle.answers.specs.Answers.{Out, puts}
 use Rattle.trigger.specs.declared.Target.{Target}
 use Rattle.trigger.specs.declared.Trigger.{Trigger}
@@ -30,11 +33,18 @@ module _ (s fields : List ℕ) where
   abbrev pub Read-Comes-Back : Type 0
   Read-Comes-Back = triggerLent s fields .code ≡ 0 → readOf s ≡ Answer.Trigger (triggerBack (triggerLent s fields .out))
 
--- a trigger of which the host kept where its application id lies, and no more
+-- a trigger of which the host has where its application id lies, and no more is asked
 abbrev pub withId : ℕ → ℕ → ℕ → Trigger
 withId idlength place size =
     record { idlength = idlength; description = 0; id = extent place size; target = Target.None; user = extent 0 0 }
 
--- which is enough to tell whether it belongs
-abbrev pub By-Its-Numbers : List ℕ → List ℕ → Trigger → Type 0
-By-Its-Numbers s id t = belongsOf s (withId (t .idlength) (t .id .place) (t .id .length)) id ≡ belongsOf s t id
+-- whether the trigger whose numbers a reading put into a buffer belongs to an application; fewer numbers than a trigger has are no trigger,
+-- which belongs to none
+unfoldable pub belongsLent : List ℕ → List ℕ → List ℕ → Bool
+belongsLent s fields id =
+    if ltb (length fields) 11 then false else belongsOf s (withId (getD fields 0 0) (getD fields 2 0) (getD fields 3 0)) id
+
+-- by the numbers as the reading left them it belongs as the trigger does
+abbrev pub By-Its-Numbers : List ℕ → List ℕ → List ℕ → Trigger → Type 0
+By-Its-Numbers s fields id t =
+    readOf s ≡ Answer.Trigger t → 11 ≤ length fields → belongsLent s (triggerLent s fields .out) id ≡ belongsOf s t id

@@ -4,10 +4,9 @@ ghost use mathlib.Core.List.{_++_};
 ghost use Prim.Native.Nat.{_≤_, _<_};
 ghost use lib.ListN.{length, drop};
 ghost use Rattle.answers.specs.Answers.{out as outOf};
-ghost use Rattle.trigger.specs.Belongs.{belongsOf};
 ghost use Rattle.trigger.specs.Answer.{numbersOf};
 ghost use Rattle.trigger_answers.specs.Aim.{aimOf, Narrow, NarrowTarget, NarrowTrigger};
-ghost use Rattle.trigger_answers.specs.Lent.{triggerLent, withId};
+ghost use Rattle.trigger_answers.specs.Lent.{triggerLent, belongsLent};
 use trigger::Answer;
 use trigger::Extent;
 use trigger::Target;
@@ -15,6 +14,13 @@ use trigger::Trigger;
 
 // How many numbers a trigger is answered in.
 const NUMBERS: usize = 11;
+
+// Where among them the application id's length as read stands, its place, and how many bytes it has.
+const ID_LENGTH: usize = 0;
+
+const ID_PLACE: usize = 2;
+
+const ID_BYTES: usize = 3;
 
 // Kinds of target. Those below the last are also the types that A/93 gives them.
 const NONE: u16 = 0;
@@ -102,10 +108,10 @@ fn put(t: Trigger, fields: &mut [u16])
     let id = t.id;
     let user = t.user;
     let aim = aim_of(target);
-    fields[0] = t.idlength;
+    fields[ID_LENGTH] = t.idlength;
     fields[1] = t.description;
-    fields[2] = id.place as u16;
-    fields[3] = id.length as u16;
+    fields[ID_PLACE] = id.place as u16;
+    fields[ID_BYTES] = id.length as u16;
     fields[4] = aim.kind;
     fields[5] = aim.of;
     fields[6] = aim.first;
@@ -132,20 +138,18 @@ pub fn trigger_read(payload: &[u8], fields: &mut [u16]) -> u8
     }
 }
 
-// Whether a trigger, by the numbers of its application id, belongs to the application with an id.
-pub fn trigger_belongs(
-    payload: &[u8],
-    idlength: u16,
-    place: u16,
-    size: u16,
-    application: &[u8],
-) -> bool
-    ensures { λ r. ⌜ r ≡ belongsOf (now (payload .entry)) (withId idlength place size) (now (application .entry)) ⌝ }
+// Whether a trigger, by the numbers that its reading put into the buffer, belongs to the application with an id. Fewer numbers are
+// no trigger.
+pub fn trigger_belongs(payload: &[u8], fields: &[u16], application: &[u8]) -> bool
+    ensures { λ r. ⌜ r ≡ belongsLent (now (payload .entry)) (now (fields .entry)) (now (application .entry)) ⌝ }
 {
-    let id = Extent {
-        place: place as usize,
-        length: size as usize,
-    };
+    if fields.len() < NUMBERS {
+        return false;
+    }
+    let idlength = fields[ID_LENGTH];
+    let place = base::wide(fields[ID_PLACE]);
+    let length = base::wide(fields[ID_BYTES]);
+    let id = Extent { place, length };
     let user = Extent {
         place: 0,
         length: 0,

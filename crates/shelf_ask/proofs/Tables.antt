@@ -1,0 +1,272 @@
+-- The table in a place.
+--   taken-17, taken-18, taken-14, taken-place     the answer of `takenOf`, by what was tested
+--   taken-says                                    what is so of a place that is taken (`TakenIn`)
+--   head-taken, head-free                         whether a place is taken is told by the first number of its head
+--   table-read                                    the table, in the numbers of a record that has it
+--   lent-refused, lent-table                      both ways out of the question over lent numbers
+--   table-untouched, table-accepted               a refused question leaves the buffer as it was; it is accepted exactly when
+--   same-tables, tables-same                      records that are not spoiled are equal exactly when they tell the same table in each place
+use mathlib.Core.Path.{_≡_, refl, sym, ap, subst, _∙_}
+use mathlib.Core.Bool.{Bool, true, false, not}
+use mathlib.Core.List.{List, [], _∷_}
+use mathlib.Core.Logic.{_↔_, ⊎-elim}
+use Prim.Native.Nat.{ℕ, _+_, _*_, _/_, _%_, _<_, _≤_}
+use native.Mathlib.Omega.{arith}
+use lib.Dec.{ltb}
+use lib.ListN.{length, getD, List·getD-eq-default}
+use borrow.Author.Tests.{eq-eqb, ne-eqb, le-ltb, ltb-true, ltb-false, eqb-true}
+use Rattle.base.specs.Choice.{Row, first}
+use Rattle.base.proofs.Cases.{by, same-or}
+use Rattle.berth.specs.Berth.{places, storeSize}
+use Rattle.answers.specs.Answers.{told, out, puts}
+use Rattle.answers.proofs.Puts.{puts-refused, puts-untouched, puts-accepted}
+use Rattle.tables.specs.declared.Table.{Table}
+use Rattle.tables.specs.Numbers.{numbersOf, tablePut}
+use Rattle.shelf.specs.Record.{Shelf, Place, placeAt, spoiledOf, Same}
+use Rattle.shelf.specs.Layout.{shelfAt, shelfIn, tableIn, lengthsIn, lengthIn, takenIn, keyNumber}
+use Rattle.shelf.specs.Calls.{keyAmong, lengthAmong}
+use Rattle.shelf.proofs.Lists.{listed-same}
+use Rattle.shelf.proofs.Numbers.{at-count, spoiled-count, taken-at, table-at, among-key, among-version, among-last, among-length}
+use Rattle.shelf_ask.specs.Tables.{tableOf, untold, takenOf, tableTold}
+use Rattle.shelf_ask.specs.Calls.{tableAmong}
+use Rattle.shelf_ask.specs.Answer.{tableLent}
+use Rattle.shelf_ask.specs.declared.Holding.{Holding}
+use Rattle.shelf_ask.proofs.Held.{never, still, past}
+
+module _ (shelf : Shelf) (size p : ℕ) where
+  pub taken-17 : (size ≡ storeSize → ⊥) → takenOf shelf size p ≡ Holding.Refused 17
+  unfolding takenOf
+  taken-17 h = rw (ne-eqb size storeSize h)
+
+  module _ (w : size ≡ storeSize) where
+    pub taken-18 : spoiledOf shelf ≡ true → takenOf shelf size p ≡ Holding.Refused 18
+    unfolding takenOf
+    taken-18 h = rw (eq-eqb size storeSize w, h)
+
+    module _ (s : spoiledOf shelf ≡ false) where
+      pub taken-14 : placeAt shelf p .taken ≡ false → takenOf shelf size p ≡ Holding.Refused 14
+      unfolding takenOf
+      taken-14 h = rw (eq-eqb size storeSize w, s, h)
+
+      pub taken-place : placeAt shelf p .taken ≡ true → takenOf shelf size p ≡ Holding.In p
+      unfolding takenOf
+      taken-place h = rw (eq-eqb size storeSize w, s, h)
+
+-- a table is in place q, which is the one asked for
+pub record TakenIn (shelf : Shelf) (size p q : ℕ) : Type 0 where
+  pub whole : size ≡ storeSize
+  pub sound : spoiledOf shelf ≡ false
+  pub taken : placeAt shelf p .taken ≡ true
+  pub same : p ≡ q
+
+module _ (shelf : Shelf) (size p : ℕ) where
+  pub taken-says : (q : ℕ) → takenOf shelf size p ≡ Holding.In q → TakenIn shelf size p q
+  taken-says q e =
+      ⊎-elim
+      (λ w.
+      by (spoiledOf shelf)
+      (λ t. absurd (never (sym (taken-18 shelf size p w t) ∙ e)))
+      (λ s.
+      by (placeAt shelf p .taken)
+      (λ t.
+      let r : Holding.In p ≡ Holding.In q = sym (taken-place shelf size p w s t) ∙ e in
+      record { whole = w; sound = s; taken = t; same = (cc) })
+      (λ f. absurd (never (sym (taken-14 shelf size p w s f) ∙ e)))))
+      (λ w. absurd (never (sym (taken-17 shelf size p w) ∙ e)))
+      (same-or size storeSize)
+
+  pub told-refused : (n : ℕ) → takenOf shelf size p ≡ Holding.Refused n → tableTold shelf size p ≡ told n []
+  unfolding takenOf tableTold
+  told-refused n e = still (λ n. told n []) [] (told 0 (numbersOf (tableOf (placeAt shelf p)))) (untold shelf size p) p n e
+
+  pub told-table : (q : ℕ) → takenOf shelf size p ≡ Holding.In q → tableTold shelf size p ≡ told 0 (numbersOf (tableOf (placeAt shelf p)))
+  unfolding takenOf tableTold
+  told-table q e = past (λ n. told n []) [] (told 0 (numbersOf (tableOf (placeAt shelf p)))) (untold shelf size p) q p e
+
+  pub some-number : (n : ℕ) → takenOf shelf size p ≡ Holding.Refused n → 0 < n
+  some-number n e =
+      ⊎-elim
+      (λ w.
+      by (spoiledOf shelf)
+      (λ t. is 18 (sym (taken-18 shelf size p w t) ∙ e) (omega arith))
+      (λ s.
+      by (placeAt shelf p .taken)
+      (λ t. absurd (never (sym e ∙ taken-place shelf size p w s t)))
+      (λ f. is 14 (sym (taken-14 shelf size p w s f) ∙ e) (omega arith))))
+      (λ w. is 17 (sym (taken-17 shelf size p w) ∙ e) (omega arith))
+      (same-or size storeSize)
+    where
+      is : (k : ℕ) {m : ℕ} → Holding.Refused k ≡ Holding.Refused m → 0 < k → 0 < m
+      is k {m} q l = let z : k ≡ m = cc in omega arith
+
+apart : true ≡ false → ⊥
+apart e = let z : _≡_ {A = ℕ} 0 1 = cc in omega arith
+
+-- a place by its parts
+place-of : Bool → ℕ → ℕ → ℕ → ℕ → List ℕ → Place
+place-of taken table extension version last lengths =
+    record { taken = taken; key = record { table = table; extension = extension }; version = version; last = last; lengths = lengths }
+
+same-place : (x y : Place) → x .taken ≡ y .taken → x .key .table ≡ y .key .table → x .key .extension ≡ y .key .extension
+    → x .version ≡ y .version → x .last ≡ y .last → x .lengths ≡ y .lengths → x ≡ y
+unfolding place-of
+same-place x y t a b c d l =
+    let made : place-of (x .taken) (x .key .table) (x .key .extension) (x .version) (x .last) (x .lengths)
+        ≡ place-of (y .taken) (y .key .table) (y .key .extension) (y .version) (y .last) (y .lengths) = cc in
+    made
+
+-- numbers of 16 bits, of a record that is not spoiled
+module _ (words : List ℕ) (p : ℕ) (short : getD words (64 + 4 * p) 0 < 65536) (s : spoiledOf (shelfAt words) ≡ false) where
+  counted : length words ≡ 84
+  counted = spoiled-count words s
+
+  -- there are four places
+  none-past : 4 ≤ p → placeAt (shelfAt words) p .taken ≡ false
+  unfolding shelfIn
+  none-past h = rw (at-count words counted) (ap (λ (x : Place). x .taken) (List·getD-eq-default (shelfIn words .places) _ {n = p} (omega arith)))
+
+  key-past : 4 ≤ p → keyAmong words p ≡ 0
+  unfolding keyAmong
+  key-past h = rw (eq-eqb (length words) 84 counted, le-ltb p 4 h)
+
+  -- the head's first number, out of the two
+  head-of : (a b : ℕ) → a < 65536 → (a + 65536 * b) / 256 % 256 ≡ a / 256
+  head-of a b h = omega arith
+
+  head-is : {n : ℕ} → p < 4 → n ≡ keyAmong words p → n / 256 % 256 ≡ getD words (64 + 4 * p) 0 / 256
+  head-is h e = rw (e, among-key words p counted h) (head-of (getD words (64 + 4 * p) 0) (getD words (65 + 4 * p) 0) short)
+
+  taken-by : p < 4 → placeAt (shelfAt words) p .taken ≡ takenIn words p
+  taken-by h = rw (at-count words counted) (taken-at words p h)
+
+  pub head-taken : {n : ℕ} → n ≡ keyAmong words p → n / 256 % 256 ≡ 1 → placeAt (shelfAt words) p .taken ≡ true
+  head-taken {n} e h =
+      by (ltb p 4)
+      (λ t. let l : p < 4 = ltb-true _ _ t in taken-by l ∙ eq-eqb _ 1 (sym (head-is l e) ∙ h))
+      (λ f. let z : n ≡ 0 = e ∙ key-past (ltb-false _ _ f) in absurd (omega arith))
+
+  pub head-free : {n : ℕ} → n ≡ keyAmong words p → (n / 256 % 256 ≡ 1 → ⊥) → placeAt (shelfAt words) p .taken ≡ false
+  head-free {n} e h =
+      by (ltb p 4)
+      (λ t. let l : p < 4 = ltb-true _ _ t in taken-by l ∙ ne-eqb _ 1 (λ q. h (head-is l e ∙ q)))
+      (λ f. none-past (ltb-false _ _ f))
+
+  below : placeAt (shelfAt words) p .taken ≡ true → p < 4
+  below t =
+      by (ltb p 4)
+      (λ l. ltb-true _ _ l)
+      (λ f. absurd (apart (sym t ∙ none-past (ltb-false _ _ f))))
+
+  same-table : p < 4 → tableAmong words p ≡ tableOf (tableIn words p)
+  unfolding tableIn lengthsIn
+  same-table h =
+      let k : keyAmong words p ≡ getD words (64 + 4 * p) 0 + 65536 * getD words (65 + 4 * p) 0 = among-key words p counted h in
+      let a : keyAmong words p % 256 ≡ getD words (64 + 4 * p) 0 % 256 = omega arith in
+      let b : keyAmong words p / 65536 ≡ getD words (65 + 4 * p) 0 = omega arith in
+      rw (
+        a,
+        b,
+        among-version words p counted h,
+        among-last words p counted h,
+        listed-same 16 (lengthAmong words p) (lengthIn words p) (λ n l. among-length words p counted h n l),
+      )
+
+  pub table-read : placeAt (shelfAt words) p .taken ≡ true → tableAmong words p ≡ tableOf (placeAt (shelfAt words) p)
+  table-read t =
+      let h = below t in
+      let e : placeAt (shelfAt words) p ≡ tableIn words p = rw (at-count words counted) (table-at words p h (sym (taken-by h) ∙ t)) in
+      same-table h ∙ ap tableOf (sym e)
+
+module _ (words store : List ℕ) (p : ℕ) (fields : List ℕ) where
+  pub lent-refused : (n : ℕ) → takenOf (shelfAt words) (length store) p ≡ Holding.Refused n → out n fields ≡ tableLent words store p fields
+  unfolding tableLent
+  lent-refused n e =
+      puts-refused n [] fields (some-number (shelfAt words) (length store) p n e)
+      ∙ ap (λ t. puts t fields) (sym (told-refused (shelfAt words) (length store) p n e))
+
+  lent-put :
+      (q : ℕ)
+      → takenOf (shelfAt words) (length store) p ≡ Holding.In q
+      → {code : ℕ}
+      {left : List ℕ}
+      → out code left ≡ tablePut (tableOf (placeAt (shelfAt words) p)) fields
+      → out code left ≡ tableLent words store p fields
+  unfolding tableLent tablePut
+  lent-put q e g = g ∙ ap (λ t. puts t fields) (sym (told-table (shelfAt words) (length store) p q e))
+
+  pub lent-table :
+      (q : ℕ)
+      → takenOf (shelfAt words) (length store) p ≡ Holding.In q
+      → getD words (64 + 4 * p) 0 < 65536
+      → {t : Table}
+      → t ≡ tableAmong words q
+      → {code : ℕ}
+      {left : List ℕ}
+      → out code left ≡ tablePut t fields
+      → out code left ≡ tableLent words store p fields
+  lent-table q e short g h =
+      let i = taken-says (shelfAt words) (length store) p q e in
+      lent-put q e
+      (h
+      ∙ ap (λ t. tablePut t fields) (g ∙ ap (tableAmong words) (sym (i .same)) ∙ table-read words p short (i .sound) (i .taken)))
+
+  -- a refused question leaves the buffer as it was
+  pub table-untouched : ¬ (tableLent words store p fields .code ≡ 0) → tableLent words store p fields .out ≡ fields
+  unfolding tableLent
+  table-untouched = puts-untouched (tableTold (shelfAt words) (length store) p) fields
+
+  -- it is answered exactly when neither 17, 18 nor 14 is so and the numbers fit
+  pub table-accepted :
+      (tableLent words store p fields .code ≡ 0)
+      ↔ ((tableTold (shelfAt words) (length store) p .number ≡ 0) × (length (tableTold (shelfAt words) (length store) p .values) ≤ length fields))
+  unfolding tableLent
+  table-accepted = puts-accepted (tableTold (shelfAt words) (length store) p) fields
+
+-- a place is told by whether it is taken and by its numbers
+place-by : (x y : Place) → x .taken ≡ y .taken → numbersOf (tableOf x) ≡ numbersOf (tableOf y) → x ≡ y
+place-by x y t e =
+    let a : x .key .table ≡ y .key .table = cc in
+    let b : x .key .extension ≡ y .key .extension = cc in
+    let c : x .version ≡ y .version = cc in
+    let d : x .last ≡ y .last = cc in
+    let l : x .lengths ≡ y .lengths = cc in
+    same-place x y t a b c d l
+
+module _ (a b : Shelf) (size : ℕ) (w : size ≡ storeSize) (s : spoiledOf a ≡ false) (r : spoiledOf b ≡ false) where
+  told-taken : (x : Shelf) → spoiledOf x ≡ false → (p : ℕ) → placeAt x p .taken ≡ true → tableTold x size p ≡ told 0 (numbersOf (tableOf (placeAt x p)))
+  told-taken x q p t = told-table x size p p (taken-place x size p w q t)
+
+  told-free : (x : Shelf) → spoiledOf x ≡ false → (p : ℕ) → placeAt x p .taken ≡ false → tableTold x size p ≡ told 14 []
+  told-free x q p f = told-refused x size p 14 (taken-14 x size p w q f)
+
+  pub same-tables : Same a b → (p : ℕ) → p < places → tableTold a size p ≡ tableTold b size p
+  same-tables same p h =
+      by (placeAt a p .taken)
+      (λ t.
+      told-taken a s p t
+      ∙ ap (λ (x : Place). told 0 (numbersOf (tableOf x))) (same .equal p h t)
+      ∙ sym (told-taken b r p (sym (same .takes p h) ∙ t)))
+      (λ f. told-free a s p f ∙ sym (told-free b r p (sym (same .takes p h) ∙ f)))
+
+  module _ (tell : (p : ℕ) → p < places → tableTold a size p ≡ tableTold b size p) where
+    takes-alike : (p : ℕ) → p < places → placeAt a p .taken ≡ placeAt b p .taken
+    takes-alike p h =
+        by (placeAt a p .taken)
+        (λ t.
+        by (placeAt b p .taken)
+        (λ u. t ∙ sym u)
+        (λ f. let z : 0 ≡ 14 = ap (λ x. x .number) (sym (told-taken a s p t) ∙ tell p h ∙ told-free b r p f) in absurd (omega arith)))
+        (λ f.
+        by (placeAt b p .taken)
+        (λ u. let z : 14 ≡ 0 = ap (λ x. x .number) (sym (told-free a s p f) ∙ tell p h ∙ told-taken b r p u) in absurd (omega arith))
+        (λ g. f ∙ sym g))
+
+    pub tables-same : Same a b
+    tables-same =
+        record {
+          takes = takes-alike;
+          equal =
+              λ p h t.
+              place-by (placeAt a p) (placeAt b p) (takes-alike p h)
+              (ap (λ x. x .values) (sym (told-taken a s p t) ∙ tell p h ∙ told-taken b r p (sym (takes-alike p h) ∙ t)));
+        }

@@ -1,0 +1,53 @@
+// A table in the numbers that a host is told it in: its key, its version, its last number, and how many bytes each of its sixteen
+// sections has.
+ghost use mathlib.Core.Path.{_≡_};
+ghost use mathlib.Core.List.{_++_};
+ghost use Prim.Native.Nat.{_≤_};
+ghost use lib.ListN.{length, drop};
+ghost use Rattle.answers.specs.Answers.{out as outOf};
+ghost use Rattle.tables.specs.Numbers.{numbersOf, tablePut};
+
+// A section that is not there has length 0.
+pub struct Table {
+    pub table: u8,
+    pub extension: u16,
+    pub version: u16,
+    pub last: u16,
+    pub lengths: [u16; 16],
+}
+
+// The numbers before the lengths, and how many lengths there are.
+const HEAD: usize = 4;
+
+const LENGTHS: usize = 16;
+
+// How many numbers a table is told in.
+const FIELDS: usize = HEAD + LENGTHS;
+
+// Puts a table's numbers at the front of the buffer.
+fn put(t: Table, fields: &mut [u16])
+    requires { ⌜ 20 ≤ length (now fields) ⌝ }
+    ensures { λ _. ⌜ now (fields .exit) ≡ numbersOf t ++ drop 20 (now (fields .entry)) ⌝ }
+{
+    let lengths = t.lengths;
+    fields[0] = base::half(t.table);
+    fields[1] = t.extension;
+    fields[2] = t.version;
+    fields[3] = t.last;
+    let mut n: usize = 0;
+    while n < LENGTHS {
+        fields[HEAD + n] = lengths[n];
+        n += 1;
+    }
+}
+
+// Puts a table's numbers at the front of the buffer, and answers 0; 15 where they do not fit.
+pub fn put_table(t: Table, fields: &mut [u16]) -> u8
+    ensures { λ r. ⌜ outOf r (now (fields .exit)) ≡ tablePut t (now (fields .entry)) ⌝ }
+{
+    if fields.len() < FIELDS {
+        return answers::OUTPUT_TOO_SMALL;
+    }
+    put(t, fields);
+    answers::DONE
+}
