@@ -2,19 +2,20 @@
 --   puts-refused, puts-short, puts-values     each way out
 --   puts-untouched                            a refused call leaves the buffer as it was
 --   puts-accepted                             the answer is 0 exactly when nothing refuses it and the values fit
-use mathlib.Core.Path.{_≡_, refl, sym, ap, subst, _∙_}
-use mathlib.Core.List.{List, _++_}
-use mathlib.Core.Logic.{_↔_}
+use mathlib.Core.Path.{_≡_, refl}
+use mathlib.Core.List.{List, [], _++_}
+use mathlib.Core.Logic.{_↔_, ⊎-elim}
 use Prim.Native.Nat.{ℕ, _<_, _≤_}
 use native.Mathlib.Omega.{arith}
 use lib.Dec.{ltb, eqb}
 use lib.ListN.{length, drop}
 use borrow.Author.Tests.{lt-ltb, le-ltb, ne-eqb, ltb-true, ltb-false, eqb-true, eqb-false}
-use Rattle.base.proofs.Cases.{by}
+use Rattle.base.proofs.Cases.{by, same-or}
 use Rattle.answers.specs.Answers.{Told, told, Out, out, puts}
 
-pub puts-refused : (n : ℕ) (values old : List ℕ) → 0 < n → out n old ≡ puts (told n values) old
-puts-refused n values old h = rw (ne-eqb n 0 (omega arith))
+pub puts-refused : (n : ℕ) (old : List ℕ) → out n old ≡ puts (told n []) old
+puts-refused n old =
+    ⊎-elim (λ z. rw (z, le-ltb (length old) 0 (omega arith))) (λ d. rw (ne-eqb n 0 d)) (same-or n 0)
 
 pub puts-short : (values old : List ℕ) → length old < length values → out 15 old ≡ puts (told 0 values) old
 puts-short values old h = rw (lt-ltb (length old) (length values) h)

@@ -2,6 +2,8 @@
 --   read-spelt      a number that is spelt, with anything after it, is read
 --   only-spelt      what is read without 11 is spelt as it stands there
 --   one-spelling    two numbers that are spelt at the front of the same bytes are one
+--   three-most      a number takes at most three bytes
+--   number-back     it comes back out of the number that crosses the boundary
 --   refused-11      11 is given exactly when no number is spelt there
 --   example-12      P12
 use mathlib.Core.Path.{_≡_, refl, sym, ap, _∙_}
@@ -14,8 +16,8 @@ use lib.Dec.{ltb}
 use lib.ListN.{length}
 use borrow.Author.Tests.{le-ltb, ltb-true, ltb-false}
 use Rattle.base.proofs.Cases.{by, same-or}
-use Rattle.file_number.specs.Number.{largest, spelling, spelt, groups, worth, cutOff, lastIsZero, notShortest, numberIn, Bytes}
-use Rattle.file_number.specs.Answer.{numberTold}
+use Rattle.file_number.specs.Number.{largest, spelling, spelt, groups, worth, cutOff, lastIsZero, notShortest, numberIn, numberAt, Bytes}
+use Rattle.file_number.specs.Answer.{numberTold, numberCode, numberBack, Number-Back}
 use Rattle.file_number.specs.declared.Number.{Number}
 use Rattle.file_number.proofs.Spelling.{spelt-1, spelt-2, spelt-3}
 use Rattle.file_number.proofs.Reading.{one-in, zero-in, two-in, zero-in-3, three-in, above-in}
@@ -156,3 +158,43 @@ refused-11 s w at = (
 pub example-12 : (spelt 128 ≡ 0x80 ∷ 0x01 ∷ []) × (numberIn (0x80 ∷ 0x00 ∷ []) 0 ≡ Number.Refused 11)
 unfolding spelling numberIn cutOff groups worth lastIsZero
 example-12 = (refl, refl)
+
+-- a number takes at most three bytes
+spelt-3-long : (n : ℕ) → length (spelt n) ≤ 3
+unfolding spelling
+spelt-3-long n =
+    by (ltb n 128) (λ t. rw t (omega arith)) (λ f. by (ltb (n / 128) 128) (λ t. rw (f, t) (omega arith)) (λ t. rw (f, t) (omega arith)))
+
+pub three-most : (s : List ℕ) → Bytes s → (n next : ℕ) → numberIn s 0 ≡ Number.Value n next → (n ≤ largest) × (next ≤ 3)
+three-most s w n next e =
+    let g = only-spelt 0 n next s w e in
+    let l : length (spelt n) ≤ 3 = spelt-3-long n in
+    (g .most, omega (arith, g .after))
+
+-- the parts of the number that crosses the boundary
+number-of : (n next : ℕ) → n ≤ largest → (256 * n + 16777216 * next) / 256 % 65536 ≡ n
+number-of n next m = let whole : (256 * n + 16777216 * next) / 256 ≡ n + 65536 * next = omega arith in rw whole (omega arith)
+
+size-of : (n next : ℕ) → n ≤ largest → (256 * n + 16777216 * next) / 16777216 ≡ next
+size-of n next m = omega arith
+
+back-value : (n next : ℕ) → n ≤ largest → next ≤ 3 → numberBack (numberCode (Number.Value n next)) ≡ Number.Value n next
+back-value n next m l =
+    let same : next % 256 ≡ next = omega arith in
+    let low : (256 * n + 16777216 * next) % 256 ≡ 0 = omega arith in
+    rw (same, low, number-of n next m, size-of n next m)
+
+-- no other number refuses
+only-11 : (s : List ℕ) (n : ℕ) → numberIn s 0 ≡ Number.Refused n → n ≡ 11
+unfolding numberIn
+only-11 s n e =
+    by (cutOff s || (notShortest s || ltb largest (worth (groups s))))
+    (λ t. let z : Number.Refused 11 ≡ Number.Refused n = rw t at e in cc)
+    (λ f. absurd (unlike (rw f at e)))
+
+pub number-back : Number-Back
+number-back bytes w = go (numberAt bytes 0) refl
+  where
+    go : (r : Number) → numberAt bytes 0 ≡ r → numberBack (numberCode r) ≡ r
+    go (Number.Value n next) e = let k = three-most bytes w n next e in back-value n next (k .0) (k .1)
+    go (Number.Refused n) e = rw (only-11 bytes n e)

@@ -2,6 +2,7 @@
 // every group but the last, in the shortest form, at most 65,535. So a number has one spelling.
 ghost use mathlib.Core.Path.{_≡_};
 ghost use Rattle.file_number.specs.Number.{numberAt, writing, writtenOf};
+ghost use Rattle.file_number.specs.Answer.{numberCode};
 
 pub enum Number {
     // The number, and the place after its last group.
@@ -69,6 +70,25 @@ pub fn read_number(file: &[u8], at: usize) -> Number
         + base::half(high) * THIRD;
     let next = third + 1;
     Number::Value(value, next)
+}
+
+// The answer in one number: the number from bit 8 up, and how many bytes it takes from bit 24 up.
+const BIT_8: u32 = 256;
+
+const BIT_24: u32 = 16777216;
+
+// The number at the front of some bytes, in a number whose low 8 bits are the refusal.
+pub fn number_code(bytes: &[u8]) -> u32
+    ensures { λ r. ⌜ r ≡ numberCode (numberAt (now (bytes .entry)) 0) ⌝ }
+{
+    let found = read_number(bytes, 0);
+    match found {
+        Number::Refused(n) => answers::wider(n),
+        Number::Value(value, next) => {
+            let size = (next % 256) as u32;
+            BIT_8 * base::full(value) + BIT_24 * size
+        }
+    }
 }
 
 // The number, written in its one spelling at the front of the output; 15 where it does not fit.

@@ -83,22 +83,6 @@ module _ (shelf : Shelf) (size p : ℕ) where
   unfolding takenOf tableTold
   told-table q e = past (λ n. told n []) [] (told 0 (numbersOf (tableOf (placeAt shelf p)))) (untold shelf size p) q p e
 
-  pub some-number : (n : ℕ) → takenOf shelf size p ≡ Holding.Refused n → 0 < n
-  some-number n e =
-      ⊎-elim
-      (λ w.
-      by (spoiledOf shelf)
-      (λ t. is 18 (sym (taken-18 shelf size p w t) ∙ e) (omega arith))
-      (λ s.
-      by (placeAt shelf p .taken)
-      (λ t. absurd (never (sym e ∙ taken-place shelf size p w s t)))
-      (λ f. is 14 (sym (taken-14 shelf size p w s f) ∙ e) (omega arith))))
-      (λ w. is 17 (sym (taken-17 shelf size p w) ∙ e) (omega arith))
-      (same-or size storeSize)
-    where
-      is : (k : ℕ) {m : ℕ} → Holding.Refused k ≡ Holding.Refused m → 0 < k → 0 < m
-      is k {m} q l = let z : k ≡ m = cc in omega arith
-
 apart : true ≡ false → ⊥
 apart e = let z : _≡_ {A = ℕ} 0 1 = cc in omega arith
 
@@ -181,7 +165,7 @@ module _ (words store : List ℕ) (p : ℕ) (fields : List ℕ) where
   pub lent-refused : (n : ℕ) → takenOf (shelfAt words) (length store) p ≡ Holding.Refused n → out n fields ≡ tableLent words store p fields
   unfolding tableLent
   lent-refused n e =
-      puts-refused n [] fields (some-number (shelfAt words) (length store) p n e)
+      puts-refused n fields
       ∙ ap (λ t. puts t fields) (sym (told-refused (shelfAt words) (length store) p n e))
 
   lent-put :
