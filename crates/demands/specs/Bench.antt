@@ -15,7 +15,7 @@ use Rattle.writer_laws.specs.Laws.{InAnyOrder}
 use Rattle.shelf_histories.specs.History.{Loan, Sized, History, wholeAfter, copyAfter}
 use Rattle.demands.specs.Shelf.{complete}
 
--- section k of a body and a label that the writer takes, as `khumsafil_writer_section` leaves it at the front of an output with room for it; its
+-- section k of a body and a label that the writer takes, as `khumsafil_raw_writer_section` leaves it at the front of an output with room for it; its
 -- refusals are told in writer, specs/Theorems
 abbrev pub SectionWritten : Type 0
 SectionWritten =

@@ -14,20 +14,20 @@ use Rattle.shelf_load.specs.Answer.{loadLent}
 use Rattle.writer.specs.Answer.{label, sectionLent}
 use Rattle.clock_answers.specs.Calls.{freshCall, offerCall, moveCall, timeCall, stateCall}
 use Rattle.khumsafil.specs.Shelf.{givenKey}
-use Rattle.khumsafil.proofs.shelves.khumsafil_shelf_begin.Reads as shelf-begin
-use Rattle.khumsafil.proofs.shelves.khumsafil_shelf_offer.Reads as shelf-offer
-use Rattle.khumsafil.proofs.shelves.khumsafil_shelf_complete.Reads as shelf-complete
-use Rattle.khumsafil.proofs.shelves.khumsafil_shelf_lowest_missing.Reads as shelf-missing
-use Rattle.khumsafil.proofs.shelves.khumsafil_shelf_copy_section.Reads as shelf-copy
-use Rattle.khumsafil.proofs.shelves.khumsafil_shelf_release.Reads as shelf-release
-use Rattle.khumsafil.proofs.shelves.khumsafil_shelf_save.Reads as shelf-save
-use Rattle.khumsafil.proofs.shelves.khumsafil_shelf_load.Reads as shelf-load
-use Rattle.khumsafil.proofs.writers.khumsafil_writer_section.Reads as writer-section
-use Rattle.khumsafil.proofs.clocks.khumsafil_clock_fresh.Reads as clock-fresh
-use Rattle.khumsafil.proofs.clocks.khumsafil_clock_offer.Reads as clock-offer
-use Rattle.khumsafil.proofs.clocks.khumsafil_clock_move.Reads as clock-move
-use Rattle.khumsafil.proofs.clocks.khumsafil_clock_time.Reads as clock-time
-use Rattle.khumsafil.proofs.clocks.khumsafil_application_state.Reads as clock-state
+use Rattle.khumsafil.proofs.shelves.khumsafil_raw_shelf_begin.Reads as shelf-begin
+use Rattle.khumsafil.proofs.shelves.khumsafil_raw_shelf_offer.Reads as shelf-offer
+use Rattle.khumsafil.proofs.shelves.khumsafil_raw_shelf_complete.Reads as shelf-complete
+use Rattle.khumsafil.proofs.shelves.khumsafil_raw_shelf_lowest_missing.Reads as shelf-missing
+use Rattle.khumsafil.proofs.shelves.khumsafil_raw_shelf_copy_section.Reads as shelf-copy
+use Rattle.khumsafil.proofs.shelves.khumsafil_raw_shelf_release.Reads as shelf-release
+use Rattle.khumsafil.proofs.shelves.khumsafil_raw_shelf_save.Reads as shelf-save
+use Rattle.khumsafil.proofs.shelves.khumsafil_raw_shelf_load.Reads as shelf-load
+use Rattle.khumsafil.proofs.writers.khumsafil_raw_writer_section.Reads as writer-section
+use Rattle.khumsafil.proofs.clocks.khumsafil_raw_clock_fresh.Reads as clock-fresh
+use Rattle.khumsafil.proofs.clocks.khumsafil_raw_clock_offer.Reads as clock-offer
+use Rattle.khumsafil.proofs.clocks.khumsafil_raw_clock_move.Reads as clock-move
+use Rattle.khumsafil.proofs.clocks.khumsafil_raw_clock_time.Reads as clock-time
+use Rattle.khumsafil.proofs.clocks.khumsafil_raw_clock_state.Reads as clock-state
 
 -- words, store
 abbrev pub BeginLinked : Type 0

@@ -1,52 +1,52 @@
-// The clock and the applications. The host lends the record in 67 words and gets the next one back in them.
+// The clock and the applications. The host lends the record, 67 numbers of 32 bits, and gets the next one back in it.
 ghost use mathlib.Core.Path.{_≡_};
 ghost use Rattle.clock_answers.specs.Calls.{freshCall, offerCall, moveCall, timeCall, stateCall};
 
-// Makes the words a fresh clock.
+// Makes the record a fresh clock.
 #[no_mangle]
-pub extern "C" fn khumsafil_clock_fresh(words: &mut [u32]) -> u8
-    ensures { λ r. ⌜ r ≡ freshCall (now (words .entry)) .answer ⌝ }
-    ensures { λ _. ⌜ now (words .exit) ≡ freshCall (now (words .entry)) .words ⌝ }
+pub extern "C" fn khumsafil_raw_clock_fresh(record: &mut [u32]) -> u8
+    ensures { λ r. ⌜ r ≡ freshCall (now («record» .entry)) .answer ⌝ }
+    ensures { λ _. ⌜ now («record» .exit) ≡ freshCall (now («record» .entry)) .words ⌝ }
 {
-    clock_answers::clock_fresh(words)
+    clock_answers::clock_fresh(record)
 }
 
 // Offers an activation to the clock.
 #[no_mangle]
-pub extern "C" fn khumsafil_clock_offer(
-    words: &mut [u32],
+pub extern "C" fn khumsafil_raw_clock_offer(
+    record: &mut [u32],
     application: u8,
     event: u16,
     action: u8,
     time: u32,
 ) -> u16
-    ensures { λ r. ⌜ r ≡ offerCall (now (words .entry)) application event action time .answer ⌝ }
-    ensures { λ _. ⌜ now (words .exit) ≡ offerCall (now (words .entry)) application event action time .words ⌝ }
+    ensures { λ r. ⌜ r ≡ offerCall (now («record» .entry)) application event action time .answer ⌝ }
+    ensures { λ _. ⌜ now («record» .exit) ≡ offerCall (now («record» .entry)) application event action time .words ⌝ }
 {
-    clock_answers::clock_offer(words, application, event, action, time)
+    clock_answers::clock_offer(record, application, event, action, time)
 }
 
 // Moves the clock.
 #[no_mangle]
-pub extern "C" fn khumsafil_clock_move(words: &mut [u32], to: u32) -> u16
-    ensures { λ r. ⌜ r ≡ moveCall (now (words .entry)) to .answer ⌝ }
-    ensures { λ _. ⌜ now (words .exit) ≡ moveCall (now (words .entry)) to .words ⌝ }
+pub extern "C" fn khumsafil_raw_clock_move(record: &mut [u32], to: u32) -> u16
+    ensures { λ r. ⌜ r ≡ moveCall (now («record» .entry)) to .answer ⌝ }
+    ensures { λ _. ⌜ now («record» .exit) ≡ moveCall (now («record» .entry)) to .words ⌝ }
 {
-    clock_answers::clock_move(words, to)
+    clock_answers::clock_move(record, to)
 }
 
 // The clock's time.
 #[no_mangle]
-pub extern "C" fn khumsafil_clock_time(words: &[u32]) -> u64
-    ensures { λ r. ⌜ r ≡ timeCall (now (words .entry)) ⌝ }
+pub extern "C" fn khumsafil_raw_clock_time(record: &[u32]) -> u64
+    ensures { λ r. ⌜ r ≡ timeCall (now («record» .entry)) ⌝ }
 {
-    clock_answers::clock_time(words)
+    clock_answers::clock_time(record)
 }
 
 // The state of an application.
 #[no_mangle]
-pub extern "C" fn khumsafil_application_state(words: &[u32], application: u8) -> u16
-    ensures { λ r. ⌜ r ≡ stateCall (now (words .entry)) application ⌝ }
+pub extern "C" fn khumsafil_raw_clock_state(record: &[u32], application: u8) -> u16
+    ensures { λ r. ⌜ r ≡ stateCall (now («record» .entry)) application ⌝ }
 {
-    clock_answers::application_state(words, application)
+    clock_answers::application_state(record, application)
 }

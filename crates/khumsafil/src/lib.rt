@@ -1,4 +1,5 @@
-// The host's boundary: what firmware in C or Rust calls, a file for each layer. Each function passes its arguments on to the
+// The host's boundary, a file for each layer: numbers and slices alone, which the header's inline functions and the Rust wrapper make
+// things of. Each function passes its arguments on to the
 // crate that puts the layer's answers into numbers; none asks anything of its caller, since nothing would hold a host to it.
 pub mod clocks;
 pub mod files;
@@ -6,4 +7,5 @@ pub mod loops;
 pub mod sections;
 pub mod shelves;
 pub mod triggers;
+pub mod versions;
 pub mod writers;

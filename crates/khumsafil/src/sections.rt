@@ -5,7 +5,7 @@ ghost use Rattle.section.specs.Answer.{readingCode};
 
 // The section that the payload is, in one number: 0 in the low 8 bits and the fields above, or the refusal alone.
 #[no_mangle]
-pub extern "C" fn khumsafil_section_read(payload: &[u8]) -> u64
+pub extern "C" fn khumsafil_raw_section_read(payload: &[u8]) -> u64
     ensures { λ r. ⌜ r ≡ readingCode (readOf (now (payload .entry))) ⌝ }
 {
     section::read_code(payload)

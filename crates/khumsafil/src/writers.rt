@@ -7,7 +7,7 @@ use writer::Label;
 // How many sections a body of so many bytes makes, in one number: the refusal alone, or 0 in the low 8 bits and the count
 // above.
 #[no_mangle]
-pub extern "C" fn khumsafil_writer_count(length: usize) -> u16
+pub extern "C" fn khumsafil_raw_writer_count(length: usize) -> u16
     ensures { λ r. ⌜ r ≡ countLent length ⌝ }
 {
     writer::count_code(length)
@@ -15,7 +15,7 @@ pub extern "C" fn khumsafil_writer_count(length: usize) -> u16
 
 // Writes section k of the table that carries the body.
 #[no_mangle]
-pub extern "C" fn khumsafil_writer_section(
+pub extern "C" fn khumsafil_raw_writer_section(
     table: u8,
     extension: u16,
     version: u8,

@@ -96,7 +96,7 @@ same-place : (x y : Place) → x .taken ≡ y .taken → x .key .table ≡ y .ke
 unfolding place-of
 same-place x y t a b c d l =
     let made : place-of (x .taken) (x .key .table) (x .key .extension) (x .version) (x .last) (x .lengths)
-        ≡ place-of (y .taken) (y .key .table) (y .key .extension) (y .version) (y .last) (y .lengths) = cc in
+    ≡ place-of (y .taken) (y .key .table) (y .key .extension) (y .version) (y .last) (y .lengths) = cc in
     made
 
 -- numbers of 16 bits, of a record that is not spoiled
