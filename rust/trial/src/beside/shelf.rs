@@ -320,8 +320,9 @@ pub fn equal(a: &[u16; RECORD], b: &[u16; RECORD], store: &[u8]) -> bool {
     let (again_one, again_two) = (ours::Record::from(*a), ours::Record::from(*b));
     assert!(one == again_one && two == again_two, "a record is itself");
     if shown(a) || shown(b) {
-        let other = theirs::equal(&decode(a), &decode(b));
-        assert_eq!(same, other, "{a:?} and {b:?}");
+        let (a, b) = (decode(a), decode(b));
+        let other = (theirs::equal(&a, &b), theirs::equal(&b, &a));
+        assert_eq!((same, same), other, "{a:?} and {b:?}");
     }
     let tables = |record: &[u16; RECORD]| {
         let places = (0..PLACES as u8).map(|place| lent::table(record, store, place));
