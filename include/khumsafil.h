@@ -509,7 +509,8 @@ typedef struct khumsafil_part {
     uint16_t length;
 } khumsafil_part;
 
-/* The kinds of target. A trigger without an explicit target was read, and is not the 0 of a refused one. */
+/* The kinds of target, each one more than in the raw numbers: a trigger without an explicit target was read, and is not the 0
+   of a refused one. */
 typedef enum khumsafil_target_kind {
     KHUMSAFIL_TARGET_NOT_READ = 0, /* the trigger was refused */
     KHUMSAFIL_TARGET_NONE = 1,     /* no explicit target */
@@ -680,7 +681,8 @@ static inline khumsafil_time khumsafil_clock_time(const khumsafil_clock *clock) 
     return time;
 }
 
-/* The states of an application. Released is not 0, so that the 0 of a refused answer is no state. */
+/* The states of an application, each one more than in the raw answer: Released is not 0, so that the 0 of a refused answer
+   is no state. */
 typedef enum khumsafil_state_kind {
     KHUMSAFIL_STATE_NOT_KNOWN = 0, /* the question was refused */
     KHUMSAFIL_STATE_RELEASED = 1,
