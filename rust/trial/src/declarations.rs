@@ -335,7 +335,10 @@ mod tests {
         let header = "/* inline */\n#define V 0x0102\ntypedef enum e {\n    E_A = 0, /* none */\n    E_B = 7\n} e;\n\
             static inline e f(int x) {\n    return g(x);\n}\n\nstatic inline const char *h(void) {\n    return 0;\n}\n";
         let constants = vec![("E_A".to_string(), 0), ("E_B".to_string(), 7)];
-        assert_eq!(enumerations_in_header(header), [("e".to_string(), constants)]);
+        assert_eq!(
+            enumerations_in_header(header),
+            [("e".to_string(), constants)]
+        );
         assert_eq!(numbers_in_header(header), [("V".to_string(), 0x0102)]);
         let found = inline_in_header(header);
         let names: Vec<_> = found.iter().map(|f| (&f.result[..], &f.name[..])).collect();

@@ -266,6 +266,9 @@ fn enumerations_agree() {
     for (name, constants) in enumerations_in_header(&text(top("include/khumsafil.h"))) {
         let (first, number) = &constants[0];
         let refused = ["_NOT_", "_NOTHING"].iter().any(|w| first.contains(w));
-        assert!(*number == 0 && (refused || name == "khumsafil_action"), "{name}");
+        assert!(
+            *number == 0 && (refused || name == "khumsafil_action"),
+            "{name}"
+        );
     }
 }
