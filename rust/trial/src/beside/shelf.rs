@@ -43,17 +43,19 @@ pub fn fields(table: &theirs::Table) -> [u16; TABLE_FIELDS] {
 
 /// Whether the two tables are one.
 pub fn same_table(ours: &ours::Table, other: &theirs::Table) -> bool {
-    let numbers = 0..SECTIONS as u8;
-    let missing = numbers.filter(|n| *n <= other.last && other.lengths[usize::from(*n)] == 0);
-    let missing: Vec<u8> = missing.collect();
     let held = |n: u8| other.lengths.get(usize::from(n)).copied().unwrap_or(0);
+    let missing = || (0..=other.last).filter(|n| held(*n) == 0);
+    // Those past a table's numbers are not held.
+    let mut asked = (0..SECTIONS as u8 + 2).chain([128, 255]);
     ours.key == Key::new(other.table_id, other.extension)
         && (ours.version, ours.last) == (other.version, other.last)
         && ours.lengths == other.lengths
-        && ours.missing().eq(missing.iter().copied())
-        && ours.is_complete() == missing.is_empty()
-        && (0..=255).all(|n| ours.holds(n) == (held(n) > 0))
-        && (0..=255).all(|n| ours.length(n).unwrap_or(0) == usize::from(held(n)))
+        && ours.missing().eq(missing())
+        && ours.is_complete() == (missing().count() == 0)
+        && asked.all(|n| {
+            let length = ours.length(n).unwrap_or(0);
+            ours.holds(n) == (length > 0) && length == usize::from(held(n))
+        })
 }
 
 /// A call by the library over a record and a store that are lent.
@@ -200,8 +202,8 @@ impl Both {
                 0 => self.calls / 4 % TABLE_FIELDS,
                 more => TABLE_FIELDS + more - 1,
             };
-            let mut lent = [UNWRITTEN_NUMBER; TABLE_FIELDS + 2];
-            let answer = lent::table_fields(record, store, place, &mut lent[..room]);
+            let mut given = [UNWRITTEN_NUMBER; TABLE_FIELDS + 2];
+            let answer = lent::table_fields(record, store, place, &mut given[..room]);
             let number = match other {
                 Err(number) => number,
                 Ok(_) if room < TABLE_FIELDS => 15,
@@ -211,9 +213,9 @@ impl Both {
             assert_eq!(answer, number, "{place} of {record:?}, room {room}");
             let written = if number == 0 { TABLE_FIELDS } else { 0 };
             if let (0, Ok(table)) = (number, &other) {
-                assert_eq!(lent[..TABLE_FIELDS], fields(table), "{place} of {record:?}");
+                assert_eq!(given[..TABLE_FIELDS], fields(table), "{place} of {record:?}");
             }
-            let kept = lent[written..].iter().all(|n| *n == UNWRITTEN_NUMBER);
+            let kept = given[written..].iter().all(|n| *n == UNWRITTEN_NUMBER);
             assert!(kept, "{place} of {record:?}, room {room}: past the answer");
             let met = [0, 14, 15, 17, 18].iter().position(|n| *n == number);
             self.tables[met.expect("an answer of this question")] += 1;
@@ -295,10 +297,10 @@ impl Both {
         assert!(record.iter().all(|n| *n == 0x0101), "{call:?}");
         assert!(out.iter().all(|b| *b == UNWRITTEN), "{call:?}");
         for place in 0..ASKED {
-            let mut lent = [UNWRITTEN_NUMBER; TABLE_FIELDS];
-            let answer = lent::table_fields(&record, &self.store[..size], place, &mut lent);
+            let mut given = [UNWRITTEN_NUMBER; TABLE_FIELDS];
+            let answer = lent::table_fields(&record, &self.store[..size], place, &mut given);
             assert_eq!(answer, Err(refusal), "{place}, {count} numbers");
-            assert_eq!(lent, [UNWRITTEN_NUMBER; TABLE_FIELDS], "{place}");
+            assert_eq!(given, [UNWRITTEN_NUMBER; TABLE_FIELDS], "{place}");
         }
     }
 
@@ -318,8 +320,9 @@ pub fn equal(a: &[u16; RECORD], b: &[u16; RECORD], store: &[u8]) -> bool {
     let (again_one, again_two) = (ours::Record::from(*a), ours::Record::from(*b));
     assert!(one == again_one && two == again_two, "a record is itself");
     if shown(a) || shown(b) {
-        let other = theirs::equal(&decode(a), &decode(b));
-        assert_eq!(same, other, "{a:?} and {b:?}");
+        let (a, b) = (decode(a), decode(b));
+        let other = (theirs::equal(&a, &b), theirs::equal(&b, &a));
+        assert_eq!((same, same), other, "{a:?} and {b:?}");
     }
     let tables = |record: &[u16; RECORD]| {
         let places = (0..PLACES as u8).map(|place| lent::table(record, store, place));
