@@ -23,3 +23,4 @@ pub mod Never
 pub mod Complete
 pub mod Reception
 pub mod Example
+pub mod Tables

@@ -9,3 +9,4 @@ pub mod Questions
 pub mod Loads
 pub mod Reception
 pub mod Laws
+pub mod Tables
