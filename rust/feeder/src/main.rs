@@ -5,6 +5,7 @@
 
 use khumsafil::shelf::LARGEST_FILE;
 use khumsafil::writer::{self, Label, LARGEST_BODY};
+use khumsafil::Key;
 use std::env;
 use std::io::{self, Read, Write};
 use std::process::ExitCode;
@@ -31,11 +32,12 @@ fn label(words: &[String]) -> Option<Label> {
     let [table, extension, version] = words else {
         return None;
     };
-    Some(Label {
-        table_id: u8::try_from(number(table)?).ok()?,
-        extension: u16::try_from(number(extension)?).ok()?,
-        version: u8::try_from(number(version)?).unwrap_or(u8::MAX),
-    })
+    let key = Key::new(
+        u8::try_from(number(table)?).ok()?,
+        u16::try_from(number(extension)?).ok()?,
+    );
+    let version = u8::try_from(number(version)?).unwrap_or(u8::MAX);
+    Some(Label::new(key, version))
 }
 
 /// Reads the body and writes its file. One byte more than the longest body is read, so that a longer one is refused and not cut.

@@ -1,8 +1,8 @@
 //! The buyer's question, once round: a shelf is begun, three datagrams are offered, the list is asked whether it is whole,
 //! saved as a file, and the file is listed.
 
-use khumsafil::shelf::{Accepted, Key, Shelf, LARGEST_FILE, STORE};
-use khumsafil::{file, Refusal};
+use khumsafil::shelf::{Accepted, Shelf, LARGEST_FILE, STORE};
+use khumsafil::{file, Key, Refusal};
 
 /// Sections 0, 2 and 1 of 0 to 2, as the station sends them: table 201, key 4660, version 3.
 const DATAGRAMS: [&[u8]; 3] = [
@@ -12,29 +12,26 @@ const DATAGRAMS: [&[u8]; 3] = [
 ];
 
 fn main() -> Result<(), Refusal> {
-    // What the host lends; the shelf's record is kept in the value.
+    // What the host lends; the shelf borrows it, and keeps the record.
     let mut store = vec![0; STORE];
     let mut shelf = Shelf::begin(&mut store)?;
-    let key = Key {
-        table_id: 201,
-        extension: 4_660,
-    };
+    let key = Key::new(201, 4_660);
     for datagram in DATAGRAMS {
-        let did = match shelf.offer(&mut store, datagram)? {
+        let did = match shelf.offer(datagram)? {
             Accepted::Began => "began",
             Accepted::BeganAgain => "began again",
             Accepted::Added => "added",
             Accepted::Repeat => "a repeat",
         };
-        match shelf.lowest_missing(&store, key)? {
+        match shelf.lowest_missing(key)? {
             Some(number) => println!("{did}: section {number} is missing"),
             None => println!("{did}: nothing is missing"),
         }
     }
-    let whole = shelf.complete(&store, key)?;
+    let whole = shelf.is_complete(key);
     println!("the list is {}", if whole { "whole" } else { "not whole" });
     let mut saved = [0; LARGEST_FILE];
-    let size = shelf.save(&store, key, &mut saved)?;
+    let size = shelf.save(key, &mut saved)?;
     println!("saved in {size} bytes:");
     print!(
         "{}",

@@ -1,24 +1,25 @@
 //! Applications, and the clock that applies activations to them.
 //!
-//! The record is [`WORDS`] words that the host keeps and lends. Every value of that many words is some record;
-//! one that is spoiled, and any other number of words, is refused. A refused call leaves them as they were.
+//! A [`Clock`] keeps its record; [`lent`] has the same calls for a host that keeps the record itself. A refused call leaves
+//! it as it was.
 //!
 //! ```
-//! use khumsafil::clock::{self, Action, Activation, Heard, State};
+//! use khumsafil::clock::{Action, Activation, Clock, Heard, State};
 //!
-//! let mut record = [0; clock::WORDS];
-//! clock::fresh(&mut record)?;
+//! let mut clock = Clock::fresh();
 //! let start = Activation { application: 3, event: 1, action: Action::Exec, time: 500 };
-//! assert_eq!(clock::offer(&mut record, start)?, Heard::Waiting);
-//! assert_eq!(clock::move_to(&mut record, 500)?, 1);
-//! assert_eq!(clock::state(&record, 3)?, State::Active);
+//! assert_eq!(clock.offer(start)?, Heard::Waiting);
+//! assert_eq!(clock.move_to(500)?, 1);
+//! assert_eq!((clock.time(), clock.state(3)?), (500, State::Active));
 //! # Ok::<(), khumsafil::Refusal>(())
 //! ```
 
-use crate::{boundary, Refusal};
+use crate::Refusal;
 
-/// How many words a record is.
-pub const WORDS: usize = 67;
+pub mod lent;
+
+/// How many numbers a record is.
+pub const RECORD: usize = 67;
 
 /// The state of an application.
 #[allow(missing_docs)]
@@ -62,84 +63,80 @@ pub enum Heard {
     Waiting,
 }
 
-/// The low 8 bits of an answer are the refusal.
-fn answered(word: u16) -> Result<u8, Refusal> {
-    match word as u8 {
-        0 => Ok((word >> 8) as u8),
-        number => Err(Refusal::of(number)),
+/// A clock, with the eight applications and the activations that it holds.
+///
+/// Its record is never spoiled: [`Clock::resume`] refuses one that is, and no call leaves one. Two clocks are equal where
+/// the time, the states and the set of activations held are, in whatever places these stand.
+#[derive(Clone, Debug)]
+pub struct Clock {
+    record: [u32; RECORD],
+}
+
+/// The bits of a record that mean something: of its states, and of the second number of a place.
+const STATES: u32 = 0xFFFF;
+const MARK: u32 = 0x07FF_FFFF;
+
+impl Clock {
+    /// A clock at 0 with every application Released and nothing held.
+    pub fn fresh() -> Clock {
+        let mut record = [0; RECORD];
+        // Only another size of a record is refused.
+        let _ = lent::fresh(&mut record);
+        Clock { record }
+    }
+
+    /// Takes up a record that was put away. Refused: 35.
+    pub fn resume(record: [u32; RECORD]) -> Result<Clock, Refusal> {
+        lent::time(&record).map(|_| Clock { record })
+    }
+
+    /// The record, to put it away.
+    pub fn record(&self) -> &[u32; RECORD] {
+        &self.record
+    }
+
+    /// Offers an activation. Refused: 30, 32, 33, 34.
+    #[inline]
+    pub fn offer(&mut self, activation: Activation) -> Result<Heard, Refusal> {
+        lent::offer(&mut self.record, activation)
+    }
+
+    /// Moves the clock, and says how many waiting activations that applied. Refused: 31.
+    #[inline]
+    pub fn move_to(&mut self, to: u32) -> Result<u8, Refusal> {
+        lent::move_to(&mut self.record, to)
+    }
+
+    /// The clock's time.
+    #[inline]
+    pub fn time(&self) -> u32 {
+        // Only a spoiled record is refused, and a clock has none.
+        lent::time(&self.record).unwrap_or_default()
+    }
+
+    /// The state of an application. Refused: 30.
+    #[inline]
+    pub fn state(&self, application: u8) -> Result<State, Refusal> {
+        lent::state(&self.record, application)
+    }
+
+    /// What is held, in the places where it stands.
+    fn held(&self) -> impl Iterator<Item = (u32, u32)> + '_ {
+        let places = self.record[3..].chunks_exact(2);
+        places
+            .take(self.record[2] as usize)
+            .map(|place| (place[0], place[1] & MARK))
     }
 }
 
-/// Makes the words a clock at 0 with every application Released. Refused: 35, another number of words.
-#[inline]
-pub fn fresh(words: &mut [u32]) -> Result<(), Refusal> {
-    // SAFETY: the pointer and the length are those of a slice.
-    match unsafe { boundary::khumsafil_clock_fresh(words.as_mut_ptr(), words.len()) } {
-        0 => Ok(()),
-        number => Err(Refusal::of(number)),
+impl PartialEq for Clock {
+    fn eq(&self, other: &Clock) -> bool {
+        // No two that are held are alike, so of two sets of one size either is the other's part or they differ.
+        self.record[0] == other.record[0]
+            && self.record[1] & STATES == other.record[1] & STATES
+            && self.record[2] == other.record[2]
+            && self.held().all(|one| other.held().any(|held| held == one))
     }
 }
 
-/// Offers an activation. Refused: 35, 30, 32, 33, 34.
-#[inline]
-pub fn offer(words: &mut [u32], a: Activation) -> Result<Heard, Refusal> {
-    offer_by_number(words, a.application, a.event, a.action as u8, a.time)
-}
-
-/// Offers an activation whose action is a number as it was received. Refused: 255 for one above 3, and as [`offer`].
-#[inline]
-pub fn offer_by_number(
-    words: &mut [u32],
-    application: u8,
-    event: u16,
-    action: u8,
-    time: u32,
-) -> Result<Heard, Refusal> {
-    // SAFETY: the pointer and the length are those of a slice.
-    let word = unsafe {
-        boundary::khumsafil_clock_offer(
-            words.as_mut_ptr(),
-            words.len(),
-            application,
-            event,
-            action,
-            time,
-        )
-    };
-    answered(word).map(|heard| match heard {
-        1 => Heard::Applied,
-        _ => Heard::Waiting,
-    })
-}
-
-/// Moves the clock, and says how many waiting activations that applied. Refused: 35, 31.
-#[inline]
-pub fn move_to(words: &mut [u32], to: u32) -> Result<u8, Refusal> {
-    // SAFETY: the pointer and the length are those of a slice.
-    answered(unsafe { boundary::khumsafil_clock_move(words.as_mut_ptr(), words.len(), to) })
-}
-
-/// The clock's time. Refused: 35.
-#[inline]
-pub fn time(words: &[u32]) -> Result<u32, Refusal> {
-    // SAFETY: the pointer and the length are those of a slice, and the library only reads.
-    let word = unsafe { boundary::khumsafil_clock_time(words.as_ptr(), words.len()) };
-    match word as u8 {
-        0 => Ok((word >> 32) as u32),
-        number => Err(Refusal::of(number)),
-    }
-}
-
-/// The state of an application. Refused: 35, 30.
-#[inline]
-pub fn state(words: &[u32], application: u8) -> Result<State, Refusal> {
-    // SAFETY: the pointer and the length are those of a slice, and the library only reads.
-    let word =
-        unsafe { boundary::khumsafil_application_state(words.as_ptr(), words.len(), application) };
-    answered(word).map(|state| match state {
-        0 => State::Released,
-        1 => State::Ready,
-        2 => State::Active,
-        _ => State::Suspended,
-    })
-}
+impl Eq for Clock {}

@@ -49,7 +49,7 @@ fn by_length(word: u64, start: usize) -> usize {
 #[inline]
 pub fn step(bytes: &[u8], at: usize) -> Result<Step<'_>, Refusal> {
     // SAFETY: the pointer and the length are those of a slice, and the library only reads.
-    let word = unsafe { boundary::khumsafil_descriptor_step(bytes.as_ptr(), bytes.len(), at) };
+    let word = unsafe { boundary::khumsafil_raw_descriptor_step(bytes.as_ptr(), bytes.len(), at) };
     match word as u8 {
         0 if (word >> 8) as u8 == OVER => Ok(Step::Over),
         0 => {
@@ -69,7 +69,7 @@ pub fn step(bytes: &[u8], at: usize) -> Result<Step<'_>, Refusal> {
 #[inline]
 pub fn is_trigger_tap(bytes: &[u8], at: usize) -> bool {
     // SAFETY: the pointer and the length are those of a slice, and the library only reads.
-    unsafe { boundary::khumsafil_descriptor_is_trigger_tap(bytes.as_ptr(), bytes.len(), at) }
+    unsafe { boundary::khumsafil_raw_descriptor_is_trigger_tap(bytes.as_ptr(), bytes.len(), at) }
 }
 
 /// The descriptors of a loop, from its first to its last or to the first refusal.
@@ -118,10 +118,16 @@ mod tests {
         for start in [2, 255, 256, 4_000, (1 << 40) - 1, 1 << 40, (3 << 40) + 200] {
             for length in [0, 1, 127, 255] {
                 let next = start + length;
-                assert_eq!(next_of(word(next), usize::MAX, start as usize), next as usize);
+                assert_eq!(
+                    next_of(word(next), usize::MAX, start as usize),
+                    next as usize
+                );
                 assert_eq!(next_of(word(next), 1 << 40, start as usize), next as usize);
                 if next < 1 << 40 {
-                    assert_eq!(next_of(word(next), (1 << 40) - 1, start as usize), next as usize);
+                    assert_eq!(
+                        next_of(word(next), (1 << 40) - 1, start as usize),
+                        next as usize
+                    );
                 }
             }
         }

@@ -1,6 +1,7 @@
 //! Khumsafil for a Rust host: safe functions over the proved library, each with a type for its answer.
-//! A call allocates nothing, keeps nothing and never panics.
+//! A call allocates nothing, keeps nothing and never panics, and nothing here needs `std`.
 
+#![no_std]
 #![deny(missing_docs)]
 
 #[allow(missing_docs)]
@@ -8,10 +9,26 @@ mod boundary;
 pub mod clock;
 pub mod descriptor;
 pub mod file;
+mod key;
 mod refusal;
 pub mod section;
 pub mod shelf;
 pub mod trigger;
 pub mod writer;
 
+pub use key::Key;
 pub use refusal::Refusal;
+
+/// The version that this wrapper is made for: 65,536 times the major number, 256 times the minor one, and the patch.
+pub const VERSION: u32 = 0x000200;
+
+/// The version of the library that is linked, in the same form.
+///
+/// ```
+/// assert_eq!(khumsafil::version(), khumsafil::VERSION);
+/// ```
+#[inline]
+pub fn version() -> u32 {
+    // SAFETY: the call takes nothing and gives a number.
+    unsafe { boundary::khumsafil_raw_version() }
+}

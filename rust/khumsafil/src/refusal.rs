@@ -1,6 +1,6 @@
 //! The numbers of refusal, by name.
 
-use std::fmt;
+use core::fmt;
 
 /// Why a call was refused: a number of document 01, from 40 on of document 02, or 255, the boundary's own. Each has a name
 /// here, as in the C header.
@@ -15,7 +15,8 @@ macro_rules! refusals {
             /// Every refusal by its name, rising.
             pub const ALL: &'static [(&'static str, Refusal)] = &[$((stringify!($name), Refusal::$name)),*];
 
-            fn when(self) -> &'static str {
+            /// When the number is given, in the words of document 01; the same text as `khumsafil_refusal_text` has in C.
+            pub const fn text(self) -> &'static str {
                 match self.0 {
                     $($number => $when,)*
                     _ => "no number of this library",
@@ -35,15 +36,15 @@ refusals! {
     LAST_ABOVE_15 = 7: "last number above 15";
     NOT_CURRENT = 8: "current/next is 0";
     NO_FREE_PLACE = 9: "new key, no free place";
-    DIFFERS = 10: "same key and version, other last number or other bytes";
-    BAD_NUMBER = 11: "number of a file cut off, not shortest or above 65,535";
-    BAD_FILE = 12: "other fault of a file";
-    KEY_HELD = 13: "key of the file already held";
+    DIFFERS = 10: "differs from what is held: same version with another last number, or other bytes at a held number";
+    BAD_NUMBER = 11: "file number cut off, not shortest, or above 65,535";
+    BAD_FILE = 12: "form not 1; count not 1 to 16; length not 8 to 1,024; bytes run past the file; keys, versions or lasts differ; numbers not rising; bytes left over";
+    KEY_HELD = 13: "loading a key already held";
     TABLE_NOT_HELD = 14: "table not held";
     OUTPUT_TOO_SMALL = 15: "output too small";
     SECTION_NOT_HELD = 16: "section not held";
-    STORE_SIZE = 17: "store not 65,536 bytes";
-    SHELF_SPOILED = 18: "shelf record spoiled, or not 84 numbers";
+    STORE_SIZE = 17: "a lent store not 65,536 bytes";
+    SHELF_SPOILED = 18: "shelf record spoiled, in a taken place: a version above 31, a last above 15, a held number above last, a held length outside 8 to 1,024, or nothing held; or two taken places with one key";
     DESCRIPTOR_RUNS_PAST = 19: "descriptor runs past the loop, or the place asked is beyond its end";
     TRIGGER_CUT_OFF = 20: "trigger ends inside a field";
     TRIGGER_OTHER_EVENT = 21: "event type not 0";
@@ -53,15 +54,15 @@ refusals! {
     TRIGGER_BYTES_LEFT = 25: "bytes after the user data";
     TRIGGER_TOO_LONG = 26: "trigger over 4,096 bytes";
     CLOCK_ABOVE = 30: "application above 7";
-    CLOCK_MOVED_BACK = 31: "clock moved back";
+    CLOCK_MOVED_BACK = 31: "clock moved back (equal is allowed)";
     CLOCK_PAST = 32: "time more than 60,000 before the clock";
     CLOCK_ALREADY_HELD = 33: "that activation is held";
     CLOCK_FULL = 34: "32 held";
-    CLOCK_SPOILED = 35: "clock record spoiled, or not 67 words";
-    WRITER_BODY_TOO_LONG = 40: "body over 16,256 bytes";
+    CLOCK_SPOILED = 35: "clock record spoiled: over 32 held, one for an application above 7, two alike, waiting at or before the clock, applied but ahead of it, or applied and past its memory";
+    WRITER_BODY_TOO_LONG = 40: "body too long";
     WRITER_VERSION_ABOVE_31 = 41: "version above 31";
-    WRITER_K_ABOVE_LAST = 42: "section k above the last";
-    NO_SUCH_ACTION = 255: "a number above 3, which is no action";
+    WRITER_K_ABOVE_LAST = 42: "k above the last";
+    NO_SUCH_ACTION = 255: "no such action: a number above 3";
 }
 
 impl Refusal {
@@ -70,15 +71,15 @@ impl Refusal {
     }
 
     /// The number.
-    pub fn number(self) -> u8 {
+    pub const fn number(self) -> u8 {
         self.0
     }
 }
 
 impl fmt::Display for Refusal {
     fn fmt(&self, f: &mut fmt::Formatter<'_>) -> fmt::Result {
-        write!(f, "refused {}: {}", self.0, self.when())
+        write!(f, "refused {}: {}", self.0, self.text())
     }
 }
 
-impl std::error::Error for Refusal {}
+impl core::error::Error for Refusal {}

@@ -1,8 +1,8 @@
 //! The shelf: four tables of sixteen sections each, kept in a lent store.
 //!
-//! The record is [`RECORD`] numbers that the host keeps and lends, and the store [`STORE`] bytes. Every value of that
-//! many numbers is some record; one that is spoiled, and any other number of them, is refused. A refused call leaves
-//! record, store and output as they were. [`Shelf`] keeps the numbers for a host that has no place of its own for them.
+//! A [`Shelf`] keeps the record, and borrows the store of [`STORE`] bytes for as long as it lives, so that the two stay
+//! together. [`Record`] is the record by itself, to put away beside the store and to take up again. [`lent`] has the same
+//! calls for a host that keeps both itself. A refused call leaves record, store and output as they were.
 //!
 //! ```
 //! use khumsafil::shelf::{self, Accepted, Key, Shelf};
@@ -10,16 +10,24 @@
 //! let mut store = vec![0; shelf::STORE];
 //! let mut shelf = Shelf::begin(&mut store)?;
 //! let datagram = [0xC9, 0x70, 0x05, 0x12, 0x34, 0xC7, 0x00, 0x00];
-//! assert_eq!(shelf.offer(&mut store, &datagram)?, Accepted::Began);
-//! assert_eq!(shelf.offer(&mut store, &datagram)?, Accepted::Repeat);
-//! let key = Key { table_id: 0xC9, extension: 0x1234 };
-//! assert!(shelf.complete(&store, key)?);
+//! assert_eq!(shelf.offer(&datagram)?, Accepted::Began);
+//! assert_eq!(shelf.offer(&datagram)?, Accepted::Repeat);
+//! let key = Key::new(0xC9, 0x1234);
+//! assert!(shelf.is_complete(key));
 //! let mut file = [0; shelf::LARGEST_FILE];
-//! assert_eq!(shelf.save(&store, key, &mut file)?, 11);
+//! assert_eq!(shelf.save(key, &mut file)?, 11);
 //! # Ok::<(), khumsafil::Refusal>(())
 //! ```
 
-use crate::{boundary, Refusal};
+use crate::{file, Refusal};
+use core::fmt;
+
+pub use crate::Key;
+
+pub mod lent;
+mod record;
+
+pub use record::Record;
 
 /// How many numbers a record is.
 pub const RECORD: usize = 84;
@@ -27,20 +35,20 @@ pub const RECORD: usize = 84;
 /// How many bytes a store is.
 pub const STORE: usize = 65_536;
 
+/// How many places a shelf has.
+pub const PLACES: usize = 4;
+
+/// How many sections a table has at most.
+pub const SECTIONS: usize = 16;
+
 /// The most bytes of a section.
 pub const LARGEST_SECTION: usize = 1_024;
 
 /// The most bytes of a file.
 pub const LARGEST_FILE: usize = 16_418;
 
-/// What tells one table from another.
-#[derive(Clone, Copy, Debug, PartialEq, Eq, Hash, PartialOrd, Ord)]
-pub struct Key {
-    /// The table id.
-    pub table_id: u8,
-    /// The table id extension.
-    pub extension: u16,
-}
+/// How many numbers a table is answered in.
+pub const TABLE_FIELDS: usize = 20;
 
 /// What an accepted section did.
 #[derive(Clone, Copy, Debug, PartialEq, Eq)]
@@ -55,11 +63,58 @@ pub enum Accepted {
     Repeat = 4,
 }
 
-/// What the answers have for a complete table, and for one that nothing is missing of.
-const WHOLE: u8 = 1;
+/// A table as a shelf or a file has it.
+///
+/// Made by the library's answers alone: request 4 of document 02 adds to what is told of a table.
+#[non_exhaustive]
+#[derive(Clone, Debug, PartialEq, Eq)]
+pub struct Table {
+    /// Its key.
+    pub key: Key,
+    /// The version, at most 31.
+    pub version: u8,
+    /// The last section number, at most 15.
+    pub last: u8,
+    /// The length of each section in bytes, 0 where it is not held.
+    pub lengths: [u16; SECTIONS],
+}
+
+impl Table {
+    /// The table that an answer's numbers are.
+    pub(crate) fn of(fields: [u16; TABLE_FIELDS]) -> Table {
+        let [table_id, extension, version, last, lengths @ ..] = fields;
+        Table {
+            key: Key::new(table_id as u8, extension),
+            version: version as u8,
+            last: last as u8,
+            lengths,
+        }
+    }
+
+    /// Whether section `n` is held.
+    pub fn holds(&self, n: u8) -> bool {
+        self.length(n).is_some()
+    }
+
+    /// How many bytes section `n` is, where it is held.
+    pub fn length(&self, n: u8) -> Option<usize> {
+        let length = *self.lengths.get(usize::from(n))?;
+        (length > 0).then_some(length.into())
+    }
+
+    /// The numbers from 0 to the last that are not held, rising.
+    pub fn missing(&self) -> impl Iterator<Item = u8> + '_ {
+        (0..=self.last).filter(|n| !self.holds(*n))
+    }
+
+    /// Whether every section from 0 to the last is held.
+    pub fn is_complete(&self) -> bool {
+        self.missing().next().is_none()
+    }
+}
 
 /// An answer that is a number of refusal, or 0.
-fn done(number: u8) -> Result<(), Refusal> {
+pub(crate) fn done(number: u8) -> Result<(), Refusal> {
     match number {
         0 => Ok(()),
         number => Err(Refusal::of(number)),
@@ -71,218 +126,141 @@ pub(crate) fn answered(word: u32) -> Result<u32, Refusal> {
     done(word as u8).map(|()| word >> 8)
 }
 
-/// Makes record and store a fresh shelf: four free places and a store of zeros. Refused: 17, 18.
-#[inline]
-pub fn begin(record: &mut [u16], store: &mut [u8]) -> Result<(), Refusal> {
-    // SAFETY: pointers and lengths are those of slices, of which none is part of another.
-    done(unsafe {
-        boundary::khumsafil_shelf_begin(
-            record.as_mut_ptr(),
-            record.len(),
-            store.as_mut_ptr(),
-            store.len(),
-        )
-    })
+/// A shelf: its record, and the store that it borrows.
+///
+/// [`Shelf::begin`] and [`Shelf::resume`] refuse a store of another size and a spoiled record, so no other call does.
+///
+/// The store is the shelf's while that lives. This does not compile:
+///
+/// ```compile_fail,E0499
+/// # use khumsafil::shelf::{Shelf, STORE};
+/// let mut store = vec![0; STORE];
+/// let mut shelf = Shelf::begin(&mut store)?;
+/// store[0] = 1;
+/// shelf.offer(&[])?;
+/// # Ok::<(), khumsafil::Refusal>(())
+/// ```
+///
+/// Nor does this, since a copy of a shelf would go out of step with the store:
+///
+/// ```compile_fail,E0599
+/// # use khumsafil::shelf::{Shelf, STORE};
+/// let mut store = vec![0; STORE];
+/// let shelf = Shelf::begin(&mut store)?;
+/// let second = shelf.clone();
+/// # Ok::<(), khumsafil::Refusal>(())
+/// ```
+///
+/// ```compile_fail,E0382
+/// # use khumsafil::shelf::{Shelf, STORE};
+/// let mut store = vec![0; STORE];
+/// let shelf = Shelf::begin(&mut store)?;
+/// let second = shelf;
+/// shelf.store();
+/// # Ok::<(), khumsafil::Refusal>(())
+/// ```
+pub struct Shelf<'a> {
+    record: Record,
+    store: &'a mut [u8],
 }
 
-/// Offers a payload. Refused: 17, 18, 1 to 10.
-#[inline]
-pub fn offer(record: &mut [u16], store: &mut [u8], payload: &[u8]) -> Result<Accepted, Refusal> {
-    // SAFETY: pointers and lengths are those of slices, of which none that is written is part of another.
-    let word = unsafe {
-        boundary::khumsafil_shelf_offer(
-            record.as_mut_ptr(),
-            record.len(),
-            store.as_mut_ptr(),
-            store.len(),
-            payload.as_ptr(),
-            payload.len(),
-        )
-    };
-    // What was done stands from bit 8 up. A refused call did nothing, and has its number below.
-    match word >> 8 {
-        1 => Ok(Accepted::Began),
-        2 => Ok(Accepted::BeganAgain),
-        3 => Ok(Accepted::Added),
-        4 => Ok(Accepted::Repeat),
-        _ => Err(Refusal::of(word as u8)),
-    }
-}
-
-/// Whether every section of a table, from 0 to its last, is held. Refused: 17, 18, 14.
-#[inline]
-pub fn complete(record: &[u16], store: &[u8], key: Key) -> Result<bool, Refusal> {
-    // SAFETY: pointers and lengths are those of slices, and the library only reads.
-    let word = unsafe {
-        boundary::khumsafil_shelf_complete(
-            record.as_ptr(),
-            record.len(),
-            store.as_ptr(),
-            store.len(),
-            key.table_id,
-            key.extension,
-        )
-    };
-    answered(word.into()).map(|found| found as u8 == WHOLE)
-}
-
-/// The lowest number of a table that is not held, if there is one. Refused: 17, 18, 14.
-#[inline]
-pub fn lowest_missing(record: &[u16], store: &[u8], key: Key) -> Result<Option<u8>, Refusal> {
-    // SAFETY: pointers and lengths are those of slices, and the library only reads.
-    let word = unsafe {
-        boundary::khumsafil_shelf_lowest_missing(
-            record.as_ptr(),
-            record.len(),
-            store.as_ptr(),
-            store.len(),
-            key.table_id,
-            key.extension,
-        )
-    };
-    answered(word).map(|found| match found as u8 {
-        WHOLE => None,
-        _ => Some((found >> 8) as u8),
-    })
-}
-
-/// Copies a held section to the front of `out`, and says how many bytes it is. Refused: 17, 18, 14, 16, 15.
-#[inline]
-pub fn copy_section(
-    record: &[u16],
-    store: &[u8],
-    key: Key,
-    number: u8,
-    out: &mut [u8],
-) -> Result<usize, Refusal> {
-    // SAFETY: pointers and lengths are those of slices, and the one that is written is part of no other.
-    let word = unsafe {
-        boundary::khumsafil_shelf_copy_section(
-            record.as_ptr(),
-            record.len(),
-            store.as_ptr(),
-            store.len(),
-            key.table_id,
-            key.extension,
-            number,
-            out.as_mut_ptr(),
-            out.len(),
-        )
-    };
-    answered(word).map(|size| size as usize)
-}
-
-/// Frees a table's place and zeroes its sixteen berths. Refused: 17, 18, 14.
-#[inline]
-pub fn release(record: &mut [u16], store: &mut [u8], key: Key) -> Result<(), Refusal> {
-    // SAFETY: pointers and lengths are those of slices, of which none is part of another.
-    done(unsafe {
-        boundary::khumsafil_shelf_release(
-            record.as_mut_ptr(),
-            record.len(),
-            store.as_mut_ptr(),
-            store.len(),
-            key.table_id,
-            key.extension,
-        )
-    })
-}
-
-/// Saves a held table as a file at the front of `out`, and says how many bytes it is. Refused: 17, 18, 14, 15.
-#[inline]
-pub fn save(record: &[u16], store: &[u8], key: Key, out: &mut [u8]) -> Result<usize, Refusal> {
-    // SAFETY: pointers and lengths are those of slices, and the one that is written is part of no other.
-    let word = unsafe {
-        boundary::khumsafil_shelf_save(
-            record.as_ptr(),
-            record.len(),
-            store.as_ptr(),
-            store.len(),
-            key.table_id,
-            key.extension,
-            out.as_mut_ptr(),
-            out.len(),
-        )
-    };
-    answered(word).map(|size| size as usize)
-}
-
-/// Loads a file's table into the lowest free place. Refused: 17, 18, a fault of the file (11, 12, 2 to 8), 13, 9.
-#[inline]
-pub fn load(record: &mut [u16], store: &mut [u8], file: &[u8]) -> Result<(), Refusal> {
-    // SAFETY: pointers and lengths are those of slices, of which none that is written is part of another.
-    done(unsafe {
-        boundary::khumsafil_shelf_load(
-            record.as_mut_ptr(),
-            record.len(),
-            store.as_mut_ptr(),
-            store.len(),
-            file.as_ptr(),
-            file.len(),
-        )
-    })
-}
-
-/// A shelf's record, kept for the host. The store is lent at each call, and is to be the same one.
-#[derive(Clone, Copy, Debug, PartialEq, Eq)]
-pub struct Shelf {
-    /// The numbers, as the calls of this module take them.
-    pub record: [u16; RECORD],
-}
-
-impl Shelf {
-    /// A fresh shelf; the store becomes zeros. Refused: 17.
-    pub fn begin(store: &mut [u8]) -> Result<Shelf, Refusal> {
-        let mut record = [0; RECORD];
-        begin(&mut record, store)?;
-        Ok(Shelf { record })
+impl<'a> Shelf<'a> {
+    /// A fresh shelf: four free places; the store becomes zeros. Refused: 17.
+    pub fn begin(store: &'a mut [u8]) -> Result<Shelf<'a>, Refusal> {
+        let mut record = Record::from([0; RECORD]);
+        lent::begin(record.numbers_mut(), store)?;
+        Ok(Shelf { record, store })
     }
 
-    /// As [`offer`].
+    /// Takes up a record that was put away, with the store that was put away beside it. Refused: 17, 18.
+    pub fn resume(record: Record, store: &'a mut [u8]) -> Result<Shelf<'a>, Refusal> {
+        // There is no such place, so the answer is 14 unless store or record is refused.
+        match lent::table(record.numbers(), store, PLACES as u8) {
+            Err(refusal) if refusal != Refusal::TABLE_NOT_HELD => Err(refusal),
+            _ => Ok(Shelf { record, store }),
+        }
+    }
+
+    /// The record.
+    pub fn record(&self) -> &Record {
+        &self.record
+    }
+
+    /// The store.
+    pub fn store(&self) -> &[u8] {
+        self.store
+    }
+
+    /// The record and the store, to put them away.
+    pub fn into_parts(self) -> (Record, &'a mut [u8]) {
+        (self.record, self.store)
+    }
+
+    /// Offers a payload. Refused: 1 to 10.
     #[inline]
-    pub fn offer(&mut self, store: &mut [u8], payload: &[u8]) -> Result<Accepted, Refusal> {
-        offer(&mut self.record, store, payload)
+    pub fn offer(&mut self, payload: &[u8]) -> Result<Accepted, Refusal> {
+        lent::offer(self.record.numbers_mut(), self.store, payload)
     }
 
-    /// As [`complete`].
+    /// The lamp: whether the table is held and every section of it, from 0 to its last, is.
     #[inline]
-    pub fn complete(&self, store: &[u8], key: Key) -> Result<bool, Refusal> {
-        complete(&self.record, store, key)
+    pub fn is_complete(&self, key: Key) -> bool {
+        lent::is_complete(self.record.numbers(), self.store, key)
     }
 
-    /// As [`lowest_missing`].
+    /// The same of a held table; one that is not held is told apart. Refused: 14.
     #[inline]
-    pub fn lowest_missing(&self, store: &[u8], key: Key) -> Result<Option<u8>, Refusal> {
-        lowest_missing(&self.record, store, key)
+    pub fn complete(&self, key: Key) -> Result<bool, Refusal> {
+        lent::complete(self.record.numbers(), self.store, key)
     }
 
-    /// As [`copy_section`].
+    /// The lowest number of a table that is not held, if there is one. Refused: 14.
     #[inline]
-    pub fn copy_section(
-        &self,
-        store: &[u8],
-        key: Key,
-        number: u8,
-        out: &mut [u8],
-    ) -> Result<usize, Refusal> {
-        copy_section(&self.record, store, key, number, out)
+    pub fn lowest_missing(&self, key: Key) -> Result<Option<u8>, Refusal> {
+        lent::lowest_missing(self.record.numbers(), self.store, key)
     }
 
-    /// As [`release`].
+    /// Which table is in a place. Refused: 14, where the place is free or is none of 0 to 3.
     #[inline]
-    pub fn release(&mut self, store: &mut [u8], key: Key) -> Result<(), Refusal> {
-        release(&mut self.record, store, key)
+    pub fn table(&self, place: u8) -> Result<Table, Refusal> {
+        lent::table(self.record.numbers(), self.store, place)
     }
 
-    /// As [`save`].
-    #[inline]
-    pub fn save(&self, store: &[u8], key: Key, out: &mut [u8]) -> Result<usize, Refusal> {
-        save(&self.record, store, key, out)
+    /// The tables that are held, by rising place.
+    pub fn tables(&self) -> impl Iterator<Item = Table> + '_ {
+        (0..PLACES as u8).filter_map(|place| self.table(place).ok())
     }
 
-    /// As [`load`].
+    /// Copies a held section to the front of `out`, and says how many bytes it is. Refused: 14, 16, 15.
     #[inline]
-    pub fn load(&mut self, store: &mut [u8], file: &[u8]) -> Result<(), Refusal> {
-        load(&mut self.record, store, file)
+    pub fn copy_section(&self, key: Key, number: u8, out: &mut [u8]) -> Result<usize, Refusal> {
+        lent::copy_section(self.record.numbers(), self.store, key, number, out)
+    }
+
+    /// Frees a table's place and zeroes its sixteen berths. Refused: 14.
+    #[inline]
+    pub fn release(&mut self, key: Key) -> Result<(), Refusal> {
+        lent::release(self.record.numbers_mut(), self.store, key)
+    }
+
+    /// Saves a held table as a file at the front of `out`, and says how many bytes it is. Refused: 14, 15.
+    #[inline]
+    pub fn save(&self, key: Key, out: &mut [u8]) -> Result<usize, Refusal> {
+        lent::save(self.record.numbers(), self.store, key, out)
+    }
+
+    /// Loads a file's table into the lowest free place, and gives that table. Refused: a fault of the file (11, 12, 2
+    /// to 8), 13, 9.
+    #[inline]
+    pub fn load(&mut self, file: &[u8]) -> Result<Table, Refusal> {
+        lent::load(self.record.numbers_mut(), self.store, file)?;
+        file::table(file)
+    }
+}
+
+/// The tables, and not the bytes of the store.
+impl fmt::Debug for Shelf<'_> {
+    fn fmt(&self, f: &mut fmt::Formatter<'_>) -> fmt::Result {
+        f.debug_list().entries(self.tables()).finish()
     }
 }

@@ -34,7 +34,7 @@ pub enum Target<'a> {
 }
 
 /// What a trigger says.
-#[derive(Clone, Copy, Debug, PartialEq, Eq)]
+#[derive(Clone, Copy, Debug)]
 pub struct Trigger<'a> {
     /// The application id's length as read: 0 where the trigger is for every application.
     pub id_length: u16,
@@ -46,6 +46,8 @@ pub struct Trigger<'a> {
     pub target: Target<'a>,
     /// The user data.
     pub user: &'a [u8],
+    payload: &'a [u8],
+    fields: [u16; FIELDS],
 }
 
 /// The most bytes of a trigger.
@@ -60,7 +62,7 @@ pub const FIELDS: usize = 11;
 pub fn fields(payload: &[u8], out: &mut [u16]) -> Result<(), Refusal> {
     // SAFETY: pointers and lengths are those of slices, and the one that is written is not part of the other.
     let number = unsafe {
-        boundary::khumsafil_trigger_read(
+        boundary::khumsafil_raw_trigger_read(
             payload.as_ptr(),
             payload.len(),
             out.as_mut_ptr(),
@@ -117,21 +119,23 @@ pub fn read(payload: &[u8]) -> Result<Trigger<'_>, Refusal> {
             },
         },
         user: part(user, user_bytes),
+        payload,
+        fields: read,
     })
 }
 
-/// Whether a trigger whose application id has that length as read, and lies at that place of the payload with
-/// that many bytes, belongs to the application. Bytes that do not lie in the payload belong to none.
+/// Whether a trigger belongs to the application with an id, by the numbers that [`fields`] gave of its payload. Any numbers
+/// may be given: a trigger whose id length is 0 is every application's, and an id that does not lie in the payload is none's.
+/// Fewer than [`FIELDS`] numbers are no trigger, which is none's; those past them are not looked at.
 #[inline]
-pub fn belongs(payload: &[u8], id_length: u16, place: u16, size: u16, application: &[u8]) -> bool {
+pub fn belongs(payload: &[u8], fields: &[u16], application: &[u8]) -> bool {
     // SAFETY: pointers and lengths are those of slices, and the library only reads.
     unsafe {
-        boundary::khumsafil_trigger_belongs(
+        boundary::khumsafil_raw_trigger_belongs(
             payload.as_ptr(),
             payload.len(),
-            id_length,
-            place,
-            size,
+            fields.as_ptr(),
+            fields.len(),
             application.as_ptr(),
             application.len(),
         )
@@ -141,12 +145,19 @@ pub fn belongs(payload: &[u8], id_length: u16, place: u16, size: u16, applicatio
 impl Trigger<'_> {
     /// Whether the trigger belongs to the application with that id.
     pub fn belongs_to(&self, application: &[u8]) -> bool {
-        belongs(
-            self.id,
-            self.id_length,
-            0,
-            self.id.len() as u16,
-            application,
-        )
+        belongs(self.payload, &self.fields, application)
     }
 }
+
+/// Two triggers are equal where they say the same, wherever their parts stand.
+impl PartialEq for Trigger<'_> {
+    fn eq(&self, other: &Trigger<'_>) -> bool {
+        self.id_length == other.id_length
+            && self.description == other.description
+            && self.id == other.id
+            && self.target == other.target
+            && self.user == other.user
+    }
+}
+
+impl Eq for Trigger<'_> {}

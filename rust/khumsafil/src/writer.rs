@@ -2,9 +2,9 @@
 //!
 //! ```
 //! use khumsafil::writer::{self, Label};
-//! use khumsafil::{section, shelf};
+//! use khumsafil::{section, shelf, Key};
 //!
-//! let label = Label { table_id: 0xC9, extension: 0x1234, version: 3 };
+//! let label = Label::new(Key::new(0xC9, 0x1234), 3);
 //! let body = [7; 1_017];
 //! assert_eq!(writer::count(body.len())?, 2);
 //! let mut out = [0; shelf::LARGEST_SECTION];
@@ -14,27 +14,35 @@
 //! # Ok::<(), khumsafil::Refusal>(())
 //! ```
 
-use crate::{boundary, shelf, Refusal};
+use crate::{boundary, shelf, Key, Refusal};
 
 /// The most bytes of a body: 16 bodies of 1,016.
 pub const LARGEST_BODY: usize = 16_256;
 
 /// What every section of a table has.
+///
+/// Made by [`Label::new`] alone: request 4 of document 02 adds to what tells a table from another.
+#[non_exhaustive]
 #[derive(Clone, Copy, Debug, PartialEq, Eq, Hash)]
 pub struct Label {
-    /// The table id.
-    pub table_id: u8,
-    /// The table id extension.
-    pub extension: u16,
+    /// The table's key.
+    pub key: Key,
     /// The version, at most 31.
     pub version: u8,
+}
+
+impl Label {
+    /// The label with a key and a version.
+    pub const fn new(key: Key, version: u8) -> Label {
+        Label { key, version }
+    }
 }
 
 /// How many sections a body of so many bytes makes, 1 to 16: as few as will do. Refused: 40.
 #[inline]
 pub fn count(length: usize) -> Result<u8, Refusal> {
     // SAFETY: the call takes a number and gives a number.
-    let word = unsafe { boundary::khumsafil_writer_count(length) };
+    let word = unsafe { boundary::khumsafil_raw_writer_count(length) };
     shelf::answered(u32::from(word)).map(|count| count as u8)
 }
 
@@ -44,9 +52,9 @@ pub fn count(length: usize) -> Result<u8, Refusal> {
 pub fn section(label: Label, body: &[u8], k: u8, out: &mut [u8]) -> Result<usize, Refusal> {
     // SAFETY: pointers and lengths are those of slices, and the one that is written is not part of the other.
     let word = unsafe {
-        boundary::khumsafil_writer_section(
-            label.table_id,
-            label.extension,
+        boundary::khumsafil_raw_writer_section(
+            label.key.table_id,
+            label.key.extension,
             label.version,
             body.as_ptr(),
             body.len(),
@@ -63,9 +71,9 @@ pub fn section(label: Label, body: &[u8], k: u8, out: &mut [u8]) -> Result<usize
 ///
 /// ```
 /// use khumsafil::writer::{self, Label};
-/// use khumsafil::{file, shelf};
+/// use khumsafil::{file, shelf, Key};
 ///
-/// let label = Label { table_id: 0xC9, extension: 0x1234, version: 3 };
+/// let label = Label::new(Key::new(0xC9, 0x1234), 3);
 /// let mut out = [0; shelf::LARGEST_FILE];
 /// let size = writer::file(label, &[], &mut out)?;
 /// let mut text = [0; file::LARGEST_LIST];
@@ -77,9 +85,9 @@ pub fn section(label: Label, body: &[u8], k: u8, out: &mut [u8]) -> Result<usize
 pub fn file(label: Label, body: &[u8], out: &mut [u8]) -> Result<usize, Refusal> {
     // SAFETY: pointers and lengths are those of slices, and the one that is written is not part of the other.
     let word = unsafe {
-        boundary::khumsafil_writer_file(
-            label.table_id,
-            label.extension,
+        boundary::khumsafil_raw_writer_file(
+            label.key.table_id,
+            label.key.extension,
             label.version,
             body.as_ptr(),
             body.len(),

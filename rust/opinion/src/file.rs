@@ -128,6 +128,23 @@ pub fn read(file: &[u8]) -> Result<Table, u8> {
     })
 }
 
+/// Which table a file is: what loading it would put in a place.
+/// Refusals: 11, 12, and 2 to 8 for a section's own.
+pub fn table(file: &[u8]) -> Result<shelf::Table, u8> {
+    let read = read(file)?;
+    let mut lengths = [0; SECTIONS];
+    for &(start, length) in &read.sections {
+        lengths[usize::from(section_number(file, start))] = length as u16;
+    }
+    Ok(shelf::Table {
+        table_id: read.table_id,
+        extension: read.extension,
+        version: read.version,
+        last: read.last,
+        lengths,
+    })
+}
+
 /// Writes a held table as a file and answers how many bytes it has.
 /// Refusals: 17, 18, 14, 15.
 pub fn save(
@@ -226,6 +243,7 @@ mod tests {
     /// Loading is refused by `number` and changes nothing; reading says the same.
     fn refused(file: &[u8], number: u8) {
         assert_eq!(read(file), Err(number));
+        assert_eq!(table(file), Err(number));
         let (mut record, mut store) = (fresh(), vec![3; STORE]);
         assert_eq!(load(&mut record, &mut store, file), Err(number));
         assert_eq!(record, fresh());
@@ -532,6 +550,7 @@ mod tests {
             assert_eq!(load(&mut again, &mut again_store, &out[..size]), Ok(()));
             assert_eq!(again, record);
             assert!(again_store == store);
+            assert_eq!(table(&out[..size]), shelf::table(&record, &store, 0));
             let mut twice = vec![0; LARGEST];
             assert_eq!(save(&again, &again_store, 0x40, 7, &mut twice), Ok(size));
             assert!(twice == out);

@@ -245,6 +245,47 @@ pub fn lowest_missing(
     Ok(record.places[p].first_missing())
 }
 
+/// A table as it is told: its key, version and last number, and the length of
+/// each section, 0 where it is not held.
+#[derive(Clone, Copy, Debug, PartialEq, Eq)]
+pub struct Table {
+    pub table_id: u8,
+    pub extension: u16,
+    pub version: u8,
+    pub last: u8,
+    pub lengths: [u16; SECTIONS],
+}
+
+/// Which table is in a place, counted from 0. A place that is free holds no
+/// table, and neither does one that there is not. Refusals: 17, 18, 14.
+pub fn table(record: &Record, store: &[u8], place: u8) -> Result<Table, u8> {
+    check(record, store)?;
+    match record.places.get(usize::from(place)) {
+        Some(held) if held.taken => Ok(Table {
+            table_id: held.table_id,
+            extension: held.extension,
+            version: held.version,
+            last: held.last,
+            lengths: held.lengths,
+        }),
+        _ => Err(14),
+    }
+}
+
+/// Whether two records are equal: they are when their taken places are. What a
+/// free place happens to hold has no part in it.
+pub fn equal(a: &Record, b: &Record) -> bool {
+    for (one, other) in a.places.iter().zip(&b.places) {
+        if one.taken != other.taken {
+            return false;
+        }
+        if one.taken && one != other {
+            return false;
+        }
+    }
+    true
+}
+
 /// Frees a table's place and zeroes its 16 berths. Refusals: 17, 18, 14.
 pub fn release(
     record: &mut Record,
@@ -300,6 +341,9 @@ mod tests {
         assert_eq!(copy_section(&r, &s, key.0, key.1, 0, &mut out), Err(number));
         assert_eq!(complete(&r, &s, key.0, key.1), Err(number));
         assert_eq!(lowest_missing(&r, &s, key.0, key.1), Err(number));
+        for place in 0..6 {
+            assert_eq!(table(&r, &s, place), Err(number));
+        }
         assert_eq!(release(&mut r, &mut s, key.0, key.1), Err(number));
         assert_eq!(r, *record);
         assert!(s == store);
@@ -620,6 +664,76 @@ mod tests {
                 assert_eq!(complete(&free, &store, 0x40, 7), Ok(false));
             }
         }
+    }
+
+    #[test]
+    fn which_table_is_in_a_place() {
+        let (mut record, mut store) = (fresh(), zeroed());
+        for place in 0..=255 {
+            assert_eq!(table(&record, &store, place), Err(14));
+        }
+        offer(&mut record, &mut store, &P1).unwrap();
+        offer(&mut record, &mut store, &of(5, 2, 9, &[1, 2])).unwrap();
+        offer(&mut record, &mut store, &of(5, 9, 9, &[3; 1016])).unwrap();
+        let first = table(&record, &store, 0).unwrap();
+        assert_eq!((first.table_id, first.extension), (0xC9, 0x1234));
+        assert_eq!((first.version, first.last), (3, 0));
+        assert_eq!(
+            first.lengths,
+            [8, 0, 0, 0, 0, 0, 0, 0, 0, 0, 0, 0, 0, 0, 0, 0]
+        );
+        let second = Table {
+            table_id: 0x40,
+            extension: 7,
+            version: 5,
+            last: 9,
+            lengths: [0, 0, 10, 0, 0, 0, 0, 0, 0, 1024, 0, 0, 0, 0, 0, 0],
+        };
+        assert_eq!(table(&record, &store, 1), Ok(second));
+        // A table stays in its place when one before it goes.
+        release(&mut record, &mut store, 0xC9, 0x1234).unwrap();
+        assert_eq!(table(&record, &store, 0), Err(14));
+        assert_eq!(table(&record, &store, 1), Ok(second));
+        for place in 2..=255 {
+            assert_eq!(table(&record, &store, place), Err(14));
+        }
+    }
+
+    #[test]
+    fn records_are_equal_when_their_taken_places_are() {
+        let (mut record, mut store) = (fresh(), zeroed());
+        offer(&mut record, &mut store, &P1).unwrap();
+        offer(&mut record, &mut store, &of(5, 2, 9, &[1, 2])).unwrap();
+        assert!(equal(&record, &record));
+        assert!(!equal(&record, &fresh()) && !equal(&fresh(), &record));
+        // A free place may hold anything.
+        let mut other = record;
+        other.places[3] = Place {
+            taken: false,
+            ..record.places[1]
+        };
+        assert!(equal(&record, &other) && equal(&other, &record));
+        other.places[3].taken = true;
+        assert!(!equal(&record, &other) && !equal(&other, &record));
+        // Each part of a taken place is a part of what is compared.
+        let changes: [fn(&mut Place); 7] = [
+            |place| place.taken = false,
+            |place| place.table_id ^= 1,
+            |place| place.extension ^= 0x100,
+            |place| place.version ^= 1,
+            |place| place.last += 1,
+            |place| place.lengths[2] += 1,
+            |place| place.lengths[0] = 8,
+        ];
+        for change in changes {
+            let mut other = record;
+            change(&mut other.places[1]);
+            assert!(!equal(&record, &other) && !equal(&other, &record));
+        }
+        // So is which place it is.
+        let mut other = record;
+        other.places.swap(1, 2);
+        assert!(!equal(&record, &other));
     }
 
     #[test]

@@ -1,8 +1,8 @@
-//! Clock records in words, and random calls on them.
+//! Clock records as they are lent, and random calls on them.
 
 use crate::random::Random;
 use khumsafil::clock as ours;
-use khumsafil::clock::WORDS;
+use khumsafil::clock::RECORD;
 use opinion::clock as theirs;
 
 /// The places of a record.
@@ -22,7 +22,7 @@ const ACTIONS: [theirs::Action; 4] = [
     theirs::Action::Kill,
 ];
 
-/// The second word of a place.
+/// The second number of a place.
 pub fn mark(held: &theirs::Held) -> u32 {
     let a = held.activation;
     u32::from(a.event)
@@ -31,39 +31,39 @@ pub fn mark(held: &theirs::Held) -> u32 {
         | u32::from(held.applied) << 26
 }
 
-/// The words of a record that holds at most 32.
-pub fn encode(clock: &theirs::Clock) -> [u32; WORDS] {
-    let mut words = [0; WORDS];
-    words[0] = clock.now;
+/// The record of a clock that holds at most 32.
+pub fn encode(clock: &theirs::Clock) -> [u32; RECORD] {
+    let mut record = [0; RECORD];
+    record[0] = clock.now;
     for (i, state) in clock.states.iter().enumerate() {
-        words[1] |= (*state as u32) << (2 * i);
+        record[1] |= (*state as u32) << (2 * i);
     }
-    words[2] = clock.held.len() as u32;
+    record[2] = clock.held.len() as u32;
     for (i, held) in clock.held.iter().enumerate() {
-        words[3 + 2 * i] = held.activation.time;
-        words[4 + 2 * i] = mark(held);
+        record[3 + 2 * i] = held.activation.time;
+        record[4 + 2 * i] = mark(held);
     }
-    words
+    record
 }
 
-/// The record that words are. One that claims over 32 gets 33, whatever they are.
-pub fn decode(words: &[u32; WORDS]) -> theirs::Clock {
-    let held = (0..(words[2] as usize).min(PLACES + 1)).map(|i| {
+/// The clock that a record is. One that claims over 32 gets 33, whatever they are.
+pub fn decode(record: &[u32; RECORD]) -> theirs::Clock {
+    let held = (0..(record[2] as usize).min(PLACES + 1)).map(|i| {
         let i = i.min(PLACES - 1);
-        let word = words[4 + 2 * i];
+        let word = record[4 + 2 * i];
         theirs::Held {
             activation: theirs::Activation {
                 application: (word >> 16) as u8,
                 event: word as u16,
                 action: ACTIONS[(word >> 24) as usize % 4],
-                time: words[3 + 2 * i],
+                time: record[3 + 2 * i],
             },
             applied: word >> 26 & 1 == 1,
         }
     });
     theirs::Clock {
-        now: words[0],
-        states: std::array::from_fn(|i| STATES[(words[1] >> (2 * i)) as usize % 4]),
+        now: record[0],
+        states: std::array::from_fn(|i| STATES[(record[1] >> (2 * i)) as usize % 4]),
         held: held.collect(),
     }
 }
@@ -159,11 +159,11 @@ pub const SPOILS: [&str; 8] = [
     "waiting, not ahead",
     "applied, ahead",
     "applied, past memory",
-    "any words",
+    "any numbers",
 ];
 
 /// Spoils a record in a way. What a way needs that the record lacks, as one that is held, is put there.
-pub fn spoil(random: &mut Random, way: &str, clock: &theirs::Clock) -> [u32; WORDS] {
+pub fn spoil(random: &mut Random, way: &str, clock: &theirs::Clock) -> [u32; RECORD] {
     let mut clock = clock.clone();
     let one = |random: &mut Random, time: u32, applied: bool| theirs::Held {
         activation: theirs::Activation {
@@ -216,24 +216,37 @@ pub fn spoil(random: &mut Random, way: &str, clock: &theirs::Clock) -> [u32; WOR
         }
         _ => {}
     }
-    let mut words = encode(&clock);
+    let mut record = encode(&clock);
     match way {
-        "over 32 held" => words[2] = random.pick(&[33, 34, 1 << 16, u32::MAX]),
-        "any words" => {
-            words.iter_mut().for_each(|w| *w = random.word() as u32);
-            words[2] = random.pick(&[0, 1, 2, 33]);
+        "over 32 held" => record[2] = random.pick(&[33, 34, 1 << 16, u32::MAX]),
+        "any numbers" => {
+            record.iter_mut().for_each(|n| *n = random.word() as u32);
+            record[2] = random.pick(&[0, 1, 2, 33]);
         }
-        // Bits without a part in the record, which is then the same one.
-        _ if random.once_in(2) => {
-            words[1] |= (random.word() as u32) << 16;
-            for i in 0..PLACES {
-                words[4 + 2 * i] |= (random.word() as u32) << 27;
-            }
-            for word in words.iter_mut().skip(3 + 2 * clock.held.len()) {
-                *word = random.word() as u32;
-            }
-        }
+        _ if random.once_in(2) => litter(random, &mut record),
         _ => {}
     }
-    words
+    record
+}
+
+/// Sets bits that have no part in a record, and the places past those held. It is the same record then.
+pub fn litter(random: &mut Random, record: &mut [u32; RECORD]) {
+    record[1] |= (random.word() as u32) << 16;
+    for i in 0..PLACES {
+        record[4 + 2 * i] |= (random.word() as u32) << 27;
+    }
+    let held = (record[2] as usize).min(PLACES);
+    for number in record.iter_mut().skip(3 + 2 * held) {
+        *number = random.word() as u32;
+    }
+}
+
+/// Puts what a record holds in other places of it.
+pub fn shuffle(random: &mut Random, record: &mut [u32; RECORD]) {
+    let held = (record[2] as usize).min(PLACES);
+    for i in (1..held).rev() {
+        let j = random.below(i + 1);
+        record.swap(3 + 2 * i, 3 + 2 * j);
+        record.swap(4 + 2 * i, 4 + 2 * j);
+    }
 }

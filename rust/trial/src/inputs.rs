@@ -11,6 +11,7 @@ mod writer;
 use crate::beside;
 use crate::tally::Tally;
 use feed::Feed;
+use khumsafil::trigger::{self, FIELDS};
 pub use seeds::seeds;
 
 /// A target's name and what it does with bytes.
@@ -75,9 +76,11 @@ fn triggers(bytes: &[u8]) {
         }
         _ => {}
     }
-    beside::triggers::belongs(&payload, idlength, place, size, &application);
-    if let Ok(read) = opinion::trigger::read(&payload) {
-        let (start, bytes) = (read.id_start as u16, read.id_bytes as u16);
-        beside::triggers::belongs(&payload, read.id_length, start, bytes, &application);
+    // The numbers that have no part in it are those of the payload where it is a trigger.
+    let mut fields = [0xFFFF; FIELDS];
+    if trigger::fields(&payload, &mut fields).is_ok() {
+        beside::triggers::belongs_by_any(&payload, &fields, &application);
     }
+    (fields[0], fields[2], fields[3]) = (idlength, place, size);
+    beside::triggers::belongs_by_any(&payload, &fields, &application);
 }

@@ -1,4 +1,4 @@
-//! Shelf records in numbers, and random calls on them.
+//! Shelf records as they are lent, and random calls on them.
 
 use crate::files::{self, Parts};
 use crate::random::Random;
@@ -48,10 +48,74 @@ pub fn decode(numbers: &[u16; RECORD]) -> Record {
     }
 }
 
-/// Whether two records hold the same: a place that is not taken says nothing.
-pub fn same(a: &Record, b: &Record) -> bool {
-    let mut pairs = a.places.iter().zip(&b.places);
-    pairs.all(|(a, b)| a == b || !a.taken && !b.taken)
+/// Whether [`decode`] shows a record as it shows no other: each number of a taken place stands there as it is.
+pub fn shown(numbers: &[u16; RECORD]) -> bool {
+    (0..PLACES).filter(|p| taken(numbers, *p)).all(|p| {
+        let small = numbers[head(p) + 2..head(p) + 4].iter().all(|n| *n < 255);
+        let held = |n: usize| numbers[MASKS + p] >> n & 1 == 1;
+        small && (0..SECTIONS).all(|n| !held(n) || numbers[lengths(p) + n] > 1)
+    })
+}
+
+/// Writes a place into a record as the library promises to: of a table its head, its mask and the lengths of what it holds;
+/// of a free place a head that has its number and zeros, and a mask of 1.
+fn write_place(numbers: &mut [u16; RECORD], p: usize, place: &Place) {
+    let mut mask = 1;
+    let mut of = [p as u16, 0, 0, 0];
+    if place.taken {
+        mask = 0;
+        of = [
+            256 + u16::from(place.table_id),
+            place.extension,
+            place.version.into(),
+            place.last.into(),
+        ];
+        for (n, length) in place.lengths.iter().enumerate().filter(|(_, l)| **l > 0) {
+            mask |= 1 << n;
+            numbers[lengths(p) + n] = *length;
+        }
+    }
+    numbers[head(p)..head(p) + 4].copy_from_slice(&of);
+    numbers[MASKS + p] = mask;
+}
+
+/// The record that is promised after a call that did this to the places: nothing is written but what changed.
+pub fn promised(before: &[u16; RECORD], from: &Record, to: &Record) -> [u16; RECORD] {
+    let mut numbers = *before;
+    for p in (0..PLACES).filter(|p| from.places[*p] != to.places[*p]) {
+        write_place(&mut numbers, p, &to.places[p]);
+    }
+    numbers
+}
+
+/// The record that is promised of a fresh shelf, whatever stood there.
+pub fn begun() -> [u16; RECORD] {
+    let mut numbers = [0; RECORD];
+    numbers[..HEADS].fill(8);
+    let free = opinion::shelf::fresh();
+    (0..PLACES).for_each(|p| write_place(&mut numbers, p, &free.places[p]));
+    numbers
+}
+
+/// Writes anything where a record has no meaning: in the numbers of a free place, which stays free, and in the lengths of
+/// what is not held. It is the same record then.
+pub fn litter(random: &mut Random, numbers: &mut [u16; RECORD]) {
+    for p in 0..PLACES {
+        let free = !taken(numbers, p);
+        if free {
+            let any = random.word() as u16;
+            let mark = random.pick(&[0, 2, 3, 128, 255]) << 8;
+            numbers[head(p)] = any & 0xFF | mark;
+            for at in (head(p) + 1..head(p) + 4).chain([MASKS + p]) {
+                numbers[at] = random.word() as u16;
+            }
+        }
+        for n in 0..SECTIONS {
+            if free || numbers[MASKS + p] >> n & 1 == 0 {
+                numbers[lengths(p) + n] = random.pick(&[0, 1, 8, 1_024, 65_535]);
+            }
+        }
+    }
 }
 
 /// A call on a shelf. `room` is the size of the output that is lent.
@@ -111,10 +175,7 @@ impl Way {
     /// Keys that share a table id or an extension.
     fn key(&self, random: &mut Random) -> Key {
         let i = random.below(self.keys);
-        Key {
-            table_id: [201, 201, 7, 7, 0, 255][i],
-            extension: [4_660, 52, 4_660, 52, 0, 65_535][i],
-        }
+        Key::new([201, 201, 7, 7, 0, 255][i], [4_660, 52, 4_660, 52, 0, 65_535][i])
     }
 
     fn fields(&self, random: &mut Random) -> Fields {
@@ -190,10 +251,7 @@ impl Way {
             return Call::Release(self.key(random));
         }
         let key = match random.below(30) {
-            0 => Key {
-                table_id: random.byte(),
-                extension: random.word() as u16,
-            },
+            0 => Key::new(random.byte(), random.word() as u16),
             _ => self.key(random),
         };
         let held = record

@@ -1,10 +1,10 @@
 //! The clock: the library beside the independent program.
 
-use khumsafil::clock as ours;
+use khumsafil::clock::{lent, State, RECORD};
 use khumsafil::Refusal;
 use opinion::clock as theirs;
-use trial::beside::clock::Both;
-use trial::clocks::{decode, spoil, Way, SPOILS};
+use trial::beside::clock::{equal, Both};
+use trial::clocks::{encode, litter, shuffle, spoil, Way, SPOILS};
 use trial::random::Random;
 use trial::tally::{common, share, Tally};
 
@@ -82,20 +82,20 @@ fn spoiled_records() {
             both.offer(way.activation(&mut random, now));
         }
         for spoiled in SPOILS {
-            let words = spoil(&mut random, spoiled, &both.clock);
-            let clock = decode(&words);
-            let now = clock.now;
-            let mut one = Both { words, clock };
+            let record = spoil(&mut random, spoiled, &both.clock);
+            let mut one = Both::new(record);
+            let now = one.clock.now;
+            one.ask_any(random.below(9) as u8);
             let answer = match random.below(4) {
                 0 => one.move_to(way.to(&mut random, now)),
                 _ => one.offer(way.activation(&mut random, now)),
             };
             tally.note(spoiled, answer);
-            let asked = ours::time(&words).map_err(Refusal::number);
-            assert_eq!(asked.is_err(), answer == 35, "{words:?}");
+            let asked = lent::time(&record).map_err(Refusal::number);
+            assert_eq!(asked.is_err(), answer == 35, "{record:?}");
             let named = &SPOILS[1..SPOILS.len() - 1];
             if named.contains(&spoiled) && now > 60_010 && now < u32::MAX - 10 {
-                assert_eq!(answer, 35, "{spoiled}: {words:?}");
+                assert_eq!(answer, 35, "{spoiled}: {record:?}");
             }
         }
     }
@@ -105,9 +105,77 @@ fn spoiled_records() {
     );
 }
 
-/// Another number of words than 67 is no record.
+/// Records of one clock in other places and with other bits around them, and records in which one number is another.
 #[test]
-fn another_number_of_words() {
+fn equal_clocks() {
+    let mut random = Random::new(SEED);
+    let mut counts = [[0u64; 3]; 3];
+    for _ in 0..share(60_000) {
+        let mut both = Both::fresh();
+        start(&mut random, &mut both);
+        let way = Way::random(&mut random);
+        for _ in 0..random.below(60) {
+            let now = both.clock.now;
+            if way.moves(&mut random) {
+                both.move_to(way.to(&mut random, now));
+            } else {
+                both.offer(way.activation(&mut random, now));
+            }
+        }
+        let mut other = encode(&both.clock);
+        shuffle(&mut random, &mut other);
+        litter(&mut random, &mut other);
+        assert_eq!(equal(&both.record, &other), Some(true), "one clock");
+        for (row, record) in [(0, both.record), (1, other)] {
+            let mut changed = record;
+            let held = 3 + 2 * record[2] as usize;
+            let at = match random.below(4) {
+                0 => random.below(RECORD),
+                1 => random.below(3),
+                _ => random.below(held),
+            };
+            changed[at] = match random.below(4) {
+                0 => random.word() as u32,
+                1 => changed[at].wrapping_add(random.pick(&[1, u32::MAX])),
+                _ => changed[at] ^ 1 << random.below(32),
+            };
+            // With the other's places and leftovers, or with its own.
+            let against = random.pick(&[both.record, other]);
+            let found = equal(&against, &changed).map_or(2, usize::from);
+            counts[row][found] += 1;
+        }
+        // One activation more or fewer, and the same with another action.
+        let mut more = both.clock.clone();
+        match more.held.first().copied() {
+            Some(mut first) if random.once_in(2) => {
+                first.activation.action = match first.activation.action {
+                    theirs::Action::Prep => theirs::Action::Kill,
+                    _ => theirs::Action::Prep,
+                };
+                more.held[0] = first;
+            }
+            Some(_) => {
+                more.held.pop();
+            }
+            None => more.states[random.below(8)] = theirs::State::Ready,
+        }
+        let found = equal(&both.record, &encode(&more)).map_or(2, usize::from);
+        counts[2][found] += 1;
+    }
+    for (row, name) in ["one number of it", "one of another layout", "what is held"]
+        .iter()
+        .enumerate()
+    {
+        let [differ, same, spoiled] = counts[row];
+        println!("clocks compared, {name} changed: {differ} differ, {same} are equal, {spoiled} spoiled");
+    }
+    counts[..2].iter().flatten().for_each(|n| common(*n, 1_000));
+    common(counts[2][0], 10_000);
+}
+
+/// Another size than 67 numbers is no record.
+#[test]
+fn another_size() {
     for size in (0..67).chain(68..80) {
         let a = theirs::Activation {
             application: 9,
@@ -115,7 +183,7 @@ fn another_number_of_words() {
             action: theirs::Action::Exec,
             time: 1,
         };
-        Both::with_words(size, a);
+        Both::with_size(size, a);
     }
 }
 
@@ -132,6 +200,6 @@ fn the_example() {
     };
     assert_eq!(both.offer(at(9_999)), 32);
     assert_eq!(both.offer(at(10_000)), 0);
-    assert_eq!(ours::state(&both.words, 2), Ok(ours::State::Active));
+    assert_eq!(lent::state(&both.record, 2), Ok(State::Active));
     assert_eq!(both.offer(at(10_000)), 33);
 }

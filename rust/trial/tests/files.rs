@@ -3,11 +3,11 @@
 use khumsafil::file::LARGEST_LIST;
 use khumsafil::shelf::LARGEST_FILE;
 use opinion::lister;
-use trial::beside::files::list;
+use trial::beside::files::{list, number};
 use trial::files::{damaged, Parts, KINDS};
 use trial::random::Random;
 use trial::sections::{section, Fields};
-use trial::tally::{common, share, Tally};
+use trial::tally::{common, one_in, share, Tally};
 
 /// The seed of every random comparison here.
 const SEED: u64 = 0x4B68_756D_7361_0008;
@@ -42,6 +42,28 @@ fn random_files() {
         &format!("files, seed {SEED:#018X}"),
         &[0, 2, 3, 4, 5, 6, 7, 8, 11, 12],
     );
+}
+
+/// The number at the front of every string of at most three bytes, and of longer ones whose third byte is not the last.
+#[test]
+fn every_short_number() {
+    let mut counts = [0u64; 2];
+    let mut try_one = |bytes: &[u8]| counts[usize::from(number(bytes) == 0)] += 1;
+    try_one(&[]);
+    (0..=255).for_each(|a| try_one(&[a]));
+    (0..=u16::MAX).for_each(|two| try_one(&two.to_be_bytes()));
+    for three in (0..1u32 << 24).step_by(one_in()) {
+        try_one(&three.to_be_bytes()[1..]);
+    }
+    for groups in (0..1u32 << 21).step_by(one_in()) {
+        let front = [groups, groups >> 7, groups >> 14].map(|group| group as u8 | 0x80);
+        for next in [0, 1, 3, 0x80, 0xFF] {
+            try_one(&[front[0], front[1], front[2], next]);
+        }
+    }
+    let [refused, read] = counts;
+    println!("numbers: {read} read, {refused} answered 11");
+    common(refused.min(read), 1_000_000);
 }
 
 /// A small file cut at every place, and with every value of every byte.

@@ -66,15 +66,8 @@ const P1: [u8; 8] = [0xC9, 0x70, 0x05, 0x12, 0x34, 0xC7, 0x00, 0x00];
 fn examples_p1_to_p8() {
     let p1 = khumsafil::section::read(&P1).expect("P1 is sound");
     assert_eq!(
-        (
-            p1.table_id,
-            p1.extension,
-            p1.version,
-            p1.number,
-            p1.last,
-            p1.body.len()
-        ),
-        (0xC9, 0x1234, 3, 0, 0, 0)
+        (p1.key, p1.version, p1.number, p1.last, p1.body.len()),
+        (khumsafil::Key::new(0xC9, 0x1234), 3, 0, 0, 0)
     );
     assert_eq!(compare(&P1), 0);
     assert_eq!(compare(&P1[..7]), 1, "P2");

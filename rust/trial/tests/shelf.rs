@@ -2,9 +2,9 @@
 
 use khumsafil::shelf::{Key, LARGEST_FILE, RECORD, STORE};
 use opinion::shelf::{BERTH, PLACES, SECTIONS};
-use trial::beside::shelf::Both;
+use trial::beside::shelf::{equal, Both};
 use trial::random::Random;
-use trial::shelf::{decode, spoil, Call, Way, NAMED, SPOILS};
+use trial::shelf::{decode, litter, spoil, Call, Way, NAMED, SPOILS};
 use trial::tally::{common, share, Tally};
 
 /// The seed of every random comparison here.
@@ -54,13 +54,13 @@ fn random_histories() {
                 scribble(&mut both, &mut random);
                 scribbles += 1;
             }
-            let call = way.call(&mut random, &both.record, &saved);
+            let call = way.call(&mut random, &both.held, &saved);
             if random.once_in(40) {
                 // A spoiled record, and some of them with a store that is none. What was lent is as it was after.
-                let kept = (both.numbers, both.record);
+                let kept = (both.record, both.held);
                 let how = random.pick(&SPOILS);
-                both.numbers = spoil(&mut random, how, &both.numbers);
-                both.record = decode(&both.numbers);
+                both.record = spoil(&mut random, how, &both.record);
+                both.held = decode(&both.record);
                 let size = match random.below(8) {
                     0 => random.pick(&[0, 1, 1_024, STORE - 1, STORE + 1]),
                     _ => STORE,
@@ -69,9 +69,9 @@ fn random_histories() {
                 spoils.note(how, number(answer));
                 let begin = matches!(call, Call::Begin);
                 if SPOILS[NAMED].contains(&how) && size == STORE && !begin {
-                    assert_eq!(answer, Err(18), "{how}: {call:?} on {:?}", both.numbers);
+                    assert_eq!(answer, Err(18), "{how}: {call:?} on {:?}", both.record);
                 }
-                (both.numbers, both.record) = kept;
+                (both.record, both.held) = kept;
             }
             let any = random.below(STORE);
             let size = match random.below(200) {
@@ -94,7 +94,7 @@ fn random_histories() {
                 (Call::Copy { .. } | Call::Save { .. }, Err(15)) => short += 1,
                 _ => {}
             }
-            full += u64::from(both.record.places.iter().all(|p| p.taken));
+            full += u64::from(both.held.places.iter().all(|p| p.taken));
             if random.once_in(64) {
                 both.stores_agree();
             }
@@ -106,6 +106,11 @@ fn random_histories() {
          outputs: {exact} exact, {short} too small; {scribbles} scribbles",
         accepted[1], accepted[2], accepted[3], accepted[4]
     );
+    let [held, none, room, size, spoiled] = both.tables;
+    println!(
+        "places asked after each call: {held} tables, {none} answered 14, {room} 15, {size} 17, {spoiled} 18"
+    );
+    both.tables.iter().for_each(|n| common(*n, 10_000));
     accepted[1..].iter().for_each(|n| common(*n, 10_000));
     common(exact.min(scribbles).min(full), 10_000);
     common(short, 1_000);
@@ -123,12 +128,62 @@ fn random_histories() {
     );
 }
 
+/// Records that hold the same with other leftovers, and records in which one number is another, sound and spoiled.
+#[test]
+fn equal_records() {
+    let mut random = Random::new(SEED);
+    let mut both = Both::new();
+    let mut counts = [[0u64; 2]; 4];
+    for _ in 0..share(20_000) {
+        let way = Way::random(&mut random);
+        assert_eq!(both.call(&Call::Begin, STORE), Ok(0));
+        for _ in 0..random.below(40) {
+            let call = way.call(&mut random, &both.held, &[]);
+            let _ = both.call(&call, STORE);
+        }
+        let store = &both.store[..STORE];
+        let mut other = both.record;
+        litter(&mut random, &mut other);
+        let same = equal(&both.record, &other, store);
+        assert!(same, "{:?} and {other:?}", both.record);
+        counts[0][usize::from(same)] += 1;
+        // One number is another, beside the record itself and beside the same with other leftovers.
+        for at in 0..RECORD {
+            let mut changed = other;
+            changed[at] = match random.below(3) {
+                0 => random.word() as u16,
+                1 => changed[at].wrapping_add(random.pick(&[1, u16::MAX, 256])),
+                _ => changed[at] ^ 1 << random.below(16),
+            };
+            let against = random.pick(&[both.record, other]);
+            counts[1][usize::from(equal(&against, &changed, store))] += 1;
+        }
+        // Spoiled records are equal to themselves, and to no sound one.
+        let how = random.pick(&SPOILS);
+        let spoiled = spoil(&mut random, how, &both.record);
+        counts[2][usize::from(equal(&both.record, &spoiled, store))] += 1;
+        let mut littered = spoiled;
+        litter(&mut random, &mut littered);
+        assert!(equal(&spoiled, &littered, store), "{how}: {spoiled:?}");
+        littered[random.below(RECORD)] ^= 1 << random.below(16);
+        counts[3][usize::from(equal(&spoiled, &littered, store))] += 1;
+    }
+    let rows = [
+        "other leftovers",
+        "one number changed",
+        "one of them spoiled, or not",
+        "a spoiled one and a number of it changed",
+    ];
+    for (row, [differ, same]) in rows.iter().zip(counts) {
+        println!("records compared, {row}: {differ} differ, {same} are equal");
+    }
+    counts[1].iter().for_each(|n| common(*n, 100_000));
+    common(counts[2][0].min(counts[3][0]).min(counts[3][1]), 1_000);
+}
+
 /// A call of each kind.
 fn each() -> Vec<Call> {
-    let key = Key {
-        table_id: 201,
-        extension: 4_660,
-    };
+    let key = Key::new(201, 4_660);
     let section = vec![0xC9, 0x70, 0x05, 0x12, 0x34, 0xC7, 0x00, 0x00];
     let file = [&[1, 1, 8][..], &section].concat();
     let number = 0;
@@ -165,10 +220,7 @@ fn another_number_of_numbers() {
 #[test]
 fn the_largest_table() {
     let mut random = Random::new(SEED);
-    let key = Key {
-        table_id: 255,
-        extension: 65_535,
-    };
+    let key = Key::new(255, 65_535);
     let mut both = Both::new();
     assert_eq!(both.call(&Call::Begin, STORE), Ok(0));
     for number in (0..16).rev() {
@@ -195,10 +247,10 @@ fn the_largest_table() {
     );
     assert_eq!(both.call(&Call::Save { key, room }, STORE), Ok(room));
     let file = both.out.clone();
-    let held = (both.record, both.store.clone());
+    let held = (both.held, both.store.clone());
     assert_eq!(both.call(&Call::Load(file.clone()), STORE), Err(13));
     assert_eq!(both.call(&Call::Release(key), STORE), Ok(0));
     assert_eq!(both.call(&Call::Load(file), STORE), Ok(0));
     both.stores_agree();
-    assert!(both.record == held.0 && both.store == held.1);
+    assert!(both.held == held.0 && both.store == held.1);
 }

@@ -2,7 +2,7 @@
 
 use khumsafil::trigger::{self, Target};
 use opinion::trigger as theirs;
-use trial::beside::triggers::{belongs, compare};
+use trial::beside::triggers::{belongs_by_any, compare};
 use trial::random::Random;
 use trial::tally::{common, share, Tally};
 use trial::triggers::{self, KINDS};
@@ -82,7 +82,7 @@ fn belonging() {
     let mut counts = [0u64; 2];
     for _ in 0..share(300_000) {
         let payload = triggers::payload(&mut random, "sound");
-        let Ok(mut other) = theirs::read(&payload) else {
+        let Ok(other) = theirs::read(&payload) else {
             panic!("a sound trigger: {payload:02X?}")
         };
         let ours = trigger::read(&payload).expect("a sound trigger");
@@ -102,14 +102,17 @@ fn belonging() {
         let its = theirs::belongs(&payload, &other, &id);
         assert_eq!(ours.belongs_to(&id), its, "{payload:02X?}, {id:02X?}");
         counts[usize::from(its)] += 1;
+        let mut fields = [0; trigger::FIELDS];
+        trigger::fields(&payload, &mut fields).expect("a sound trigger");
+        assert_eq!(belongs_by_any(&payload, &fields, &id), its, "as it was read");
+        // Numbers that no trigger has, and others where none has a part in it.
         if random.once_in(2) {
-            other.id_length = random.pick(&[0, 1, 2, 65_535]);
-            other.id_start = random.pick(&[0, 3, 5, payload.len(), 65_535]);
-            other.id_bytes = random.pick(&[0, 1, payload.len(), 65_535, id.len()]);
+            fields.iter_mut().for_each(|n| *n = random.word() as u16);
         }
-        let at = |n: usize| n as u16;
-        let (place, size) = (at(other.id_start), at(other.id_bytes));
-        let given = belongs(&payload, other.id_length, place, size, &id);
+        fields[0] = random.pick(&[0, 1, 2, 65_535, fields[0]]);
+        fields[2] = random.pick(&[0, 3, 5, payload.len() as u16, 65_535]);
+        fields[3] = random.pick(&[0, 1, payload.len() as u16, 65_535, id.len() as u16]);
+        let given = belongs_by_any(&payload, &fields, &id);
         counts[usize::from(given)] += 1;
     }
     println!("belonging: {} not, {} do", counts[0], counts[1]);

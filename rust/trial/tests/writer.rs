@@ -24,11 +24,14 @@ fn lengths() -> Vec<usize> {
 
 /// A label that every other time has a version above 31.
 fn label(random: &mut Random) -> Label {
-    Label {
-        table_id: random.byte(),
-        extension: random.word() as u16,
-        version: random.byte() % 64,
-    }
+    labelled(random, None)
+}
+
+/// A label with that version, or any.
+fn labelled(random: &mut Random, version: Option<u8>) -> Label {
+    let key = Key::new(random.byte(), random.word() as u16);
+    let any = random.byte() % 64;
+    Label::new(key, version.unwrap_or(any))
 }
 
 #[test]
@@ -43,14 +46,8 @@ fn every_section_of_bodies() {
         for label in [
             label(&mut random),
             label(&mut random),
-            Label {
-                version: 31,
-                ..label(&mut random)
-            },
-            Label {
-                version: 32,
-                ..label(&mut random)
-            },
+            labelled(&mut random, Some(31)),
+            labelled(&mut random, Some(32)),
         ] {
             for k in (0..=last + 1).chain([random.byte(), 255]) {
                 // The section's size where there is one; a room that would do where there is none.
@@ -82,8 +79,7 @@ fn every_section_of_bodies() {
 fn read_back(label: Label, sections: &[Vec<u8>]) {
     for (k, bytes) in sections.iter().enumerate() {
         let read = section::read(bytes).expect("a sound section");
-        let fields = (read.table_id, read.extension, read.version);
-        assert_eq!(fields, (label.table_id, label.extension, label.version));
+        assert_eq!((read.key, read.version), (label.key, label.version));
         assert_eq!(
             (usize::from(read.number), sections.len()),
             (k, usize::from(read.last) + 1)
@@ -100,14 +96,9 @@ fn offered_in_any_order() {
     let (mut offers, mut repeats, mut tables) = (0u64, 0u64, 0u64);
     for length in lengths().into_iter().filter(|n| *n <= LARGEST_BODY) {
         let body = random.bytes(length);
-        let label = Label {
-            version: random.byte() % 32,
-            ..label(&mut random)
-        };
-        let key = Key {
-            table_id: label.table_id,
-            extension: label.extension,
-        };
+        let version = random.byte() % 32;
+        let label = labelled(&mut random, Some(version));
+        let key = label.key;
         let count = ours::count(length).expect("a body that is not too long");
         let sections: Vec<_> = (0..count)
             .map(|k| {
@@ -127,17 +118,18 @@ fn offered_in_any_order() {
                     (false, true) => Accepted::Added,
                     (false, false) => Accepted::Began,
                 };
-                assert_eq!(held.offer(&mut store, &sections[k]), Ok(expected));
+                assert_eq!(held.offer(&sections[k]), Ok(expected));
                 seen[k] = true;
                 offers += 1;
                 repeats += u64::from(expected == Accepted::Repeat);
                 let whole = seen.iter().all(|s| *s);
-                assert_eq!(held.complete(&store, key), Ok(whole));
+                assert_eq!(held.complete(key), Ok(whole));
+                assert_eq!(held.is_complete(key), whole);
             }
             let mut joined = Vec::new();
             for number in 0..count {
                 let mut out = [0; LARGEST_SECTION];
-                let size = shelf_copy(&held, &store, key, number, &mut out);
+                let size = shelf_copy(&held, key, number, &mut out);
                 joined.extend_from_slice(&out[section::HEADER..size]);
             }
             assert!(joined == body, "{length} bytes: the joined bodies");
@@ -153,8 +145,8 @@ fn offers_began(seen: &[bool]) -> bool {
     seen.iter().any(|s| *s)
 }
 
-fn shelf_copy(held: &Shelf, store: &[u8], key: Key, number: u8, out: &mut [u8]) -> usize {
-    held.copy_section(store, key, number, out)
+fn shelf_copy(held: &Shelf, key: Key, number: u8, out: &mut [u8]) -> usize {
+    held.copy_section(key, number, out)
         .unwrap_or_else(|refusal| panic!("section {number}: {refusal}"))
 }
 
@@ -167,15 +159,10 @@ fn files_of_bodies() {
     let mut loaded = 0u64;
     for length in lengths() {
         let body = random.bytes(length);
+        let version = random.byte() % 32;
         for label in [
-            Label {
-                version: random.byte() % 32,
-                ..label(&mut random)
-            },
-            Label {
-                version: 32,
-                ..label(&mut random)
-            },
+            labelled(&mut random, Some(version)),
+            labelled(&mut random, Some(32)),
             label(&mut random),
         ] {
             let file = beside::their_file(label, &body);
@@ -191,12 +178,10 @@ fn files_of_bodies() {
             }
             if let Ok(file) = file {
                 let mut held = Shelf::begin(&mut store).expect("a store of the right size");
-                held.load(&mut store, &file).expect("a sound file");
-                let key = Key {
-                    table_id: label.table_id,
-                    extension: label.extension,
-                };
-                assert_eq!(held.complete(&store, key), Ok(true));
+                let table = held.load(&file).expect("a sound file");
+                assert_eq!((table.key, table.version), (label.key, label.version));
+                assert_eq!(held.tables().collect::<Vec<_>>(), [table]);
+                assert!(held.is_complete(label.key));
                 assert!(opinion::lister::list(&file).ends_with("\ncomplete\n"));
                 loaded += 1;
             }
@@ -216,15 +201,11 @@ fn every_label() {
     let mut random = Random::new(SEED);
     let body = random.bytes(1_017);
     for number in 0..=u16::MAX {
-        let label = Label {
-            table_id: number as u8,
-            extension: number,
-            version: (number % 32) as u8,
-        };
+        let label = Label::new(Key::new(number as u8, number), (number % 32) as u8);
         let (answer, out) = beside::section(label, &body, 1, 9);
         assert_eq!(answer, Ok(9));
         let read = section::read(&out).expect("a sound section");
-        assert_eq!((read.table_id, read.extension), (label.table_id, number));
+        assert_eq!(read.key, label.key);
         assert_eq!((read.version, read.body), (label.version, &body[1_016..]));
     }
     println!("65536 labels");

@@ -1,5 +1,7 @@
 //! Sections.
 
+use khumsafil::Key;
+
 /// Reads the payload by both, fails where they differ, and gives the number that both gave.
 pub fn compare(payload: &[u8]) -> u8 {
     let ours = khumsafil::section::read(payload);
@@ -7,9 +9,10 @@ pub fn compare(payload: &[u8]) -> u8 {
     match (ours, theirs) {
         (Err(refusal), Err(number)) if refusal.number() == number => number,
         (Ok(a), Ok(b)) => {
+            let key = Key::new(b.table_id, b.extension);
             assert_eq!(
-                (a.table_id, a.extension, a.version, a.number, a.last),
-                (b.table_id, b.extension, b.version, b.number, b.last),
+                (a.key, a.version, a.number, a.last),
+                (key, b.version, b.number, b.last),
                 "fields of {payload:02X?}"
             );
             let body = &payload[b.body_start..b.body_start + b.body_length];

@@ -1,12 +1,16 @@
 //! The shelf.
 
-use crate::shelf::{decode, same, Call};
-use khumsafil::shelf::{self as ours, RECORD, STORE};
-use khumsafil::Refusal;
+use crate::shelf::{begun, decode, promised, shown, Call};
+use khumsafil::shelf::{self as ours, lent, Shelf, RECORD, STORE, TABLE_FIELDS};
+use khumsafil::{Key, Refusal};
 use opinion::shelf::{self as theirs, Record, BERTH, PLACES, SECTIONS};
 
-/// What the bytes of an output are before a call.
+/// What the bytes of an output are before a call, and the numbers.
 pub const UNWRITTEN: u8 = 0xA5;
+const UNWRITTEN_NUMBER: u16 = 0xABCD;
+
+/// The places that are asked for their tables after each call: those of a shelf and two that there are not.
+const ASKED: u8 = 6;
 
 /// What an accepted call says, in one number.
 fn said(accepted: theirs::Accepted) -> usize {
@@ -23,7 +27,36 @@ fn missing(number: Option<u8>) -> usize {
     number.map_or(99, usize::from)
 }
 
-/// A call by the library.
+/// The numbers that a table is answered in.
+pub fn fields(table: &theirs::Table) -> [u16; TABLE_FIELDS] {
+    let mut fields = [0; TABLE_FIELDS];
+    let head = [
+        table.table_id.into(),
+        table.extension,
+        table.version.into(),
+        table.last.into(),
+    ];
+    fields[..4].copy_from_slice(&head);
+    fields[4..].copy_from_slice(&table.lengths);
+    fields
+}
+
+/// Whether the two tables are one.
+pub fn same_table(ours: &ours::Table, other: &theirs::Table) -> bool {
+    let numbers = 0..SECTIONS as u8;
+    let missing = numbers.filter(|n| *n <= other.last && other.lengths[usize::from(*n)] == 0);
+    let missing: Vec<u8> = missing.collect();
+    let held = |n: u8| other.lengths.get(usize::from(n)).copied().unwrap_or(0);
+    ours.key == Key::new(other.table_id, other.extension)
+        && (ours.version, ours.last) == (other.version, other.last)
+        && ours.lengths == other.lengths
+        && ours.missing().eq(missing.iter().copied())
+        && ours.is_complete() == missing.is_empty()
+        && (0..=255).all(|n| ours.holds(n) == (held(n) > 0))
+        && (0..=255).all(|n| ours.length(n).unwrap_or(0) == usize::from(held(n)))
+}
+
+/// A call by the library over a record and a store that are lent.
 fn our_call(
     record: &mut [u16],
     store: &mut [u8],
@@ -31,15 +64,55 @@ fn our_call(
     out: &mut [u8],
 ) -> Result<usize, Refusal> {
     match call {
-        Call::Begin => ours::begin(record, store).map(|()| 0),
-        Call::Offer(payload) => ours::offer(record, store, payload).map(|did| did as usize),
-        Call::Complete(key) => ours::complete(record, store, *key).map(usize::from),
-        Call::Missing(key) => ours::lowest_missing(record, store, *key).map(missing),
-        Call::Copy { key, number, .. } => ours::copy_section(record, store, *key, *number, out),
-        Call::Release(key) => ours::release(record, store, *key).map(|()| 0),
-        Call::Save { key, .. } => ours::save(record, store, *key, out),
-        Call::Load(file) => ours::load(record, store, file).map(|()| 0),
+        Call::Begin => lent::begin(record, store).map(|()| 0),
+        Call::Offer(payload) => lent::offer(record, store, payload).map(|did| did as usize),
+        Call::Complete(key) => {
+            let answer = lent::complete(record, store, *key);
+            let lamp = lent::is_complete(record, store, *key);
+            assert_eq!(lamp, answer == Ok(true), "{call:?} on {record:?}");
+            answer.map(usize::from)
+        }
+        Call::Missing(key) => lent::lowest_missing(record, store, *key).map(missing),
+        Call::Copy { key, number, .. } => lent::copy_section(record, store, *key, *number, out),
+        Call::Release(key) => lent::release(record, store, *key).map(|()| 0),
+        Call::Save { key, .. } => lent::save(record, store, *key, out),
+        Call::Load(file) => lent::load(record, store, file).map(|()| 0),
     }
+}
+
+/// The same on a [`Shelf`] that is begun or resumed for the call.
+fn our_shelf(
+    record: &mut [u16; RECORD],
+    store: &mut [u8],
+    call: &Call,
+    out: &mut [u8],
+) -> Result<usize, Refusal> {
+    let mut shelf = match call {
+        Call::Begin => Shelf::begin(store)?,
+        _ => Shelf::resume((*record).into(), store)?,
+    };
+    let answer = match call {
+        Call::Begin => Ok(0),
+        Call::Offer(payload) => shelf.offer(payload).map(|did| did as usize),
+        Call::Complete(key) => {
+            let answer = shelf.complete(*key);
+            assert_eq!(shelf.is_complete(*key), answer == Ok(true), "{call:?}");
+            answer.map(usize::from)
+        }
+        Call::Missing(key) => shelf.lowest_missing(*key).map(missing),
+        Call::Copy { key, number, .. } => shelf.copy_section(*key, *number, out),
+        Call::Release(key) => shelf.release(*key).map(|()| 0),
+        Call::Save { key, .. } => shelf.save(*key, out),
+        Call::Load(file) => shelf.load(file).map(|table| {
+            let other = opinion::file::table(file).expect("a file that was loaded");
+            assert!(same_table(&table, &other), "{table:?} is not {other:?}");
+            assert!(shelf.tables().any(|held| held == table), "{table:?}");
+            0
+        }),
+    };
+    let (after, _) = shelf.into_parts();
+    *record = *after.numbers();
+    answer
 }
 
 /// A call by the independent program.
@@ -74,32 +147,77 @@ fn their_call(
     }
 }
 
-/// Buffers that last over all histories. The stores have a byte more than a store, so that more can be lent.
+/// Buffers that last over all histories. The stores have a byte more than a store, so that more can be lent. The library
+/// is called over what is lent and through [`Shelf`] by turns.
 pub struct Both {
-    pub numbers: [u16; RECORD],
+    /// The record as the library has it.
+    pub record: [u16; RECORD],
     pub store: Vec<u8>,
-    pub record: Record,
+    /// The record as the independent program has it.
+    pub held: Record,
     pub other: Vec<u8>,
     pub out: Vec<u8>,
     other_out: Vec<u8>,
+    calls: usize,
+    /// How often the question of which table is in a place was answered by a table, 14, 15, 17 and 18.
+    pub tables: [u64; 5],
 }
 
 impl Both {
     /// Buffers with anything in them, which are no shelf yet.
     pub fn new() -> Both {
         Both {
-            numbers: [0xFFFF; RECORD],
+            record: [0xFFFF; RECORD],
             store: vec![0x11; STORE + 1],
-            record: theirs::fresh(),
+            held: theirs::fresh(),
             other: vec![0x11; STORE + 1],
             out: Vec::new(),
             other_out: Vec::new(),
+            calls: 0,
+            tables: [0; 5],
         }
     }
 
     /// Every byte of both stores.
     pub fn stores_agree(&self) {
         assert!(self.store == self.other, "the stores");
+    }
+
+    /// Asks both which table is in each place, and compares every number that was lent for it.
+    fn tables_agree(&mut self, size: usize) {
+        let (record, store) = (&self.record, &self.store[..size]);
+        for place in 0..ASKED {
+            let other = theirs::table(&self.held, &self.other[..size], place);
+            let answer = lent::table(record, store, place).map_err(Refusal::number);
+            let same = match (&answer, &other) {
+                (Ok(a), Ok(b)) => same_table(a, b),
+                (Err(a), Err(b)) => a == b,
+                _ => false,
+            };
+            assert!(same, "{place} of {record:?}: {answer:?} is not {other:?}");
+            // Room that is exact, more, or too little.
+            let room = match self.calls % 4 {
+                0 => self.calls / 4 % TABLE_FIELDS,
+                more => TABLE_FIELDS + more - 1,
+            };
+            let mut lent = [UNWRITTEN_NUMBER; TABLE_FIELDS + 2];
+            let answer = lent::table_fields(record, store, place, &mut lent[..room]);
+            let number = match other {
+                Err(number) => number,
+                Ok(_) if room < TABLE_FIELDS => 15,
+                Ok(_) => 0,
+            };
+            let answer = answer.map_err(Refusal::number).err().unwrap_or(0);
+            assert_eq!(answer, number, "{place} of {record:?}, room {room}");
+            let written = if number == 0 { TABLE_FIELDS } else { 0 };
+            if let (0, Ok(table)) = (number, &other) {
+                assert_eq!(lent[..TABLE_FIELDS], fields(table), "{place} of {record:?}");
+            }
+            let kept = lent[written..].iter().all(|n| *n == UNWRITTEN_NUMBER);
+            assert!(kept, "{place} of {record:?}, room {room}: past the answer");
+            let met = [0, 14, 15, 17, 18].iter().position(|n| *n == number);
+            self.tables[met.expect("an answer of this question")] += 1;
+        }
     }
 
     /// Makes a call on both sides with a store of `size` bytes, compares all but the store's untouched places, and
@@ -113,37 +231,43 @@ impl Both {
             out.clear();
             out.resize(room, UNWRITTEN);
         }
-        let before = self.numbers;
-        let held = self.record;
-        let answer = our_call(
-            &mut self.numbers,
-            &mut self.store[..size],
-            call,
-            &mut self.out,
-        );
+        let before = self.record;
+        let held = self.held;
+        self.calls += 1;
+        let (store, out) = (&mut self.store[..size], &mut self.out);
+        let answer = match self.calls % 2 {
+            0 => our_shelf(&mut self.record, store, call, out),
+            _ => our_call(&mut self.record, store, call, out),
+        };
         let answer = answer.map_err(Refusal::number);
         let other = their_call(
-            &mut self.record,
+            &mut self.held,
             &mut self.other[..size],
             call,
             &mut self.other_out,
         );
         assert_eq!(answer, other, "{call:?} on {before:?}");
         assert!(self.out == self.other_out, "{call:?} on {before:?}: output");
+        self.tables_agree(size);
         let repeat = matches!(call, Call::Offer(_)) && other == Ok(4);
         if other.is_err() || repeat {
-            assert_eq!(self.numbers, before, "{call:?}: numbers of no change");
+            assert_eq!(self.record, before, "{call:?}: the record of no change");
             return other;
         }
-        let now = decode(&self.numbers);
+        let after = match call {
+            Call::Begin => begun(),
+            _ => promised(&before, &held, &self.held),
+        };
+        assert_eq!(self.record, after, "{call:?} on {before:?}");
+        let now = decode(&self.record);
         assert!(
-            same(&now, &self.record),
+            theirs::equal(&now, &self.held),
             "{call:?} on {before:?}: {now:?} is not {:?}",
-            self.record
+            self.held
         );
         // The places whose numbers changed are those whose berths may have.
         for p in 0..PLACES {
-            if self.record.places[p] != held.places[p] {
+            if self.held.places[p] != held.places[p] {
                 let berths = p * SECTIONS * BERTH..(p + 1) * SECTIONS * BERTH;
                 let same = self.store[berths.clone()] == self.other[berths];
                 assert!(same, "{call:?} on {before:?}: berths of place {p}");
@@ -156,20 +280,26 @@ impl Both {
     /// stays as it was.
     pub fn call_with(&mut self, count: usize, call: &Call, size: usize) {
         assert_ne!(count, RECORD);
-        let mut numbers = vec![0x0101; count];
+        let mut record = vec![0x0101; count];
         let room = match call {
             Call::Copy { room, .. } | Call::Save { room, .. } => *room,
             _ => 0,
         };
         let mut out = vec![UNWRITTEN; room];
-        let answer = our_call(&mut numbers, &mut self.store[..size], call, &mut out);
+        let answer = our_call(&mut record, &mut self.store[..size], call, &mut out);
         let refusal = match size {
             STORE => Refusal::SHELF_SPOILED,
             _ => Refusal::STORE_SIZE,
         };
         assert_eq!(answer, Err(refusal), "{call:?}, {count} numbers");
-        assert!(numbers.iter().all(|n| *n == 0x0101), "{call:?}");
+        assert!(record.iter().all(|n| *n == 0x0101), "{call:?}");
         assert!(out.iter().all(|b| *b == UNWRITTEN), "{call:?}");
+        for place in 0..ASKED {
+            let mut lent = [UNWRITTEN_NUMBER; TABLE_FIELDS];
+            let answer = lent::table_fields(&record, &self.store[..size], place, &mut lent);
+            assert_eq!(answer, Err(refusal), "{place}, {count} numbers");
+            assert_eq!(lent, [UNWRITTEN_NUMBER; TABLE_FIELDS], "{place}");
+        }
     }
 
     /// The host writes the same on both stores.
@@ -178,4 +308,30 @@ impl Both {
             store[at..at + bytes.len()].copy_from_slice(bytes);
         }
     }
+}
+
+/// Whether two records are equal, by both. Where the tables of each can be asked, they are the same exactly then.
+pub fn equal(a: &[u16; RECORD], b: &[u16; RECORD], store: &[u8]) -> bool {
+    let (one, two) = (ours::Record::from(*a), ours::Record::from(*b));
+    let same = one == two;
+    assert_eq!(two == one, same, "{a:?} and {b:?}");
+    let (again_one, again_two) = (ours::Record::from(*a), ours::Record::from(*b));
+    assert!(one == again_one && two == again_two, "a record is itself");
+    if shown(a) || shown(b) {
+        let other = theirs::equal(&decode(a), &decode(b));
+        assert_eq!(same, other, "{a:?} and {b:?}");
+    }
+    let tables = |record: &[u16; RECORD]| {
+        let places = (0..PLACES as u8).map(|place| lent::table(record, store, place));
+        let all: Vec<_> = places.collect();
+        let spoiled = all.contains(&Err(Refusal::SHELF_SPOILED));
+        (!spoiled).then_some(all)
+    };
+    match (tables(a), tables(b)) {
+        (Some(a), Some(b)) => assert_eq!(a == b, same, "{a:?} and {b:?}"),
+        (None, None) => {}
+        // A spoiled record is no other's equal.
+        _ => assert!(!same, "{a:?} and {b:?}"),
+    }
+    same
 }

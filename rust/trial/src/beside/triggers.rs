@@ -79,25 +79,42 @@ pub fn compare(payload: &[u8], targets: &mut Tally) -> u8 {
     }
 }
 
-/// Asks both whether a trigger with an id of that length as read, at that place and of that many bytes, belongs to the
-/// application.
-pub fn belongs(payload: &[u8], idlength: u16, place: u16, size: u16, application: &[u8]) -> bool {
-    let ours = trigger::belongs(payload, idlength, place, size, application);
-    let numbers = theirs::Trigger {
-        id_length: idlength,
-        description: 0,
-        id_start: place.into(),
-        id_bytes: size.into(),
-        target: theirs::Target::None,
-        user_start: 0,
-        user_length: 0,
+/// Asks both whether a trigger of these numbers belongs to the application. With fewer than eleven it is none's, and more
+/// are not looked at.
+pub fn belongs(payload: &[u8], fields: &[u16], application: &[u8]) -> bool {
+    let ours = trigger::belongs(payload, fields, application);
+    let other = match fields {
+        [id_length, description, place, size, _, _, _, _, _, _, _, ..] => {
+            let numbers = theirs::Trigger {
+                id_length: *id_length,
+                description: *description,
+                id_start: usize::from(*place),
+                id_bytes: usize::from(*size),
+                target: theirs::Target::None,
+                user_start: 0,
+                user_length: 0,
+            };
+            theirs::belongs(payload, &numbers, application)
+        }
+        _ => false,
     };
-    let other = theirs::belongs(payload, &numbers, application);
     assert_eq!(
         ours, other,
-        "{numbers:?} of {payload:02X?}, {application:02X?}"
+        "{fields:?} of {payload:02X?}, {application:02X?}"
     );
     ours
+}
+
+/// The same with the numbers as they are, with each fewer and with more behind them; gives what the numbers as they are gave.
+pub fn belongs_by_any(payload: &[u8], fields: &[u16; trigger::FIELDS], application: &[u8]) -> bool {
+    for fewer in 0..trigger::FIELDS {
+        assert!(!belongs(payload, &fields[..fewer], application));
+    }
+    let given = belongs(payload, fields, application);
+    let mut more = fields.to_vec();
+    more.extend([0, 3, 0]);
+    assert_eq!(belongs(payload, &more, application), given);
+    given
 }
 
 /// Reads the payload with room for so many numbers: fewer than a trigger's stay as they were, and so do those past them.

@@ -77,12 +77,8 @@ fn kept(answer: Result<usize, u8>, out: &[u8]) {
 
 /// A section by the independent program.
 fn their_section(label: Label, body: &[u8], k: u8, out: &mut [u8]) -> Result<usize, u8> {
-    let Label {
-        table_id,
-        extension,
-        version,
-    } = label;
-    theirs::write(table_id, extension, version, body, k, out)
+    let (table_id, extension) = (label.key.table_id, label.key.extension);
+    theirs::write(table_id, extension, label.version, body, k, out)
 }
 
 /// The file of the independent program's sections, or its refusal.

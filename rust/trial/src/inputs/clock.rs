@@ -1,9 +1,9 @@
 //! A history of calls on a clock, by a host that may spoil the record.
 
 use super::feed::Feed;
-use crate::beside::clock::Both;
+use crate::beside::clock::{equal, Both};
 use crate::clocks::decode;
-use khumsafil::clock::WORDS;
+use khumsafil::clock::RECORD;
 use opinion::clock::{Action, Activation};
 
 /// The most calls of a history.
@@ -66,14 +66,14 @@ fn call(feed: &mut Feed, both: &mut Both, how: u8) {
             both.ask_any(application);
             both.no_action(application, asked);
             let count = usize::from(asked);
-            if count != WORDS {
-                Both::with_words(count, activation(feed, now));
+            if count != RECORD {
+                Both::with_size(count, activation(feed, now));
             }
         }
     }
 }
 
-/// A history. Answers and all words are compared after each call.
+/// A history. Answers and the whole record are compared after each call.
 pub fn clock(bytes: &[u8]) {
     let mut feed = Feed::new(bytes);
     let mut both = Both::fresh();
@@ -88,20 +88,21 @@ pub fn clock(bytes: &[u8]) {
             call(&mut feed, &mut both, how);
             continue;
         }
-        // The host changes a word, and the record may be spoiled. It puts the word back, or not.
-        let kept = (both.words, both.clock.clone());
-        let at = usize::from(feed.byte()) % WORDS;
-        both.words[at] = match how >> 3 & 3 {
+        // The host changes a number, and the record may be spoiled. It puts the number back, or not.
+        let kept = (both.record, both.clock.clone());
+        let at = usize::from(feed.byte()) % RECORD;
+        both.record[at] = match how >> 3 & 3 {
             0 => feed.word(),
-            1 => both.words[at] ^ 1 << (feed.byte() % 32),
-            2 => both.words[(at + 2) % WORDS],
+            1 => both.record[at] ^ 1 << (feed.byte() % 32),
+            2 => both.record[(at + 2) % RECORD],
             _ => feed.byte().into(),
         };
-        both.clock = decode(&both.words);
+        both.clock = decode(&both.record);
+        equal(&both.record, &kept.0);
         let how = feed.byte();
         call(&mut feed, &mut both, how);
         if how < 0xC0 {
-            (both.words, both.clock) = kept;
+            (both.record, both.clock) = kept;
         }
     }
 }

@@ -57,10 +57,7 @@ impl<'a> Feed<'a> {
             6 => (201, 4_661),
             _ => (self.byte(), self.half()),
         };
-        Key {
-            table_id,
-            extension,
-        }
+        Key::new(table_id, extension)
     }
 
     /// A table's fields, the number and the last in four bits each.

@@ -90,11 +90,8 @@ pub fn files(bytes: &[u8]) {
         if loaded.is_err() {
             return;
         }
-        let first = both.record.places[0];
-        let key = Key {
-            table_id: first.table_id,
-            extension: first.extension,
-        };
+        let first = both.held.places[0];
+        let key = Key::new(first.table_id, first.extension);
         for room in [file.len() - 1, usize::from(less).min(file.len() - 1)] {
             assert_eq!(both.call(&Call::Save { key, room }, STORE), Err(15));
         }
@@ -107,7 +104,7 @@ pub fn files(bytes: &[u8]) {
         let lowest = both.call(&Call::Missing(key), STORE);
         assert_eq!(whole == Ok(1), lowest == Ok(99), "whole and missing");
         for number in 0..17 {
-            let room = both.record.places[0].lengths.get(number).copied();
+            let room = both.held.places[0].lengths.get(number).copied();
             let number = number as u8;
             let room = room.unwrap_or(0).into();
             let _ = both.call(&Call::Copy { key, number, room }, STORE);

@@ -2,7 +2,7 @@
 
 use super::feed::Feed;
 use super::file;
-use crate::beside::shelf::Both;
+use crate::beside::shelf::{equal, Both};
 use crate::shelf::{decode, Call};
 use khumsafil::shelf::{LARGEST_FILE, RECORD, STORE};
 use std::cell::RefCell;
@@ -63,7 +63,7 @@ fn call(feed: &mut Feed, both: &Both, saved: &[Vec<u8>]) -> Call {
             let key = feed.key();
             let number = feed.byte();
             let number = if number < 0xE0 { number % 17 } else { number };
-            let mut places = both.record.places.iter();
+            let mut places = both.held.places.iter();
             let held = places.find(|p| (p.table_id, p.extension) == (key.table_id, key.extension));
             let length = held.and_then(|p| p.lengths.get(usize::from(number)));
             let room = room(feed, length.copied().unwrap_or(0).into());
@@ -72,7 +72,7 @@ fn call(feed: &mut Feed, both: &Both, saved: &[Vec<u8>]) -> Call {
         23 => Call::Release(feed.key()),
         24..=25 => {
             let key = feed.key();
-            let mut places = both.record.places.iter();
+            let mut places = both.held.places.iter();
             let held = places.find(|p| (p.table_id, p.extension) == (key.table_id, key.extension));
             let size = |length: &u16| usize::from(*length) + 1 + usize::from(*length > 127);
             let lengths = held.map_or([0; 16], |p| p.lengths);
@@ -119,18 +119,19 @@ pub fn shelf(bytes: &[u8]) {
                 break;
             }
             let how = feed.byte();
-            let kept = (both.numbers, both.record);
+            let kept = (both.record, both.held);
             let spoils = how & 0xF0 == 0xE0;
             match how {
                 0xE0..=0xEF => {
                     let at = usize::from(feed.byte()) % RECORD;
-                    both.numbers[at] = match how & 3 {
+                    both.record[at] = match how & 3 {
                         0 => feed.half(),
-                        1 => both.numbers[at] ^ 1 << (feed.byte() % 16),
-                        2 => both.numbers[(at + 4) % RECORD],
+                        1 => both.record[at] ^ 1 << (feed.byte() % 16),
+                        2 => both.record[(at + 4) % RECORD],
                         _ => u16::from(feed.byte()),
                     };
-                    both.record = decode(&both.numbers);
+                    both.held = decode(&both.record);
+                    equal(&both.record, &kept.0, &both.store[..STORE]);
                 }
                 0xFC..=0xFF => {
                     let at = usize::from(feed.half());
@@ -155,7 +156,7 @@ pub fn shelf(bytes: &[u8]) {
             }
             both.stores_agree();
             if spoils && how & 4 == 0 {
-                (both.numbers, both.record) = kept;
+                (both.record, both.held) = kept;
             }
         }
     });

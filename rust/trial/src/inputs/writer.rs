@@ -15,16 +15,12 @@ const CALLS: usize = 16;
 
 /// Any label, and every value of a version; those above 31 are seldom.
 fn label(feed: &mut Feed) -> Label {
-    let (table_id, extension) = (feed.byte(), feed.half());
+    let key = Key::new(feed.byte(), feed.half());
     let version = match feed.byte() {
         few @ 0..=0xDF => few % 33,
         _ => feed.byte(),
     };
-    Label {
-        table_id,
-        extension,
-        version,
-    }
+    Label::new(key, version)
 }
 
 /// A body's length: at most two bytes from a number of full bodies, small, any, or far too long.
@@ -64,8 +60,7 @@ fn body(feed: &mut Feed, length: usize) -> Vec<u8> {
 fn reads_back(bytes: &[u8], label: Label, body: &[u8], k: u8) {
     assert_eq!(beside::sections::compare(bytes), 0, "a sound section");
     let read = section::read(bytes).expect("a sound section");
-    let fields = (read.table_id, read.extension, read.version);
-    assert_eq!(fields, (label.table_id, label.extension, label.version));
+    assert_eq!((read.key, read.version), (label.key, label.version));
     let count = body.chunks(BODY).len().max(1);
     let numbers = (read.number, usize::from(read.last) + 1);
     assert_eq!(numbers, (k, count), "its numbers");
@@ -75,7 +70,8 @@ fn reads_back(bytes: &[u8], label: Label, body: &[u8], k: u8) {
 
 /// Offers all sections to a fresh shelf, the next by a byte each time, until none is missing. What the shelf then saves is
 /// the file that is written.
-fn offered(feed: &mut Feed, label: Label, body: &[u8], key: Key) {
+fn offered(feed: &mut Feed, label: Label, body: &[u8]) {
+    let key = label.key;
     let count = body.chunks(BODY).len().max(1);
     let mut left: Vec<u8> = (0..count as u8).collect();
     with(|both| {
@@ -109,7 +105,8 @@ fn offered(feed: &mut Feed, label: Label, body: &[u8], key: Key) {
 }
 
 /// Loads the file into a fresh shelf, whose sections then join to the body.
-fn loaded(label: Label, body: &[u8], key: Key) {
+fn loaded(label: Label, body: &[u8]) {
+    let key = label.key;
     let (answer, mut file) = writer::file(label, body, LARGEST_FILE);
     file.truncate(answer.expect("a file"));
     file.shrink_to_fit();
@@ -118,7 +115,7 @@ fn loaded(label: Label, body: &[u8], key: Key) {
         assert_eq!(both.call(&Call::Load(file), STORE), Ok(0));
         assert_eq!(both.call(&Call::Complete(key), STORE), Ok(1));
         let mut joined = Vec::new();
-        for number in 0..=both.record.places[0].last {
+        for number in 0..=both.held.places[0].last {
             let room = LARGEST_SECTION;
             let size = both.call(&Call::Copy { key, number, room }, STORE);
             joined.extend_from_slice(&both.out[HEADER..size.expect("a section")]);
@@ -131,10 +128,6 @@ fn loaded(label: Label, body: &[u8], key: Key) {
 /// One call for the body, with the output exact, near it or any.
 fn call(feed: &mut Feed, label: Label, body: &[u8], count: Result<u8, u8>) {
     let how = feed.byte();
-    let key = Key {
-        table_id: label.table_id,
-        extension: label.extension,
-    };
     match how % 8 {
         0 => {
             let far = how >> 3 & 3;
@@ -160,8 +153,8 @@ fn call(feed: &mut Feed, label: Label, body: &[u8], count: Result<u8, u8>) {
             let _ = writer::file(label, body, room);
         }
         _ if count.is_err() || label.version > 31 => {}
-        6 => offered(feed, label, body, key),
-        _ => loaded(label, body, key),
+        6 => offered(feed, label, body),
+        _ => loaded(label, body),
     }
 }
 

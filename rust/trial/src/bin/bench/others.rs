@@ -2,6 +2,7 @@
 
 use crate::timing::race;
 use crate::{Table, SEED};
+use khumsafil::clock::lent;
 use std::hint::black_box;
 use trial::clocks::{encode, for_us};
 use trial::random::Random;
@@ -11,7 +12,7 @@ pub fn table() -> Table {
     let mut table = Table::new(
         "Loops, triggers and the clock",
         "A walk is of 41 descriptors or about as many. A call on a clock is timed with the copying of its record.\n\
-         The library's record is 67 words, the other's a structure and a list.",
+         The library's record is 67 numbers, the other's a structure and a list.",
     );
     table.row("walk of a 1,000-byte loop", walks);
     table.row("trigger of 64 bytes", triggers);
@@ -145,15 +146,15 @@ fn calls(
     our_call: impl Fn(&mut [u32]),
     their_call: impl Fn(&mut opinion::clock::Clock),
 ) -> (f64, f64) {
-    let words: Vec<_> = clocks.iter().map(encode).collect();
-    let mut ours = words[0];
+    let records: Vec<_> = clocks.iter().map(encode).collect();
+    let mut ours = records[0];
     let mut theirs = clocks[0].clone();
     theirs.held.reserve(32);
     race(
         clocks.len(),
         20,
         || {
-            for record in &words {
+            for record in &records {
                 ours.copy_from_slice(black_box(record));
                 our_call(&mut ours);
                 black_box(&ours);
@@ -184,8 +185,8 @@ fn waiting_offer() -> (f64, f64) {
     };
     calls(
         &clocks,
-        |words| {
-            let _ = black_box(khumsafil::clock::offer(words, for_us(black_box(a))));
+        |record| {
+            let _ = black_box(lent::offer(record, for_us(black_box(a))));
         },
         |clock| {
             let _ = black_box(their_offer(clock, black_box(a)));
@@ -198,7 +199,7 @@ fn full_move() -> (f64, f64) {
     let clocks: Vec<_> = (0..64).map(|_| waiting(random, 32)).collect();
     calls(
         &clocks,
-        |words| assert_eq!(khumsafil::clock::move_to(words, black_box(2_000)), Ok(32)),
+        |record| assert_eq!(lent::move_to(record, black_box(2_000)), Ok(32)),
         |clock| assert_eq!(their_move(clock, black_box(2_000)), Ok(32)),
     )
 }

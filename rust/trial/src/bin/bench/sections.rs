@@ -64,8 +64,8 @@ macro_rules! race_fields {
                 for payload in $list {
                     if let Ok(s) = khumsafil::section::read(black_box(payload)) {
                         $take(
-                            s.table_id,
-                            s.extension,
+                            s.key.table_id,
+                            s.key.extension,
                             s.version,
                             s.number,
                             s.last,

@@ -2,7 +2,7 @@
 
 use crate::timing::race;
 use crate::{Table, SEED};
-use khumsafil::shelf::{Key, Shelf, LARGEST_FILE, STORE};
+use khumsafil::shelf::{lent, Key, Shelf, LARGEST_FILE, RECORD, STORE};
 use std::hint::black_box;
 use trial::random::Random;
 use trial::sections::{section, Fields};
@@ -123,7 +123,7 @@ fn offers(tables: u16, sections: u16, size: usize) -> (f64, f64) {
     let mut shelf = Shelf::begin(&mut ours).expect("a store");
     let mut keeper = opinion::keeper::Keeper::new();
     let repeats = list.iter().filter(|payload| {
-        let answer = shelf.offer(&mut ours, payload).expect("a section");
+        let answer = shelf.offer(payload).expect("a section");
         their_shelf(&mut keeper, &mut theirs, payload).expect("a section");
         answer == Accepted::Repeat
     });
@@ -134,7 +134,7 @@ fn offers(tables: u16, sections: u16, size: usize) -> (f64, f64) {
         1_280 / list.len(),
         || {
             for payload in &list {
-                let _ = black_box(shelf.offer(&mut ours, black_box(payload)));
+                let _ = black_box(shelf.offer(black_box(payload)));
             }
         },
         || {
@@ -143,19 +143,16 @@ fn offers(tables: u16, sections: u16, size: usize) -> (f64, f64) {
             }
         },
     );
-    assert!(ours == theirs, "the stores");
+    assert!(*shelf.store() == theirs, "the stores");
     timed
 }
 
-const KEY: Key = Key {
-    table_id: 201,
-    extension: 4_660,
-};
+const KEY: Key = Key::new(201, 4_660);
 
 /// A full table on both sides, and its file.
 struct Held {
-    fresh: Shelf,
-    shelf: Shelf,
+    fresh: [u16; RECORD],
+    full: [u16; RECORD],
     ours: Vec<u8>,
     record: opinion::shelf::Record,
     theirs: Vec<u8>,
@@ -165,8 +162,9 @@ struct Held {
 fn held(sections: u8, size: usize) -> Held {
     let random = &mut Random::new(SEED);
     let (mut ours, mut theirs) = (vec![0; STORE], vec![0; STORE]);
-    let fresh = Shelf::begin(&mut ours).expect("a store");
-    let mut shelf = fresh;
+    let mut fresh = [0; RECORD];
+    lent::begin(&mut fresh, &mut ours).expect("a store");
+    let mut full = fresh;
     for number in 0..sections {
         let fields = Fields {
             table_id: KEY.table_id,
@@ -176,16 +174,16 @@ fn held(sections: u8, size: usize) -> Held {
             last: sections - 1,
         };
         let payload = section(random, size, fields);
-        shelf.offer(&mut ours, &payload).expect("a section");
+        lent::offer(&mut full, &mut ours, &payload).expect("a section");
     }
     let mut file = vec![0; LARGEST_FILE];
-    let length = shelf.save(&ours, KEY, &mut file).expect("room");
+    let length = lent::save(&full, &ours, KEY, &mut file).expect("room");
     file.truncate(length);
     let mut record = opinion::shelf::fresh();
     opinion::file::load(&mut record, &mut theirs, &file).expect("a file");
     Held {
         fresh,
-        shelf,
+        full,
         ours,
         record,
         theirs,
@@ -196,7 +194,7 @@ fn held(sections: u8, size: usize) -> Held {
 fn loads(sections: u8, size: usize) -> (f64, f64) {
     let Held {
         fresh,
-        mut shelf,
+        mut full,
         mut ours,
         mut record,
         mut theirs,
@@ -206,8 +204,8 @@ fn loads(sections: u8, size: usize) -> (f64, f64) {
         1,
         20,
         || {
-            shelf = fresh;
-            assert!(black_box(shelf.load(&mut ours, black_box(&file))).is_ok());
+            full = fresh;
+            assert!(black_box(lent::load(&mut full, &mut ours, black_box(&file))).is_ok());
         },
         || {
             record = opinion::shelf::fresh();
@@ -220,7 +218,7 @@ fn loads(sections: u8, size: usize) -> (f64, f64) {
 
 fn saves(sections: u8, size: usize) -> (f64, f64) {
     let Held {
-        shelf,
+        full,
         ours,
         record,
         theirs,
@@ -231,7 +229,7 @@ fn saves(sections: u8, size: usize) -> (f64, f64) {
     let timed = race(
         1,
         20,
-        || assert!(black_box(shelf.save(black_box(&ours), KEY, &mut out)).is_ok()),
+        || assert!(black_box(lent::save(&full, black_box(&ours), KEY, &mut out)).is_ok()),
         || {
             let (table_id, extension) = (KEY.table_id, KEY.extension);
             let saved = their_save(&record, black_box(&theirs), table_id, extension, &mut other);

@@ -1,0 +1,69 @@
+//! A shelf's record by itself.
+
+use super::{PLACES, RECORD, SECTIONS};
+
+/// A shelf's record, apart from its store: 84 numbers, to put away and to take up again.
+///
+/// Any numbers are some record; [`super::Shelf::resume`] refuses one that is spoiled. Two records are equal where their
+/// taken places are: what the numbers of a free place happen to be does not matter, nor the length of a section that is
+/// not held.
+///
+/// A record is in one place, so that it is not resumed twice. This does not compile:
+///
+/// ```compile_fail,E0382
+/// # use khumsafil::shelf::{Record, Shelf, RECORD, STORE};
+/// let (mut one, mut other) = (vec![0; STORE], vec![0; STORE]);
+/// let (record, _) = Shelf::begin(&mut one)?.into_parts();
+/// let shelf = Shelf::resume(record, &mut one)?;
+/// let second = Shelf::resume(record, &mut other)?;
+/// # Ok::<(), khumsafil::Refusal>(())
+/// ```
+///
+/// ```compile_fail,E0599
+/// # use khumsafil::shelf::{Record, RECORD};
+/// let second = Record::from([0; RECORD]).clone();
+/// ```
+#[derive(Debug)]
+pub struct Record {
+    numbers: [u16; RECORD],
+}
+
+/// Where the heads of the places begin, of four numbers each, and where the masks do; the lengths are before them.
+const HEADS: usize = SECTIONS * PLACES;
+const MASKS: usize = HEADS + HEAD * PLACES;
+const HEAD: usize = 4;
+
+impl Record {
+    /// The numbers, as the header lays them out.
+    pub fn numbers(&self) -> &[u16; RECORD] {
+        &self.numbers
+    }
+
+    pub(super) fn numbers_mut(&mut self) -> &mut [u16; RECORD] {
+        &mut self.numbers
+    }
+
+    /// The table id, extension, version and last number of a place, the mask of what it holds, and the lengths of that; of
+    /// a free place nothing.
+    fn place(&self, p: usize) -> Option<(&[u16], u16, [u16; SECTIONS])> {
+        let head = &self.numbers[HEADS + HEAD * p..][..HEAD];
+        let mask = self.numbers[MASKS + p];
+        let lengths = &self.numbers[SECTIONS * p..][..SECTIONS];
+        let held = core::array::from_fn(|n| if mask >> n & 1 == 1 { lengths[n] } else { 0 });
+        (head[0] >> 8 == 1).then_some((head, mask, held))
+    }
+}
+
+impl From<[u16; RECORD]> for Record {
+    fn from(numbers: [u16; RECORD]) -> Record {
+        Record { numbers }
+    }
+}
+
+impl PartialEq for Record {
+    fn eq(&self, other: &Record) -> bool {
+        (0..PLACES).all(|p| self.place(p) == other.place(p))
+    }
+}
+
+impl Eq for Record {}
