@@ -1,19 +1,28 @@
 /*
  * Khumsafil: table sections, the shelf and its files, descriptors, triggers and the clock of a television data receiver,
- * and the bench's section writer.
+ * and the bench's section writer. This is what a host in C or C++ calls: inline functions over those of khumsafil_raw.h.
  *
  * Every function ends and answers, on any bytes. None allocates, keeps a pointer, or holds a state of its own,
- * so calls on different buffers may run at the same time.
+ * so calls on different buffers may run at the same time. The archive needs memcpy, memmove and memset, and nothing else.
+ *
+ * An answer is a structure whose first member is the refusal, KHUMSAFIL_NOT_REFUSED where the call is accepted:
+ *
+ *   khumsafil_size saved = khumsafil_shelf_save(&shelf, key, file, sizeof file);
+ *   if (saved.refusal)
+ *       printf("refused %u: %s\n", (unsigned)saved.refusal, khumsafil_refusal_text(saved.refusal));
+ *
+ * So an answer cannot stand in an if by itself, and none is lost in a narrower variable. Of a refused answer all other
+ * members are 0 and pointers null, unless it is said; a bool is then false, and no enumeration has 0 for a thing that is so.
+ * A plain bool is answered only where true is the one thing asked: the lamp is khumsafil_shelf_is_complete.
  *
  * A buffer is a pointer and, as the next parameter, the number of its elements.
  *
  * What a host may get wrong, and what happens then. A refused call writes nothing.
  *
  *   a null pointer with length 0     is an empty buffer; nothing is read or written through it
- *   a store of another size          17, one byte shorter or longer too; before all else
- *   a shelf record of another size   18, after 17
- *   a clock record of another size   35
  *   a record that was written on     18 or 35 where it is spoiled; otherwise it is taken for what it says
+ *   a shelf or a clock that was
+ *   never begun                      taken for what stands there, which is most often spoiled: begin it first
  *   a store that was written on      taken as it stands: a repeat is compared with it, and copies and files have
  *                                    what stands there; whether a table is whole is told by the record alone
  *   too little room for an answer    15, after the refusals of what is read
@@ -22,9 +31,13 @@
  *   place or length as a number      refused, or answered as the function says
  *   two buffers that are only read   may share bytes, or be one
  *
+ * A store or a record of another size, which a raw function refuses by 17, 18 or 35, cannot be lent to a function of this
+ * header.
+ *
  * What C lets a host do and the library cannot see. No promise holds then, and any byte of the program may be lost:
  *
  *   a pointer, null or not, with fewer elements behind it than its length says, or not aligned for them
+ *   a pointer to a shelf, a clock or a trigger that is null or has none behind it
  *   a buffer that the call writes and that shares a byte with another buffer of that call, also where the call is
  *   refused or writes nothing, as with a payload that stands in the store
  *   two calls at the same time on one buffer that either of them writes
@@ -34,439 +47,735 @@
 #ifndef KHUMSAFIL_H
 #define KHUMSAFIL_H
 
-#include <stdbool.h>
-#include <stddef.h>
-#include <stdint.h>
+#include "khumsafil_raw.h"
 
-#ifdef __cplusplus
-extern "C" {
-#endif
+/* The version of this header: 65536 times the major number, 256 times the minor one and the patch. */
+#define KHUMSAFIL_VERSION 0x000200
+#define KHUMSAFIL_VERSION_TEXT "0.2.0"
 
-/*
- * The numbers of refusal. A refused call answers the number alone, and leaves every buffer as it was. Those from 40 on
- * are document 02's, the last is the boundary's own, and all others are document 01's.
- */
-#define KHUMSAFIL_REFUSED_PAYLOAD_SHORT 1                /* payload under 8 bytes */
-#define KHUMSAFIL_REFUSED_WRONG_INDICATOR 2              /* syntax indicator 1 or private indicator 0 */
-#define KHUMSAFIL_REFUSED_LENGTH_OUT_OF_RANGE 3          /* section length under 5 or over 1,021 */
-#define KHUMSAFIL_REFUSED_LONGER_THAN_PAYLOAD 4          /* section longer than its payload */
-#define KHUMSAFIL_REFUSED_SHORTER_THAN_PAYLOAD 5         /* section shorter than its payload */
-#define KHUMSAFIL_REFUSED_NUMBER_ABOVE_LAST 6            /* section number above last */
-#define KHUMSAFIL_REFUSED_LAST_ABOVE_15 7                /* last number above 15 */
-#define KHUMSAFIL_REFUSED_NOT_CURRENT 8                  /* current/next is 0 */
-#define KHUMSAFIL_REFUSED_NO_FREE_PLACE 9                /* new key, no free place */
-#define KHUMSAFIL_REFUSED_DIFFERS 10                     /* same key and version, other last number or other bytes */
-#define KHUMSAFIL_REFUSED_BAD_NUMBER 11                  /* number of a file cut off, not shortest or above 65,535 */
-#define KHUMSAFIL_REFUSED_BAD_FILE 12                    /* other fault of a file */
-#define KHUMSAFIL_REFUSED_KEY_HELD 13                    /* key of the file already held */
-#define KHUMSAFIL_REFUSED_TABLE_NOT_HELD 14              /* table not held */
-#define KHUMSAFIL_REFUSED_OUTPUT_TOO_SMALL 15            /* output too small */
-#define KHUMSAFIL_REFUSED_SECTION_NOT_HELD 16            /* section not held */
-#define KHUMSAFIL_REFUSED_STORE_SIZE 17                  /* store not 65,536 bytes */
-#define KHUMSAFIL_REFUSED_SHELF_SPOILED 18               /* shelf record spoiled, or not 84 numbers */
-#define KHUMSAFIL_REFUSED_DESCRIPTOR_RUNS_PAST 19        /* descriptor runs past the loop, or the place asked is beyond its end */
-#define KHUMSAFIL_REFUSED_TRIGGER_CUT_OFF 20             /* trigger ends inside a field */
-#define KHUMSAFIL_REFUSED_TRIGGER_OTHER_EVENT 21         /* event type not 0 */
-#define KHUMSAFIL_REFUSED_TRIGGER_FORBIDDEN_ID_LENGTH 22 /* application id length 1 */
-#define KHUMSAFIL_REFUSED_TRIGGER_WRONG_TARGET_LENGTH 23 /* type 0 with length; type 1 with length not 0 or 6; type 2 with length not 0 or 2 */
-#define KHUMSAFIL_REFUSED_TRIGGER_HIGH_URI_BYTE 24       /* URI byte above 127 */
-#define KHUMSAFIL_REFUSED_TRIGGER_BYTES_LEFT 25          /* bytes after the user data */
-#define KHUMSAFIL_REFUSED_TRIGGER_TOO_LONG 26            /* trigger over 4,096 bytes */
-#define KHUMSAFIL_REFUSED_CLOCK_ABOVE 30                 /* application above 7 */
-#define KHUMSAFIL_REFUSED_CLOCK_MOVED_BACK 31            /* clock moved back */
-#define KHUMSAFIL_REFUSED_CLOCK_PAST 32                  /* time more than 60,000 before the clock */
-#define KHUMSAFIL_REFUSED_CLOCK_ALREADY_HELD 33          /* that activation is held */
-#define KHUMSAFIL_REFUSED_CLOCK_FULL 34                  /* 32 held */
-#define KHUMSAFIL_REFUSED_CLOCK_SPOILED 35               /* clock record spoiled, or not 67 words */
-#define KHUMSAFIL_REFUSED_WRITER_BODY_TOO_LONG 40        /* body over 16,256 bytes */
-#define KHUMSAFIL_REFUSED_WRITER_VERSION_ABOVE_31 41     /* version above 31 */
-#define KHUMSAFIL_REFUSED_WRITER_K_ABOVE_LAST 42         /* section k above the last */
-#define KHUMSAFIL_REFUSED_NO_SUCH_ACTION 255             /* a number above 3, which is no action */
+/* The version of the library that is linked, by its own answer. */
+static inline uint32_t khumsafil_version(void) {
+    return khumsafil_raw_version();
+}
 
 /*
- * What the host lends, and the largest of what it receives:
- *
- *   a shelf      KHUMSAFIL_SHELF_RECORD numbers and KHUMSAFIL_STORE bytes, and neither more nor fewer
- *   a clock      KHUMSAFIL_CLOCK_WORDS words, and neither more nor fewer
- *   a trigger    room for KHUMSAFIL_TRIGGER_FIELDS numbers at least
- *   a section    room for KHUMSAFIL_LARGEST_SECTION bytes is enough, for a file KHUMSAFIL_LARGEST_FILE, for a file's
- *                list KHUMSAFIL_LARGEST_LIST
- *   a datagram   one byte more than KHUMSAFIL_LARGEST_SECTION or KHUMSAFIL_LARGEST_TRIGGER, so that a longer one is
- *                refused and not clipped
+ * The numbers of refusal. Those from 40 on are document 02's, the last is the boundary's own, and all others are document
+ * 01's. khumsafil_refusal_text says when each is given.
  */
+typedef enum khumsafil_refusal {
+    KHUMSAFIL_NOT_REFUSED = 0,
+    KHUMSAFIL_REFUSED_PAYLOAD_SHORT = 1,
+    KHUMSAFIL_REFUSED_WRONG_INDICATOR = 2,
+    KHUMSAFIL_REFUSED_LENGTH_OUT_OF_RANGE = 3,
+    KHUMSAFIL_REFUSED_LONGER_THAN_PAYLOAD = 4,
+    KHUMSAFIL_REFUSED_SHORTER_THAN_PAYLOAD = 5,
+    KHUMSAFIL_REFUSED_NUMBER_ABOVE_LAST = 6,
+    KHUMSAFIL_REFUSED_LAST_ABOVE_15 = 7,
+    KHUMSAFIL_REFUSED_NOT_CURRENT = 8,
+    KHUMSAFIL_REFUSED_NO_FREE_PLACE = 9,
+    KHUMSAFIL_REFUSED_DIFFERS = 10,
+    KHUMSAFIL_REFUSED_BAD_NUMBER = 11,
+    KHUMSAFIL_REFUSED_BAD_FILE = 12,
+    KHUMSAFIL_REFUSED_KEY_HELD = 13,
+    KHUMSAFIL_REFUSED_TABLE_NOT_HELD = 14,
+    KHUMSAFIL_REFUSED_OUTPUT_TOO_SMALL = 15,
+    KHUMSAFIL_REFUSED_SECTION_NOT_HELD = 16,
+    KHUMSAFIL_REFUSED_STORE_SIZE = 17,
+    KHUMSAFIL_REFUSED_SHELF_SPOILED = 18,
+    KHUMSAFIL_REFUSED_DESCRIPTOR_RUNS_PAST = 19,
+    KHUMSAFIL_REFUSED_TRIGGER_CUT_OFF = 20,
+    KHUMSAFIL_REFUSED_TRIGGER_OTHER_EVENT = 21,
+    KHUMSAFIL_REFUSED_TRIGGER_FORBIDDEN_ID_LENGTH = 22,
+    KHUMSAFIL_REFUSED_TRIGGER_WRONG_TARGET_LENGTH = 23,
+    KHUMSAFIL_REFUSED_TRIGGER_HIGH_URI_BYTE = 24,
+    KHUMSAFIL_REFUSED_TRIGGER_BYTES_LEFT = 25,
+    KHUMSAFIL_REFUSED_TRIGGER_TOO_LONG = 26,
+    KHUMSAFIL_REFUSED_CLOCK_ABOVE = 30,
+    KHUMSAFIL_REFUSED_CLOCK_MOVED_BACK = 31,
+    KHUMSAFIL_REFUSED_CLOCK_PAST = 32,
+    KHUMSAFIL_REFUSED_CLOCK_ALREADY_HELD = 33,
+    KHUMSAFIL_REFUSED_CLOCK_FULL = 34,
+    KHUMSAFIL_REFUSED_CLOCK_SPOILED = 35,
+    KHUMSAFIL_REFUSED_WRITER_BODY_TOO_LONG = 40,
+    KHUMSAFIL_REFUSED_WRITER_VERSION_ABOVE_31 = 41,
+    KHUMSAFIL_REFUSED_WRITER_K_ABOVE_LAST = 42,
+    KHUMSAFIL_REFUSED_NO_SUCH_ACTION = 255
+} khumsafil_refusal;
 
-/* The bytes of a section before its body. */
-#define KHUMSAFIL_SECTION_HEADER 8
+/* When a call is refused by that number, in the words of the documents. Any number may be asked. */
+static inline const char *khumsafil_refusal_text(unsigned number) {
+    switch (number) {
+    case KHUMSAFIL_REFUSED_PAYLOAD_SHORT:
+        return "payload under 8 bytes";
+    case KHUMSAFIL_REFUSED_WRONG_INDICATOR:
+        return "syntax indicator 1 or private indicator 0";
+    case KHUMSAFIL_REFUSED_LENGTH_OUT_OF_RANGE:
+        return "section length under 5 or over 1,021";
+    case KHUMSAFIL_REFUSED_LONGER_THAN_PAYLOAD:
+        return "section longer than its payload";
+    case KHUMSAFIL_REFUSED_SHORTER_THAN_PAYLOAD:
+        return "section shorter than its payload";
+    case KHUMSAFIL_REFUSED_NUMBER_ABOVE_LAST:
+        return "section number above last";
+    case KHUMSAFIL_REFUSED_LAST_ABOVE_15:
+        return "last number above 15";
+    case KHUMSAFIL_REFUSED_NOT_CURRENT:
+        return "current/next is 0";
+    case KHUMSAFIL_REFUSED_NO_FREE_PLACE:
+        return "new key, no free place";
+    case KHUMSAFIL_REFUSED_DIFFERS:
+        return "differs from what is held: same version with another last number, or other bytes at a held number";
+    case KHUMSAFIL_REFUSED_BAD_NUMBER:
+        return "file number cut off, not shortest, or above 65,535";
+    case KHUMSAFIL_REFUSED_BAD_FILE:
+        return "form not 1; count not 1 to 16; length not 8 to 1,024; bytes run past the file; keys, versions or lasts "
+               "differ; numbers not rising; bytes left over";
+    case KHUMSAFIL_REFUSED_KEY_HELD:
+        return "loading a key already held";
+    case KHUMSAFIL_REFUSED_TABLE_NOT_HELD:
+        return "table not held";
+    case KHUMSAFIL_REFUSED_OUTPUT_TOO_SMALL:
+        return "output too small";
+    case KHUMSAFIL_REFUSED_SECTION_NOT_HELD:
+        return "section not held";
+    case KHUMSAFIL_REFUSED_STORE_SIZE:
+        return "a lent store not 65,536 bytes";
+    case KHUMSAFIL_REFUSED_SHELF_SPOILED:
+        return "shelf record spoiled, in a taken place: a version above 31, a last above 15, a held number above last, a "
+               "held length outside 8 to 1,024, or nothing held; or two taken places with one key";
+    case KHUMSAFIL_REFUSED_DESCRIPTOR_RUNS_PAST:
+        return "descriptor runs past the loop, or the place asked is beyond its end";
+    case KHUMSAFIL_REFUSED_TRIGGER_CUT_OFF:
+        return "trigger ends inside a field";
+    case KHUMSAFIL_REFUSED_TRIGGER_OTHER_EVENT:
+        return "event type not 0";
+    case KHUMSAFIL_REFUSED_TRIGGER_FORBIDDEN_ID_LENGTH:
+        return "application id length 1";
+    case KHUMSAFIL_REFUSED_TRIGGER_WRONG_TARGET_LENGTH:
+        return "type 0 with length; type 1 with length not 0 or 6; type 2 with length not 0 or 2";
+    case KHUMSAFIL_REFUSED_TRIGGER_HIGH_URI_BYTE:
+        return "URI byte above 127";
+    case KHUMSAFIL_REFUSED_TRIGGER_BYTES_LEFT:
+        return "bytes after the user data";
+    case KHUMSAFIL_REFUSED_TRIGGER_TOO_LONG:
+        return "trigger over 4,096 bytes";
+    case KHUMSAFIL_REFUSED_CLOCK_ABOVE:
+        return "application above 7";
+    case KHUMSAFIL_REFUSED_CLOCK_MOVED_BACK:
+        return "clock moved back (equal is allowed)";
+    case KHUMSAFIL_REFUSED_CLOCK_PAST:
+        return "time more than 60,000 before the clock";
+    case KHUMSAFIL_REFUSED_CLOCK_ALREADY_HELD:
+        return "that activation is held";
+    case KHUMSAFIL_REFUSED_CLOCK_FULL:
+        return "32 held";
+    case KHUMSAFIL_REFUSED_CLOCK_SPOILED:
+        return "clock record spoiled: over 32 held, one for an application above 7, two alike, waiting at or before the "
+               "clock, applied but ahead of it, or applied and past its memory";
+    case KHUMSAFIL_REFUSED_WRITER_BODY_TOO_LONG:
+        return "body too long";
+    case KHUMSAFIL_REFUSED_WRITER_VERSION_ABOVE_31:
+        return "version above 31";
+    case KHUMSAFIL_REFUSED_WRITER_K_ABOVE_LAST:
+        return "k above the last";
+    case KHUMSAFIL_REFUSED_NO_SUCH_ACTION:
+        return "no such action: a number above 3";
+    default:
+        return "no number of this library";
+    }
+}
+
+/* The answer of a call that is done or refused. */
+typedef struct khumsafil_done {
+    khumsafil_refusal refusal;
+} khumsafil_done;
+
+/* How many bytes a call put at the front of the lent output. */
+typedef struct khumsafil_size {
+    khumsafil_refusal refusal;
+    size_t size;
+} khumsafil_size;
 
 /*
- * Reads the payload as one section. Refuses by 1 to 8: the lowest number that applies.
- *
- * payload: read, and left as it is.
- *
- * The answer's low 8 bits are the number of refusal, or 0 for a sound section. Of a refused one all other bits
- * are 0. Of a sound one the macros below take the fields out of the answer; its body is the payload from byte
- * KHUMSAFIL_SECTION_HEADER to the end.
+ * What tells one table from another. Document 02 adds fields for one table id, so a host makes a key by khumsafil_key_of or
+ * takes it from an answer, and does not list its members.
  */
-uint64_t khumsafil_section_read(const uint8_t *payload, size_t payload_length);
+typedef struct khumsafil_key {
+    uint8_t table_id;
+    uint16_t extension;
+} khumsafil_key;
 
-#define KHUMSAFIL_SECTION_REFUSAL(answer) ((uint8_t)(answer))
-#define KHUMSAFIL_SECTION_TABLE_ID(answer) ((uint8_t)((answer) >> 8))
-#define KHUMSAFIL_SECTION_EXTENSION(answer) ((uint16_t)((answer) >> 16))
-#define KHUMSAFIL_SECTION_VERSION(answer) ((uint8_t)((answer) >> 32))
-#define KHUMSAFIL_SECTION_NUMBER(answer) ((uint8_t)((answer) >> 40))
-#define KHUMSAFIL_SECTION_LAST(answer) ((uint8_t)((answer) >> 48))
+static inline khumsafil_key khumsafil_key_of(uint8_t table_id, uint16_t extension) {
+    khumsafil_key key;
+    key.table_id = table_id;
+    key.extension = extension;
+    return key;
+}
+
+/* Whether two keys are one. */
+static inline bool khumsafil_key_same(khumsafil_key a, khumsafil_key b) {
+    return a.table_id == b.table_id && a.extension == b.extension;
+}
+
+/* A key, a shelf and a clock as the raw functions take them. These are no part of what a host calls. */
+#define KHUMSAFIL_KEY_(key) (key).table_id, (key).extension
+#define KHUMSAFIL_SHELF_(shelf) (shelf)->record, KHUMSAFIL_SHELF_RECORD, (shelf)->store, KHUMSAFIL_STORE
+#define KHUMSAFIL_CLOCK_(clock) (clock)->record, KHUMSAFIL_CLOCK_RECORD
+
+/* What the raw answers have in common. A name with an underscore at its end is no part of what a host calls either. */
+static inline khumsafil_refusal khumsafil_refusal_(uint64_t answer) {
+    return (khumsafil_refusal)(answer & 0xFF);
+}
+
+static inline khumsafil_done khumsafil_done_(uint8_t answer) {
+    khumsafil_done done;
+    done.refusal = khumsafil_refusal_(answer);
+    return done;
+}
+
+static inline khumsafil_size khumsafil_size_(uint32_t answer) {
+    khumsafil_size size;
+    size.refusal = khumsafil_refusal_(answer);
+    size.size = (size_t)(answer >> 8);
+    return size;
+}
+
+/* A section as it was read. The body is the part of the payload behind the header. */
+typedef struct khumsafil_section {
+    khumsafil_refusal refusal;
+    khumsafil_key key;
+    uint8_t version;
+    uint8_t number;
+    uint8_t last;
+    const uint8_t *body;
+    size_t body_length;
+} khumsafil_section;
+
+/* Reads the payload as one section. Refused: 1 to 8, the lowest number that applies. */
+static inline khumsafil_section khumsafil_section_read(const uint8_t *payload, size_t payload_length) {
+    const uint64_t answer = khumsafil_raw_section_read(payload, payload_length);
+    khumsafil_section section;
+    section.refusal = khumsafil_refusal_(answer);
+    section.key = khumsafil_key_of((uint8_t)(answer >> 8), (uint16_t)(answer >> 16));
+    section.version = (uint8_t)(answer >> 32);
+    section.number = (uint8_t)(answer >> 40);
+    section.last = (uint8_t)(answer >> 48);
+    section.body = section.refusal ? NULL : payload + KHUMSAFIL_SECTION_HEADER;
+    section.body_length = section.refusal ? 0 : payload_length - KHUMSAFIL_SECTION_HEADER;
+    return section;
+}
 
 /*
- * A shelf is a record of this many numbers and a store of this many bytes, both lent. Another size of the store is
- * refused by 17, and then another number of numbers by 18.
- *
- * Of place p of four, and section n of sixteen:
- *
- *   16p + n   the length of the section, where it is held
- *   64 + 4p   256 + the table id where the place is taken; any number below 256 or above 511 where it is free
- *   65 + 4p   the table id extension
- *   66 + 4p   the version
- *   67 + 4p   the last number
- *   80 + p    bit n is 1 where the section is held
- *
- * Section n of place p stands in the store from byte 1024 (16p + n) on. The numbers of a place that is free, and the
- * length of a section that is not held, are disregarded: what the library leaves there means nothing to a host. So every
- * value of the numbers is some record; a spoiled one is refused by 18. Promises over a history presume that the host
- * lends numbers and store back as they were left.
+ * A shelf: a record and the store that it speaks of, lent as one, so that no other store is lent with it. It is some
+ * 65,700 bytes, which is much for a stack. Before all else it is begun. A host that must keep the two apart calls the raw
+ * functions.
  */
-#define KHUMSAFIL_SHELF_RECORD 84
-#define KHUMSAFIL_STORE 65536
+typedef struct khumsafil_shelf {
+    uint16_t record[KHUMSAFIL_SHELF_RECORD];
+    uint8_t store[KHUMSAFIL_STORE];
+} khumsafil_shelf;
 
-/* The most bytes of a section, and of a file. */
-#define KHUMSAFIL_LARGEST_SECTION 1024
-#define KHUMSAFIL_LARGEST_FILE 16418
+/* Makes it a fresh shelf, whatever stood there: four free places and a store of zeros. Never refused. */
+static inline khumsafil_done khumsafil_shelf_begin(khumsafil_shelf *shelf) {
+    return khumsafil_done_(khumsafil_raw_shelf_begin(KHUMSAFIL_SHELF_(shelf)));
+}
 
 /* What an accepted section did. */
-#define KHUMSAFIL_SHELF_BEGAN 1
-#define KHUMSAFIL_SHELF_BEGAN_AGAIN 2
-#define KHUMSAFIL_SHELF_ADDED 3
-#define KHUMSAFIL_SHELF_REPEAT 4
+typedef enum khumsafil_accepted {
+    KHUMSAFIL_SHELF_NOT_ACCEPTED = 0, /* it was refused */
+    KHUMSAFIL_SHELF_BEGAN = 1,        /* it began its table */
+    KHUMSAFIL_SHELF_BEGAN_AGAIN = 2,  /* it has another version, and began its table again */
+    KHUMSAFIL_SHELF_ADDED = 3,        /* it was added to its table */
+    KHUMSAFIL_SHELF_REPEAT = 4        /* it is held; nothing changed */
+} khumsafil_accepted;
 
-/* What a question about a table found. */
-#define KHUMSAFIL_SHELF_COMPLETE 1
-#define KHUMSAFIL_SHELF_INCOMPLETE 2
-#define KHUMSAFIL_SHELF_NOTHING_MISSING 1
-#define KHUMSAFIL_SHELF_MISSING 2
+typedef struct khumsafil_offered {
+    khumsafil_refusal refusal;
+    khumsafil_accepted accepted;
+} khumsafil_offered;
 
-/*
- * Makes record and store a fresh shelf: four free places. Answers 0, or the number of refusal: 17, 18.
- *
- * words: the record; written, whatever stood there; where the call is refused left as it was.
- * store: all bytes become 0; where the call is refused left as it was.
- */
-uint8_t khumsafil_shelf_begin(uint16_t *words, size_t words_length, uint8_t *store, size_t store_length);
-
-/*
- * Offers a payload. Refuses by 17, 18, and then 1 to 10: the lowest number that applies.
- *
- * words: the record, and after the call the next one; where the call is refused, or the section a repeat, left as it was.
- * store: the section's berth becomes the section and then zeros; where it begins its table again, the berths that
- * were held become 0 before that; all other bytes stay as they were. Left as it was with the record.
- * payload: read, and left as it is.
- *
- * The answer's low 8 bits are the number of refusal, or 0; KHUMSAFIL_SHELF_VALUE then takes out what the
- * section did.
- */
-uint16_t khumsafil_shelf_offer(uint16_t *words, size_t words_length, uint8_t *store, size_t store_length,
-                               const uint8_t *payload, size_t payload_length);
+/* Offers a datagram's payload. Refused: 18, then 1 to 10, the lowest number that applies. */
+static inline khumsafil_offered khumsafil_shelf_offer(khumsafil_shelf *shelf, const uint8_t *payload,
+                                                      size_t payload_length) {
+    const uint16_t answer = khumsafil_raw_shelf_offer(KHUMSAFIL_SHELF_(shelf), payload, payload_length);
+    khumsafil_offered offered;
+    offered.refusal = khumsafil_refusal_(answer);
+    offered.accepted = (khumsafil_accepted)(answer >> 8);
+    return offered;
+}
 
 /*
- * Whether every section of a table, from 0 to its last, is held. Refuses by 17, 18, 14.
- *
- * words (the record), store: read, and left as they are.
- *
- * The answer's low 8 bits are the number of refusal, or 0; KHUMSAFIL_SHELF_VALUE then takes out whether the
- * table is complete.
+ * The lamp: true exactly when the table is held and every section of it from 0 to its last. False of a table that is not
+ * held or has a gap, and of a spoiled shelf; khumsafil_shelf_completeness tells these apart.
  */
-uint16_t khumsafil_shelf_complete(const uint16_t *words, size_t words_length, const uint8_t *store,
-                                  size_t store_length, uint8_t table, uint16_t extension);
+static inline bool khumsafil_shelf_is_complete(const khumsafil_shelf *shelf, khumsafil_key key) {
+    return khumsafil_raw_shelf_is_complete(KHUMSAFIL_SHELF_(shelf), KHUMSAFIL_KEY_(key));
+}
+
+typedef struct khumsafil_completeness {
+    khumsafil_refusal refusal;
+    bool complete;
+} khumsafil_completeness;
+
+/* Whether every section of a table is held. Refused: 18, 14. */
+static inline khumsafil_completeness khumsafil_shelf_completeness(const khumsafil_shelf *shelf, khumsafil_key key) {
+    const uint16_t answer = khumsafil_raw_shelf_complete(KHUMSAFIL_SHELF_(shelf), KHUMSAFIL_KEY_(key));
+    khumsafil_completeness completeness;
+    completeness.refusal = khumsafil_refusal_(answer);
+    completeness.complete = answer >> 8 == 1;
+    return completeness;
+}
+
+/* What is missing of a table: nothing, or a number. Of a refused answer nothing_missing is false. */
+typedef struct khumsafil_missing {
+    khumsafil_refusal refusal;
+    bool nothing_missing;
+    uint8_t number; /* the lowest missing number; 0 where nothing is missing */
+} khumsafil_missing;
+
+/* The lowest number of a table that is not held. Refused: 18, 14. */
+static inline khumsafil_missing khumsafil_shelf_lowest_missing(const khumsafil_shelf *shelf, khumsafil_key key) {
+    const uint32_t answer = khumsafil_raw_shelf_lowest_missing(KHUMSAFIL_SHELF_(shelf), KHUMSAFIL_KEY_(key));
+    khumsafil_missing missing;
+    missing.refusal = khumsafil_refusal_(answer);
+    missing.nothing_missing = (uint8_t)(answer >> 8) == 1;
+    missing.number = (uint8_t)(answer >> 16);
+    return missing;
+}
+
+/* A table of a shelf or of a file. Section n is held exactly when lengths[n], its length in bytes, is not 0. */
+typedef struct khumsafil_table {
+    khumsafil_refusal refusal;
+    khumsafil_key key;
+    uint8_t version;
+    uint8_t last;
+    uint16_t lengths[KHUMSAFIL_SECTIONS];
+} khumsafil_table;
+
+/* A table out of a raw answer and the numbers behind it, which are not looked at where it is refused. */
+static inline khumsafil_table khumsafil_table_(uint8_t answer, const uint16_t *fields) {
+    khumsafil_table table;
+    unsigned n;
+    table.refusal = khumsafil_refusal_(answer);
+    table.key = answer != 0 ? khumsafil_key_of(0, 0)
+                            : khumsafil_key_of((uint8_t)fields[KHUMSAFIL_TABLE_ID], fields[KHUMSAFIL_TABLE_EXTENSION]);
+    table.version = answer != 0 ? (uint8_t)0 : (uint8_t)fields[KHUMSAFIL_TABLE_VERSION];
+    table.last = answer != 0 ? (uint8_t)0 : (uint8_t)fields[KHUMSAFIL_TABLE_LAST];
+    for (n = 0; n < KHUMSAFIL_SECTIONS; n++)
+        table.lengths[n] = answer != 0 ? (uint16_t)0 : fields[KHUMSAFIL_TABLE_LENGTHS + n];
+    return table;
+}
+
+/* Which table is in a place, 0 to KHUMSAFIL_PLACES - 1. Refused: 18, 14 where the place is free or is none of these. */
+static inline khumsafil_table khumsafil_shelf_table(const khumsafil_shelf *shelf, uint8_t place) {
+    uint16_t fields[KHUMSAFIL_TABLE_FIELDS];
+    const uint8_t answer =
+        khumsafil_raw_shelf_table(KHUMSAFIL_SHELF_(shelf), place, fields, KHUMSAFIL_TABLE_FIELDS);
+    return khumsafil_table_(answer, fields);
+}
 
 /*
- * The lowest number of a table that is not held. Refuses by 17, 18, 14.
- *
- * words (the record), store: read, and left as they are.
- *
- * The answer's low 8 bits are the number of refusal, or 0; KHUMSAFIL_SHELF_VALUE then takes out whether one is
- * missing, and KHUMSAFIL_SHELF_NUMBER which.
+ * Whether two shelves have the same tables in the same places, with the same sections held by number and length: document
+ * 01's equality of records. What stands in the stores is not compared. A spoiled shelf is the same as none.
  */
-uint32_t khumsafil_shelf_lowest_missing(const uint16_t *words, size_t words_length, const uint8_t *store,
-                                        size_t store_length, uint8_t table, uint16_t extension);
+static inline bool khumsafil_shelf_same(const khumsafil_shelf *a, const khumsafil_shelf *b) {
+    uint8_t place;
+    for (place = 0; place < KHUMSAFIL_PLACES; place++) {
+        const khumsafil_table one = khumsafil_shelf_table(a, place), other = khumsafil_shelf_table(b, place);
+        unsigned n;
+        if (one.refusal != other.refusal || one.refusal == KHUMSAFIL_REFUSED_SHELF_SPOILED)
+            return false;
+        if (!khumsafil_key_same(one.key, other.key) || one.version != other.version || one.last != other.last)
+            return false;
+        for (n = 0; n < KHUMSAFIL_SECTIONS; n++)
+            if (one.lengths[n] != other.lengths[n])
+                return false;
+    }
+    return true;
+}
 
 /*
- * Copies a held section out. Any number may be asked. Refuses by 17, 18, 14, 16, 15.
- *
- * words (the record), store: read, and left as they are.
- * out: its first bytes become the section, and those past it stay as they were; where the call is refused all do.
- *
- * The answer's low 8 bits are the number of refusal, or 0; KHUMSAFIL_SHELF_SIZE then takes out how many bytes
- * the section is.
+ * Copies a held section to the front of out, where KHUMSAFIL_LARGEST_SECTION bytes are room for any. Refused: 18, 14, 16,
+ * 15.
  */
-uint32_t khumsafil_shelf_copy_section(const uint16_t *words, size_t words_length, const uint8_t *store,
-                                      size_t store_length, uint8_t table, uint16_t extension, uint8_t number,
-                                      uint8_t *out, size_t out_length);
+static inline khumsafil_size khumsafil_shelf_copy_section(const khumsafil_shelf *shelf, khumsafil_key key, uint8_t number,
+                                                          uint8_t *out, size_t out_length) {
+    return khumsafil_size_(khumsafil_raw_shelf_copy_section(KHUMSAFIL_SHELF_(shelf), KHUMSAFIL_KEY_(key), number, out,
+                                                            out_length));
+}
+
+/* Releases a table: its place is free, and its berths are zeros. Refused: 18, 14. */
+static inline khumsafil_done khumsafil_shelf_release(khumsafil_shelf *shelf, khumsafil_key key) {
+    return khumsafil_done_(khumsafil_raw_shelf_release(KHUMSAFIL_SHELF_(shelf), KHUMSAFIL_KEY_(key)));
+}
+
+/* Saves a held table as a file at the front of out, where KHUMSAFIL_LARGEST_FILE bytes are room for any. Refused: 18, 14,
+   15. */
+static inline khumsafil_size khumsafil_shelf_save(const khumsafil_shelf *shelf, khumsafil_key key, uint8_t *out,
+                                                  size_t out_length) {
+    return khumsafil_size_(khumsafil_raw_shelf_save(KHUMSAFIL_SHELF_(shelf), KHUMSAFIL_KEY_(key), out, out_length));
+}
+
+/* Which table a file is. Refused: the file's first fault (11, 12, 2 to 8). */
+static inline khumsafil_table khumsafil_file_table(const uint8_t *file, size_t file_length) {
+    uint16_t fields[KHUMSAFIL_TABLE_FIELDS];
+    const uint8_t answer = khumsafil_raw_file_table(file, file_length, fields, KHUMSAFIL_TABLE_FIELDS);
+    return khumsafil_table_(answer, fields);
+}
 
 /*
- * Releases a table: its place is free. Answers 0, or the number of refusal: 17, 18, 14.
- *
- * words: the record, and after the call the next one; where the call is refused left as it was.
- * store: the place's sixteen berths become 0, and all other bytes stay as they were; where the call is refused all do.
+ * Loads a file's table into the lowest free place, and answers which table it is. Refused: 18, the file's first fault (11,
+ * 12, 2 to 8), 13, 9.
  */
-uint8_t khumsafil_shelf_release(uint16_t *words, size_t words_length, uint8_t *store, size_t store_length,
-                                uint8_t table, uint16_t extension);
+static inline khumsafil_table khumsafil_shelf_load(khumsafil_shelf *shelf, const uint8_t *file, size_t file_length) {
+    const uint8_t answer = khumsafil_raw_shelf_load(KHUMSAFIL_SHELF_(shelf), file, file_length);
+    return answer != 0 ? khumsafil_table_(answer, NULL) : khumsafil_file_table(file, file_length);
+}
 
 /*
- * Saves a held table as a file. Refuses by 17, 18, 14, 15.
- *
- * words (the record), store: read, and left as they are.
- * out: its first bytes become the file, and those past it stay as they were; where the call is refused all do.
- * KHUMSAFIL_LARGEST_FILE bytes are room for every table.
- *
- * The answer's low 8 bits are the number of refusal, or 0; KHUMSAFIL_SHELF_SIZE then takes out how many bytes
- * the file is.
+ * Says in lines of text at the front of out what a file holds, or by which number it is refused. There is no zero byte
+ * behind the text; KHUMSAFIL_LARGEST_LIST bytes are room for any. Refused: 15.
  */
-uint32_t khumsafil_shelf_save(const uint16_t *words, size_t words_length, const uint8_t *store,
-                              size_t store_length, uint8_t table, uint16_t extension, uint8_t *out,
-                              size_t out_length);
+static inline khumsafil_size khumsafil_file_list(const uint8_t *file, size_t file_length, uint8_t *out,
+                                                 size_t out_length) {
+    return khumsafil_size_(khumsafil_raw_file_list(file, file_length, out, out_length));
+}
+
+/* A number of a file, and how many bytes it takes, 1 to 3. */
+typedef struct khumsafil_number {
+    khumsafil_refusal refusal;
+    uint16_t value;
+    size_t size;
+} khumsafil_number;
+
+/* The seven-bit number at the front of some bytes. Refused: 11. */
+static inline khumsafil_number khumsafil_file_number(const uint8_t *bytes, size_t bytes_length) {
+    const uint32_t answer = khumsafil_raw_file_number(bytes, bytes_length);
+    khumsafil_number number;
+    number.refusal = khumsafil_refusal_(answer);
+    number.value = (uint16_t)(answer >> 8);
+    number.size = (size_t)(answer >> 24);
+    return number;
+}
+
+/* What a step of a walk over a descriptor loop found. */
+typedef enum khumsafil_step_kind {
+    KHUMSAFIL_STEP_NOTHING = 0,    /* it was refused */
+    KHUMSAFIL_STEP_DESCRIPTOR = 1, /* the descriptor at the place asked */
+    KHUMSAFIL_STEP_OVER = 2        /* the place asked is the loop's end */
+} khumsafil_step_kind;
 
 /*
- * Loads a file's table into the lowest free place. Answers 0, or the number of refusal: 17, 18, the file's first fault
- * (11, 12, or 2 to 8 for one of a section), 13, 9.
- *
- * words: the record, and after the call the next one; where the call is refused left as it was.
- * store: the berth of each section becomes the section and then zeros, and all other bytes stay as they were; where
- * the call is refused all do.
- * file: read, and left as it is.
+ * A step. The content is the part of the loop's bytes that is the descriptor's, and no other. The place of the next step is
+ * the loop's length where the walk is over or refused, so that a walk which forgets to look ends.
  */
-uint8_t khumsafil_shelf_load(uint16_t *words, size_t words_length, uint8_t *store, size_t store_length,
-                             const uint8_t *file, size_t file_length);
+typedef struct khumsafil_step {
+    khumsafil_refusal refusal;
+    khumsafil_step_kind found;
+    uint8_t tag;
+    const uint8_t *content;
+    size_t content_length;
+    size_t next;
+} khumsafil_step;
 
-/* The most bytes of a file's list. */
-#define KHUMSAFIL_LARGEST_LIST 390
+/* What stands at a place of a descriptor loop. Any place may be asked. Refused: 19. */
+static inline khumsafil_step khumsafil_descriptor_step(const uint8_t *bytes, size_t bytes_length, size_t at) {
+    const uint64_t answer = khumsafil_raw_descriptor_step(bytes, bytes_length, at);
+    khumsafil_step step;
+    step.refusal = khumsafil_refusal_(answer);
+    step.found = (khumsafil_step_kind)((answer >> 8) & 0xFF);
+    step.tag = (uint8_t)(answer >> 16);
+    step.content = NULL;
+    step.content_length = 0;
+    step.next = bytes_length;
+    if (step.found == KHUMSAFIL_STEP_DESCRIPTOR) {
+        const size_t start = at + KHUMSAFIL_DESCRIPTOR_HEAD;
+        /* The answer has the low 40 bits of the next place, and the low 8 tell the length in a loop of any size. */
+        step.content = bytes + start;
+        step.content_length = (uint8_t)((answer >> 24) - start);
+        step.next = start + step.content_length;
+    }
+    return step;
+}
+
+/* Whether the descriptor at a place marks a trigger Tap. Where no descriptor can be read, it does not. */
+static inline bool khumsafil_descriptor_is_trigger_tap(const uint8_t *bytes, size_t bytes_length, size_t at) {
+    return khumsafil_raw_descriptor_is_trigger_tap(bytes, bytes_length, at);
+}
+
+/* Bytes of a trigger's payload, by place and length. */
+typedef struct khumsafil_part {
+    uint16_t place;
+    uint16_t length;
+} khumsafil_part;
+
+/* The kinds of target, each one more than in the raw numbers: a trigger without an explicit target was read, and is not the 0
+   of a refused one. */
+typedef enum khumsafil_target_kind {
+    KHUMSAFIL_TARGET_NOT_READ = 0, /* the trigger was refused */
+    KHUMSAFIL_TARGET_NONE = 1,     /* no explicit target */
+    KHUMSAFIL_TARGET_MODULE = 2,
+    KHUMSAFIL_TARGET_TAP = 3,
+    KHUMSAFIL_TARGET_ABSOLUTE_URI = 4,
+    KHUMSAFIL_TARGET_LID_URI = 5,
+    KHUMSAFIL_TARGET_HTTP_URI = 6,
+    KHUMSAFIL_TARGET_RESERVED = 7 /* a type that A/93 keeps for later */
+} khumsafil_target_kind;
+
+/* What a trigger is aimed at. A member that its kind has no use for is 0. */
+typedef struct khumsafil_target {
+    khumsafil_target_kind kind;
+    uint8_t type;         /* as read; 0 where there is no explicit target */
+    uint16_t download;    /* of a module */
+    uint16_t group;       /* of a module */
+    uint16_t module;      /* of a module */
+    uint16_t tap;         /* of a tap */
+    khumsafil_part bytes; /* of a URI and of a reserved type */
+} khumsafil_target;
+
+/* What a trigger says. */
+typedef struct khumsafil_trigger {
+    khumsafil_refusal refusal;
+    uint16_t id_length;   /* of the application id as read; 0: for every application */
+    uint16_t description; /* 0 where that length is 0 */
+    khumsafil_part id;
+    khumsafil_target target;
+    khumsafil_part user;
+    uint16_t fields[KHUMSAFIL_TRIGGER_FIELDS]; /* all of this as the raw reading gave it, for khumsafil_trigger_belongs */
+} khumsafil_trigger;
+
+static inline khumsafil_part khumsafil_part_(uint16_t place, uint16_t length) {
+    khumsafil_part part;
+    part.place = place;
+    part.length = length;
+    return part;
+}
+
+/* A target out of a trigger's numbers. */
+static inline khumsafil_target khumsafil_target_(const uint16_t *fields) {
+    const uint16_t first = fields[KHUMSAFIL_TRIGGER_FIRST], second = fields[KHUMSAFIL_TRIGGER_SECOND];
+    khumsafil_target target;
+    target.kind = (khumsafil_target_kind)(fields[KHUMSAFIL_TRIGGER_KIND] + 1);
+    target.type = (uint8_t)fields[KHUMSAFIL_TRIGGER_TYPE];
+    target.download = target.group = target.module = target.tap = 0;
+    target.bytes = khumsafil_part_(0, 0);
+    if (target.kind == KHUMSAFIL_TARGET_MODULE) {
+        target.download = first;
+        target.group = second;
+        target.module = fields[KHUMSAFIL_TRIGGER_THIRD];
+    } else if (target.kind == KHUMSAFIL_TARGET_TAP) {
+        target.tap = first;
+    } else if (target.kind != KHUMSAFIL_TARGET_NONE) {
+        target.bytes = khumsafil_part_(first, second);
+    }
+    return target;
+}
+
+/* Reads the payload as a trigger. Refused: 26, then field by field 20 to 25. */
+static inline khumsafil_trigger khumsafil_trigger_read(const uint8_t *payload, size_t payload_length) {
+    khumsafil_trigger trigger;
+    unsigned n;
+    for (n = 0; n < KHUMSAFIL_TRIGGER_FIELDS; n++)
+        trigger.fields[n] = 0;
+    trigger.refusal = khumsafil_refusal_(
+        khumsafil_raw_trigger_read(payload, payload_length, trigger.fields, KHUMSAFIL_TRIGGER_FIELDS));
+    trigger.id_length = trigger.fields[KHUMSAFIL_TRIGGER_ID_LENGTH];
+    trigger.description = trigger.fields[KHUMSAFIL_TRIGGER_DESCRIPTION];
+    trigger.id = khumsafil_part_(trigger.fields[KHUMSAFIL_TRIGGER_ID_PLACE], trigger.fields[KHUMSAFIL_TRIGGER_ID_BYTES]);
+    trigger.target = khumsafil_target_(trigger.fields);
+    if (trigger.refusal)
+        trigger.target.kind = KHUMSAFIL_TARGET_NOT_READ;
+    trigger.user =
+        khumsafil_part_(trigger.fields[KHUMSAFIL_TRIGGER_USER_PLACE], trigger.fields[KHUMSAFIL_TRIGGER_USER_BYTES]);
+    return trigger;
+}
 
 /*
- * Says in lines of text what a file holds; of one that is refused, by which number. Refuses by 15 alone.
- *
- * file: read, and left as it is.
- * out: its first bytes become the text, with no zero byte behind it, and those past it stay as they were; where the call
- * is refused all do.
- *
- * The answer's low 8 bits are 15, or 0; KHUMSAFIL_SHELF_SIZE then takes out how many bytes the text is.
+ * Whether a trigger belongs to the application with an id, which may be empty. The trigger is as the reading gave it, and
+ * the payload what it was read from. A refused trigger belongs to none.
  */
-uint32_t khumsafil_file_list(const uint8_t *file, size_t file_length, uint8_t *out, size_t out_length);
+static inline bool khumsafil_trigger_belongs(const uint8_t *payload, size_t payload_length,
+                                             const khumsafil_trigger *trigger, const uint8_t *application,
+                                             size_t application_length) {
+    return !trigger->refusal && khumsafil_raw_trigger_belongs(payload, payload_length, trigger->fields,
+                                                              KHUMSAFIL_TRIGGER_FIELDS, application,
+                                                              application_length);
+}
 
-#define KHUMSAFIL_SHELF_REFUSAL(answer) ((uint8_t)(answer))
-#define KHUMSAFIL_SHELF_VALUE(answer) ((uint8_t)((answer) >> 8))
-#define KHUMSAFIL_SHELF_NUMBER(answer) ((uint8_t)((answer) >> 16))
-#define KHUMSAFIL_SHELF_SIZE(answer) ((size_t)((answer) >> 8))
+/* A clock. Before all else it is made fresh. */
+typedef struct khumsafil_clock {
+    uint32_t record[KHUMSAFIL_CLOCK_RECORD];
+} khumsafil_clock;
 
-/* The bytes of a descriptor before its content: a tag and a length. */
-#define KHUMSAFIL_DESCRIPTOR_HEAD 2
+/* The actions on an application. */
+typedef enum khumsafil_action {
+    KHUMSAFIL_ACTION_PREP = 0,
+    KHUMSAFIL_ACTION_EXEC = 1,
+    KHUMSAFIL_ACTION_SUSP = 2,
+    KHUMSAFIL_ACTION_KILL = 3
+} khumsafil_action;
 
-/* What a step found. */
-#define KHUMSAFIL_STEP_DESCRIPTOR 1
-#define KHUMSAFIL_STEP_OVER 2
+/* An action on an application at a media time in milliseconds. */
+typedef struct khumsafil_activation {
+    uint8_t application; /* 0 to 7 */
+    uint16_t event;
+    khumsafil_action action;
+    uint32_t time;
+} khumsafil_activation;
 
-/*
- * What stands at a place of a descriptor loop. Any place may be asked. Refuses by 19.
- *
- * bytes: the loop; read, and left as it is.
- *
- * The answer's low 8 bits are the number of refusal, or 0. Of a refused step all other bits are 0. Of any other
- * the macros below take out what was found and, of a descriptor, its tag and the place of the next step. Its content
- * starts KHUMSAFIL_DESCRIPTOR_HEAD behind the place asked and ends at that next place. The answer has 40 bits for it: in
- * a loop of 2^40 bytes or more the next place is the content's start and the length, which is right in every loop.
- */
-uint64_t khumsafil_descriptor_step(const uint8_t *bytes, size_t bytes_length, size_t at);
-
-#define KHUMSAFIL_STEP_REFUSAL(answer) ((uint8_t)(answer))
-#define KHUMSAFIL_STEP_FOUND(answer) ((uint8_t)((answer) >> 8))
-#define KHUMSAFIL_STEP_TAG(answer) ((uint8_t)((answer) >> 16))
-#define KHUMSAFIL_STEP_NEXT(answer) ((size_t)((answer) >> 24))
-#define KHUMSAFIL_STEP_LENGTH(answer, at) ((uint8_t)(((answer) >> 24) - (at) - KHUMSAFIL_DESCRIPTOR_HEAD))
-
-/*
- * Whether the descriptor at a place marks a trigger Tap. Where no descriptor can be read, it does not.
- *
- * bytes: the loop; read, and left as it is.
- */
-bool khumsafil_descriptor_is_trigger_tap(const uint8_t *bytes, size_t bytes_length, size_t at);
-
-/* How many numbers a trigger is answered in, and which they are. */
-#define KHUMSAFIL_TRIGGER_FIELDS 11
-#define KHUMSAFIL_TRIGGER_ID_LENGTH 0   /* the application id's length as read; 0: for every application */
-#define KHUMSAFIL_TRIGGER_DESCRIPTION 1 /* 0 where that length is 0 */
-#define KHUMSAFIL_TRIGGER_ID_PLACE 2    /* where the id lies in the payload */
-#define KHUMSAFIL_TRIGGER_ID_BYTES 3    /* and how many bytes it is */
-#define KHUMSAFIL_TRIGGER_KIND 4        /* the kind of target, below */
-#define KHUMSAFIL_TRIGGER_TYPE 5        /* its type; 0 where there is no explicit target */
-#define KHUMSAFIL_TRIGGER_FIRST 6       /* download; tap; place of the target's bytes */
-#define KHUMSAFIL_TRIGGER_SECOND 7      /* group; number of the target's bytes */
-#define KHUMSAFIL_TRIGGER_THIRD 8       /* module */
-#define KHUMSAFIL_TRIGGER_USER_PLACE 9  /* where the user data lies in the payload */
-#define KHUMSAFIL_TRIGGER_USER_BYTES 10 /* and how many bytes it is */
-
-/* The kinds of target. A field that a kind has no use for is 0. */
-#define KHUMSAFIL_TARGET_NONE 0
-#define KHUMSAFIL_TARGET_MODULE 1
-#define KHUMSAFIL_TARGET_TAP 2
-#define KHUMSAFIL_TARGET_ABSOLUTE_URI 3
-#define KHUMSAFIL_TARGET_LID_URI 4
-#define KHUMSAFIL_TARGET_HTTP_URI 5
-#define KHUMSAFIL_TARGET_RESERVED 6
-
-/* The most bytes of a trigger. */
-#define KHUMSAFIL_LARGEST_TRIGGER 4096
-
-/*
- * Reads the payload as a trigger. Answers 0, or the number of refusal: 26, then field by field 20 to 25, and then
- * 15 where there is room for fewer than KHUMSAFIL_TRIGGER_FIELDS numbers.
- *
- * payload: read, and left as it is.
- * fields: where the answer is 0, the first KHUMSAFIL_TRIGGER_FIELDS are the trigger's numbers, and those past
- * them stay as they were. Where it is not, all stay as they were.
- */
-uint8_t khumsafil_trigger_read(const uint8_t *payload, size_t payload_length, uint16_t *fields, size_t fields_length);
-
-/*
- * Whether a trigger belongs to the application with an id: by the trigger's id length as read, and by the place
- * and the number of its id's bytes. Any numbers may be given: a trigger whose id length is 0 is every
- * application's, and an id that does not lie in the payload is none's.
- *
- * payload: what the trigger was read from; read, and left as it is.
- * application: the application's id, which may be empty; read, and left as it is.
- */
-bool khumsafil_trigger_belongs(const uint8_t *payload, size_t payload_length, uint16_t idlength, uint16_t place,
-                               uint16_t size, const uint8_t *application, size_t application_length);
-
-/*
- * A clock record is lent as this many words. Any other number of them is refused by 35.
- *
- *   word 0                the clock's time
- *   word 1                the states, two bits each: application i has bits 2i and 2i + 1
- *   word 2                how many activations are held
- *   words 3 + 2i, 4 + 2i  place i: the time, and then from bit 0 the event, from bit 16 the application, from
- *                         bit 24 the action, at bit 26 whether it was applied
- *
- * All other bits, and places past those held, are disregarded, and are 0 after a call that wrote the words. So
- * every value of the words is some record; a spoiled one is refused by 35. Promises over a history presume that
- * the host lends the words back as they were left.
- */
-#define KHUMSAFIL_CLOCK_WORDS 67
-
-/* Actions. */
-#define KHUMSAFIL_ACTION_PREP 0
-#define KHUMSAFIL_ACTION_EXEC 1
-#define KHUMSAFIL_ACTION_SUSP 2
-#define KHUMSAFIL_ACTION_KILL 3
-
-/* The states of an application. */
-#define KHUMSAFIL_STATE_RELEASED 0
-#define KHUMSAFIL_STATE_READY 1
-#define KHUMSAFIL_STATE_ACTIVE 2
-#define KHUMSAFIL_STATE_SUSPENDED 3
+/* Makes it a clock at 0, whatever stood there, with every application Released and nothing held. Never refused. */
+static inline khumsafil_done khumsafil_clock_fresh(khumsafil_clock *clock) {
+    return khumsafil_done_(khumsafil_raw_clock_fresh(KHUMSAFIL_CLOCK_(clock)));
+}
 
 /* What became of an activation. */
-#define KHUMSAFIL_HEARD_APPLIED 1
-#define KHUMSAFIL_HEARD_WAITING 2
+typedef enum khumsafil_heard_kind {
+    KHUMSAFIL_HEARD_NOTHING = 0, /* it was refused */
+    KHUMSAFIL_HEARD_APPLIED = 1, /* it was applied on arrival */
+    KHUMSAFIL_HEARD_WAITING = 2  /* it waits for the clock */
+} khumsafil_heard_kind;
 
-/*
- * Makes the words a clock at 0 with every application Released and nothing held. Answers 0, or 35.
- *
- * words: written whole, whatever stood there; where the answer is 35 left as they were.
- */
-uint8_t khumsafil_clock_fresh(uint32_t *words, size_t words_length);
+typedef struct khumsafil_heard {
+    khumsafil_refusal refusal;
+    khumsafil_heard_kind heard;
+} khumsafil_heard;
 
-/*
- * Offers an activation. Refuses by 255 an action above 3, then by 35, 30, 32, 33 and 34.
- *
- * words: the record, and after the call the next one; where the call is refused left as they were.
- *
- * The answer's low 8 bits are the number of refusal, or 0; KHUMSAFIL_CLOCK_VALUE then takes out what became
- * of the activation.
- */
-uint16_t khumsafil_clock_offer(uint32_t *words, size_t words_length, uint8_t application, uint16_t event,
-                               uint8_t action, uint32_t time);
-
-/*
- * Moves the clock. Refuses by 35 and 31.
- *
- * words: the record, and after the call the next one; where the call is refused left as they were.
- *
- * The answer's low 8 bits are the number of refusal, or 0; KHUMSAFIL_CLOCK_VALUE then takes out how many
- * waiting activations the move applied, at most 32.
- */
-uint16_t khumsafil_clock_move(uint32_t *words, size_t words_length, uint32_t to);
-
-/*
- * The clock's time. Refuses by 35.
- *
- * words: the record; read, and left as it is.
- *
- * The answer's low 8 bits are the number of refusal, or 0. KHUMSAFIL_CLOCK_TIME takes the time out.
- */
-uint64_t khumsafil_clock_time(const uint32_t *words, size_t words_length);
-
-/*
- * The state of an application. Refuses by 35 and 30.
- *
- * words: the record; read, and left as it is.
- *
- * The answer's low 8 bits are the number of refusal, or 0. KHUMSAFIL_CLOCK_VALUE takes the state out.
- */
-uint16_t khumsafil_application_state(const uint32_t *words, size_t words_length, uint8_t application);
-
-#define KHUMSAFIL_CLOCK_REFUSAL(answer) ((uint8_t)(answer))
-#define KHUMSAFIL_CLOCK_VALUE(answer) ((uint8_t)((answer) >> 8))
-#define KHUMSAFIL_CLOCK_TIME(answer) ((uint32_t)((answer) >> 32))
-
-/* The most bytes of a body that a table carries: 16 bodies of 1,016. */
-#define KHUMSAFIL_LARGEST_BODY 16256
-
-/*
- * How many sections a body of so many bytes makes, 1 to 16: as few as will do. Refuses by 40.
- *
- * The answer's low 8 bits are the number of refusal, or 0. KHUMSAFIL_WRITER_SECTIONS takes the count out of any other.
- */
-uint16_t khumsafil_writer_count(size_t length);
-
-/*
- * Writes section k, from 0 on, of the table that carries the body: each section's body full but the last. Refuses by 40,
- * 41, 42, 15.
- *
- * body: read, and left as it is.
- * out: its first bytes become the section, and those past it stay as they were; where the call is refused all do.
- * KHUMSAFIL_LARGEST_SECTION bytes are room for every section.
- *
- * The answer's low 8 bits are the number of refusal, or 0; KHUMSAFIL_WRITER_SIZE then takes out how many bytes the
- * section is.
- */
-uint32_t khumsafil_writer_section(uint8_t table, uint16_t extension, uint8_t version, const uint8_t *body,
-                                  size_t body_length, uint8_t k, uint8_t *out, size_t out_length);
-
-/*
- * Writes the file of the table that carries the body, with all its sections. Refuses by 40, 41, 15.
- *
- * body: read, and left as it is.
- * out: its first bytes become the file, and those past it stay as they were; where the call is refused all do.
- * KHUMSAFIL_LARGEST_FILE bytes are room for every file.
- *
- * The answer's low 8 bits are the number of refusal, or 0; KHUMSAFIL_WRITER_SIZE then takes out how many bytes the
- * file is.
- */
-uint32_t khumsafil_writer_file(uint8_t table, uint16_t extension, uint8_t version, const uint8_t *body,
-                               size_t body_length, uint8_t *out, size_t out_length);
-
-#define KHUMSAFIL_WRITER_REFUSAL(answer) ((uint8_t)(answer))
-#define KHUMSAFIL_WRITER_SECTIONS(answer) ((uint8_t)((answer) >> 8))
-#define KHUMSAFIL_WRITER_SIZE(answer) ((size_t)((answer) >> 8))
-
-#ifdef __cplusplus
+/* Offers an activation. Refused: 255 where the action is none of the four, then 35, 30, 32, 33, 34. */
+static inline khumsafil_heard khumsafil_clock_offer(khumsafil_clock *clock, khumsafil_activation activation) {
+    /* An action that 8 bits cannot hold is none either, and must not become one by losing the rest. */
+    const uint8_t action = (unsigned)activation.action > 0xFF ? (uint8_t)0xFF : (uint8_t)activation.action;
+    const uint16_t answer = khumsafil_raw_clock_offer(KHUMSAFIL_CLOCK_(clock), activation.application, activation.event,
+                                                      action, activation.time);
+    khumsafil_heard heard;
+    heard.refusal = khumsafil_refusal_(answer);
+    heard.heard = (khumsafil_heard_kind)(answer >> 8);
+    return heard;
 }
-#endif
+
+/* How many waiting activations a move applied, at most 32. */
+typedef struct khumsafil_moved {
+    khumsafil_refusal refusal;
+    uint8_t applied;
+} khumsafil_moved;
+
+/* Moves the clock. Refused: 35, 31. */
+static inline khumsafil_moved khumsafil_clock_move(khumsafil_clock *clock, uint32_t to) {
+    const uint16_t answer = khumsafil_raw_clock_move(KHUMSAFIL_CLOCK_(clock), to);
+    khumsafil_moved moved;
+    moved.refusal = khumsafil_refusal_(answer);
+    moved.applied = (uint8_t)(answer >> 8);
+    return moved;
+}
+
+typedef struct khumsafil_time {
+    khumsafil_refusal refusal;
+    uint32_t time;
+} khumsafil_time;
+
+/* The clock's time. Refused: 35. */
+static inline khumsafil_time khumsafil_clock_time(const khumsafil_clock *clock) {
+    const uint64_t answer = khumsafil_raw_clock_time(KHUMSAFIL_CLOCK_(clock));
+    khumsafil_time time;
+    time.refusal = khumsafil_refusal_(answer);
+    time.time = (uint32_t)(answer >> 32);
+    return time;
+}
+
+/* The states of an application, each one more than in the raw answer: Released is not 0, so that the 0 of a refused answer
+   is no state. */
+typedef enum khumsafil_state_kind {
+    KHUMSAFIL_STATE_NOT_KNOWN = 0, /* the question was refused */
+    KHUMSAFIL_STATE_RELEASED = 1,
+    KHUMSAFIL_STATE_READY = 2,
+    KHUMSAFIL_STATE_ACTIVE = 3,
+    KHUMSAFIL_STATE_SUSPENDED = 4
+} khumsafil_state_kind;
+
+typedef struct khumsafil_state {
+    khumsafil_refusal refusal;
+    khumsafil_state_kind state;
+} khumsafil_state;
+
+/* The state of an application. Refused: 35, 30. */
+static inline khumsafil_state khumsafil_clock_state(const khumsafil_clock *clock, uint8_t application) {
+    const uint16_t answer = khumsafil_raw_clock_state(KHUMSAFIL_CLOCK_(clock), application);
+    khumsafil_state state;
+    state.refusal = khumsafil_refusal_(answer);
+    state.state = state.refusal ? KHUMSAFIL_STATE_NOT_KNOWN : (khumsafil_state_kind)((answer >> 8) + 1);
+    return state;
+}
+
+/*
+ * Whether two clocks have the same time, the same states and the same activations, in any order: document 01's equality of
+ * records. A spoiled clock is the same as none.
+ */
+static inline bool khumsafil_clock_same(const khumsafil_clock *a, const khumsafil_clock *b) {
+    uint32_t i, j;
+    if (khumsafil_clock_time(a).refusal || khumsafil_clock_time(b).refusal)
+        return false;
+    if (a->record[0] != b->record[0] || ((a->record[1] ^ b->record[1]) & 0xFFFF) != 0 || a->record[2] != b->record[2])
+        return false;
+    /* No two of a clock are alike, so as many that are all found are the same set. The low 27 bits are an activation's. */
+    for (i = 0; i < a->record[2]; i++) {
+        for (j = 0; j < b->record[2]; j++)
+            if (a->record[3 + 2 * i] == b->record[3 + 2 * j] &&
+                ((a->record[4 + 2 * i] ^ b->record[4 + 2 * j]) & 0x07FFFFFF) == 0)
+                break;
+        if (j == b->record[2])
+            return false;
+    }
+    return true;
+}
+
+/* What every section of a table has. */
+typedef struct khumsafil_label {
+    khumsafil_key key;
+    uint8_t version; /* at most 31 */
+} khumsafil_label;
+
+static inline khumsafil_label khumsafil_label_of(khumsafil_key key, uint8_t version) {
+    khumsafil_label label;
+    label.key = key;
+    label.version = version;
+    return label;
+}
+
+typedef struct khumsafil_count {
+    khumsafil_refusal refusal;
+    uint8_t sections;
+} khumsafil_count;
+
+/* How many sections a body of so many bytes makes, 1 to 16: as few as will do. Refused: 40. */
+static inline khumsafil_count khumsafil_writer_count(size_t length) {
+    const uint16_t answer = khumsafil_raw_writer_count(length);
+    khumsafil_count count;
+    count.refusal = khumsafil_refusal_(answer);
+    count.sections = (uint8_t)(answer >> 8);
+    return count;
+}
+
+/*
+ * Writes section k, from 0 on, of the table that carries the body, at the front of out, where KHUMSAFIL_LARGEST_SECTION
+ * bytes are room for any. Refused: 40, 41, 42, 15.
+ */
+static inline khumsafil_size khumsafil_writer_section(khumsafil_label label, const uint8_t *body, size_t body_length,
+                                                      uint8_t k, uint8_t *out, size_t out_length) {
+    return khumsafil_size_(khumsafil_raw_writer_section(KHUMSAFIL_KEY_(label.key), label.version, body, body_length, k,
+                                                        out, out_length));
+}
+
+/*
+ * Writes the file of the table that carries the body, with all its sections, at the front of out, where
+ * KHUMSAFIL_LARGEST_FILE bytes are room for any. Refused: 40, 41, 15.
+ */
+static inline khumsafil_size khumsafil_writer_file(khumsafil_label label, const uint8_t *body, size_t body_length,
+                                                   uint8_t *out, size_t out_length) {
+    return khumsafil_size_(
+        khumsafil_raw_writer_file(KHUMSAFIL_KEY_(label.key), label.version, body, body_length, out, out_length));
+}
+
+#undef KHUMSAFIL_KEY_
+#undef KHUMSAFIL_SHELF_
+#undef KHUMSAFIL_CLOCK_
 
 #endif

@@ -10,40 +10,47 @@ static const uint8_t second[] = {0xC9, 0x70, 0x09, 0x12, 0x34, 0xC7, 0x02, 0x02,
 static const uint8_t third[] = {0xC9, 0x70, 0x05, 0x12, 0x34, 0xC7, 0x01, 0x02};
 
 /* What the host lends: all that a shelf is. */
-static uint16_t record[KHUMSAFIL_SHELF_RECORD];
-static uint8_t store[KHUMSAFIL_STORE];
+static khumsafil_shelf shelf;
 
-/* Offers a datagram, and says what it did and whether the list is whole. */
-static int offer(const uint8_t *payload, size_t length) {
+/* Says by which number a call was refused, and why. */
+static int refused(khumsafil_refusal refusal) {
+    printf("refused %u: %s\n", (unsigned)refusal, khumsafil_refusal_text(refusal));
+    return 1;
+}
+
+/* Offers a datagram, and says what it did and which section is missing. */
+static int offer(const uint8_t *payload, size_t length, khumsafil_key key) {
     static const char *const did[] = {"", "began", "began again", "added", "a repeat"};
-    uint16_t answer = khumsafil_shelf_offer(record, KHUMSAFIL_SHELF_RECORD, store, sizeof store, payload, length);
-    uint32_t missing;
-    if (KHUMSAFIL_SHELF_REFUSAL(answer) != 0)
-        return printf("refused %u\n", (unsigned)KHUMSAFIL_SHELF_REFUSAL(answer)), 1;
-    missing = khumsafil_shelf_lowest_missing(record, KHUMSAFIL_SHELF_RECORD, store, sizeof store, 201, 4660);
-    printf("%s: ", did[KHUMSAFIL_SHELF_VALUE(answer)]);
-    if (KHUMSAFIL_SHELF_VALUE(missing) == KHUMSAFIL_SHELF_MISSING)
-        printf("section %u is missing\n", (unsigned)KHUMSAFIL_SHELF_NUMBER(missing));
-    else
+    const khumsafil_offered offered = khumsafil_shelf_offer(&shelf, payload, length);
+    khumsafil_missing missing;
+    if (offered.refusal)
+        return refused(offered.refusal);
+    missing = khumsafil_shelf_lowest_missing(&shelf, key);
+    if (missing.refusal)
+        return refused(missing.refusal);
+    printf("%s: ", did[offered.accepted]);
+    if (missing.nothing_missing)
         printf("nothing is missing\n");
+    else
+        printf("section %u is missing\n", (unsigned)missing.number);
     return 0;
 }
 
 int main(void) {
     static uint8_t file[KHUMSAFIL_LARGEST_FILE], text[KHUMSAFIL_LARGEST_LIST];
-    uint16_t whole;
-    uint32_t saved, listed;
-    if (khumsafil_shelf_begin(record, KHUMSAFIL_SHELF_RECORD, store, sizeof store) != 0)
+    const khumsafil_key key = khumsafil_key_of(201, 4660);
+    const khumsafil_done begun = khumsafil_shelf_begin(&shelf);
+    khumsafil_size saved, listed;
+    if (begun.refusal)
+        return refused(begun.refusal);
+    if (offer(first, sizeof first, key) || offer(second, sizeof second, key) || offer(third, sizeof third, key))
         return 1;
-    if (offer(first, sizeof first) || offer(second, sizeof second) || offer(third, sizeof third))
-        return 1;
-    whole = khumsafil_shelf_complete(record, KHUMSAFIL_SHELF_RECORD, store, sizeof store, 201, 4660);
-    printf("the list is %s\n", KHUMSAFIL_SHELF_VALUE(whole) == KHUMSAFIL_SHELF_COMPLETE ? "whole" : "not whole");
-    saved = khumsafil_shelf_save(record, KHUMSAFIL_SHELF_RECORD, store, sizeof store, 201, 4660, file, sizeof file);
-    if (KHUMSAFIL_SHELF_REFUSAL(saved) != 0)
-        return 1;
-    printf("saved in %zu bytes:\n", KHUMSAFIL_SHELF_SIZE(saved));
-    listed = khumsafil_file_list(file, KHUMSAFIL_SHELF_SIZE(saved), text, sizeof text);
-    fwrite(text, 1, KHUMSAFIL_SHELF_SIZE(listed), stdout);
+    printf("the list is %s\n", khumsafil_shelf_is_complete(&shelf, key) ? "whole" : "not whole");
+    saved = khumsafil_shelf_save(&shelf, key, file, sizeof file);
+    if (saved.refusal)
+        return refused(saved.refusal);
+    printf("saved in %lu bytes:\n", (unsigned long)saved.size);
+    listed = khumsafil_file_list(file, saved.size, text, sizeof text);
+    fwrite(text, 1, listed.size, stdout);
     return 0;
 }

@@ -3,16 +3,16 @@
 #include <string.h>
 #include <ucontext.h>
 
-#include "khumsafil.h"
+#include "khumsafil_raw.h"
 
 #define SHELF record, KHUMSAFIL_SHELF_RECORD, store, sizeof store
-#define CLOCK words, KHUMSAFIL_CLOCK_WORDS
+#define CLOCK clock_record, KHUMSAFIL_CLOCK_RECORD
 #define KEY 201, 4660
 
-static uint16_t record[KHUMSAFIL_SHELF_RECORD], fields[KHUMSAFIL_TRIGGER_FIELDS];
+static uint16_t record[KHUMSAFIL_SHELF_RECORD], fields[KHUMSAFIL_TRIGGER_FIELDS], table[KHUMSAFIL_TABLE_FIELDS];
 static uint8_t store[KHUMSAFIL_STORE], section[KHUMSAFIL_LARGEST_SECTION], file[KHUMSAFIL_LARGEST_FILE],
     out[KHUMSAFIL_LARGEST_FILE];
-static uint32_t words[KHUMSAFIL_CLOCK_WORDS];
+static uint32_t clock_record[KHUMSAFIL_CLOCK_RECORD];
 static const uint8_t trigger[] = {0, 0, 4, 0, 1, 0x41, 0x42, 5, 0, 2, 'h', 't', 0, 1, 7};
 static volatile uint64_t answer;
 
@@ -21,81 +21,96 @@ static void make_section(uint8_t version, uint8_t number, uint8_t last) {
     memcpy(section, head, sizeof head);
 }
 
-/* The largest table on a shelf, its file, and a clock with 32 waiting. */
+/* The largest table on a shelf, its file, a clock with 32 waiting, and a trigger's numbers. */
 static void prepare(void) {
     uint8_t i;
-    khumsafil_shelf_begin(SHELF);
+    khumsafil_raw_shelf_begin(SHELF);
     for (i = 0; i < 16; i++) {
         make_section(3, i, 15);
-        khumsafil_shelf_offer(SHELF, section, sizeof section);
+        khumsafil_raw_shelf_offer(SHELF, section, sizeof section);
     }
-    khumsafil_shelf_save(SHELF, KEY, file, sizeof file);
-    khumsafil_clock_fresh(CLOCK);
+    khumsafil_raw_shelf_save(SHELF, KEY, file, sizeof file);
+    khumsafil_raw_clock_fresh(CLOCK);
     for (i = 0; i < 32; i++)
-        khumsafil_clock_offer(CLOCK, i % 8, i, i % 4, 100u - i);
+        khumsafil_raw_clock_offer(CLOCK, i % 8, i, i % 4, 100u - i);
+    khumsafil_raw_trigger_read(trigger, sizeof trigger, fields, KHUMSAFIL_TRIGGER_FIELDS);
 }
 
+static void version(void) { answer = (uint64_t)khumsafil_raw_version() << 8; }
 static void nothing(void) { answer = 0; }
-static void section_read(void) { answer = khumsafil_section_read(section, sizeof section); }
-static void shelf_begin(void) { answer = khumsafil_shelf_begin(SHELF); }
-static void offer_repeat(void) { answer = khumsafil_shelf_offer(SHELF, section, sizeof section); }
+static void section_read(void) { answer = khumsafil_raw_section_read(section, sizeof section); }
+static void shelf_begin(void) { answer = khumsafil_raw_shelf_begin(SHELF); }
+static void offer_repeat(void) { answer = khumsafil_raw_shelf_offer(SHELF, section, sizeof section); }
 static void offer_again(void) {
     make_section(4, 2, 15);
-    answer = khumsafil_shelf_offer(SHELF, section, sizeof section);
+    answer = khumsafil_raw_shelf_offer(SHELF, section, sizeof section);
 }
 static void offer_added(void) {
     record[80] &= 0x7FFF;
-    answer = khumsafil_shelf_offer(SHELF, section, sizeof section);
+    answer = khumsafil_raw_shelf_offer(SHELF, section, sizeof section);
 }
-static void complete(void) { answer = khumsafil_shelf_complete(SHELF, KEY); }
-static void lowest_missing(void) { answer = khumsafil_shelf_lowest_missing(SHELF, KEY); }
-static void copy_section(void) { answer = khumsafil_shelf_copy_section(SHELF, KEY, 15, out, sizeof out); }
-static void release(void) { answer = khumsafil_shelf_release(SHELF, KEY); }
-static void save(void) { answer = khumsafil_shelf_save(SHELF, KEY, out, sizeof out); }
+static void is_complete(void) { answer = khumsafil_raw_shelf_is_complete(SHELF, KEY); }
+static void complete(void) { answer = khumsafil_raw_shelf_complete(SHELF, KEY); }
+static void lowest_missing(void) { answer = khumsafil_raw_shelf_lowest_missing(SHELF, KEY); }
+static void shelf_table(void) { answer = khumsafil_raw_shelf_table(SHELF, 0, table, KHUMSAFIL_TABLE_FIELDS); }
+static void copy_section(void) { answer = khumsafil_raw_shelf_copy_section(SHELF, KEY, 15, out, sizeof out); }
+static void release(void) { answer = khumsafil_raw_shelf_release(SHELF, KEY); }
+static void save(void) { answer = khumsafil_raw_shelf_save(SHELF, KEY, out, sizeof out); }
 static void load(void) {
     record[64] = 0;
-    answer = khumsafil_shelf_load(SHELF, file, sizeof file);
+    answer = khumsafil_raw_shelf_load(SHELF, file, sizeof file);
 }
-static void list(void) { answer = khumsafil_file_list(file, sizeof file, out, sizeof out); }
-static void step(void) { answer = khumsafil_descriptor_step(trigger, sizeof trigger, 0); }
-static void is_tap(void) { answer = khumsafil_descriptor_is_trigger_tap(trigger, sizeof trigger, 0); }
+static void file_table(void) {
+    answer = khumsafil_raw_file_table(file, sizeof file, table, KHUMSAFIL_TABLE_FIELDS);
+}
+static void file_number(void) { answer = khumsafil_raw_file_number(file + 2, 3); }
+static void list(void) { answer = khumsafil_raw_file_list(file, sizeof file, out, sizeof out); }
+static void step(void) { answer = khumsafil_raw_descriptor_step(trigger, sizeof trigger, 0); }
+static void is_tap(void) { answer = khumsafil_raw_descriptor_is_trigger_tap(trigger, sizeof trigger, 0); }
 static void trigger_read(void) {
-    answer = khumsafil_trigger_read(trigger, sizeof trigger, fields, KHUMSAFIL_TRIGGER_FIELDS);
+    answer = khumsafil_raw_trigger_read(trigger, sizeof trigger, fields, KHUMSAFIL_TRIGGER_FIELDS);
 }
-static void belongs(void) { answer = khumsafil_trigger_belongs(trigger, sizeof trigger, 4, 5, 2, trigger + 5, 2); }
-static void fresh(void) { answer = khumsafil_clock_fresh(CLOCK); }
+static void belongs(void) {
+    answer = khumsafil_raw_trigger_belongs(trigger, sizeof trigger, fields, KHUMSAFIL_TRIGGER_FIELDS, trigger + 5, 2);
+}
+static void fresh(void) { answer = khumsafil_raw_clock_fresh(CLOCK); }
 static void clock_offer(void) {
-    words[2] = 31;
-    answer = khumsafil_clock_offer(CLOCK, 7, 99, 1, 50);
+    clock_record[2] = 31;
+    answer = khumsafil_raw_clock_offer(CLOCK, 7, 99, 1, 50);
 }
-static void move(void) { answer = khumsafil_clock_move(CLOCK, 1000); }
-static void clock_time(void) { answer = khumsafil_clock_time(CLOCK); }
-static void state(void) { answer = khumsafil_application_state(CLOCK, 3); }
+static void move(void) { answer = khumsafil_raw_clock_move(CLOCK, 1000); }
+static void clock_time(void) { answer = khumsafil_raw_clock_time(CLOCK); }
+static void state(void) { answer = khumsafil_raw_clock_state(CLOCK, 3); }
 
 static const struct {
     const char *name;
     void (*call)(void);
-} calls[] = {{"khumsafil_section_read", section_read},
-             {"khumsafil_shelf_begin", shelf_begin},
-             {"khumsafil_shelf_offer, a repeat", offer_repeat},
-             {"khumsafil_shelf_offer, begun again", offer_again},
-             {"khumsafil_shelf_offer, added", offer_added},
-             {"khumsafil_shelf_complete", complete},
-             {"khumsafil_shelf_lowest_missing", lowest_missing},
-             {"khumsafil_shelf_copy_section", copy_section},
-             {"khumsafil_shelf_release", release},
-             {"khumsafil_shelf_save", save},
-             {"khumsafil_shelf_load", load},
-             {"khumsafil_file_list", list},
-             {"khumsafil_descriptor_step", step},
-             {"khumsafil_descriptor_is_trigger_tap", is_tap},
-             {"khumsafil_trigger_read", trigger_read},
-             {"khumsafil_trigger_belongs", belongs},
-             {"khumsafil_clock_fresh", fresh},
-             {"khumsafil_clock_offer", clock_offer},
-             {"khumsafil_clock_move", move},
-             {"khumsafil_clock_time", clock_time},
-             {"khumsafil_application_state", state}};
+} calls[] = {{"khumsafil_raw_version", version},
+             {"khumsafil_raw_section_read", section_read},
+             {"khumsafil_raw_shelf_begin", shelf_begin},
+             {"khumsafil_raw_shelf_offer, a repeat", offer_repeat},
+             {"khumsafil_raw_shelf_offer, begun again", offer_again},
+             {"khumsafil_raw_shelf_offer, added", offer_added},
+             {"khumsafil_raw_shelf_is_complete", is_complete},
+             {"khumsafil_raw_shelf_complete", complete},
+             {"khumsafil_raw_shelf_lowest_missing", lowest_missing},
+             {"khumsafil_raw_shelf_table", shelf_table},
+             {"khumsafil_raw_shelf_copy_section", copy_section},
+             {"khumsafil_raw_shelf_release", release},
+             {"khumsafil_raw_shelf_save", save},
+             {"khumsafil_raw_shelf_load", load},
+             {"khumsafil_raw_file_table", file_table},
+             {"khumsafil_raw_file_list", list},
+             {"khumsafil_raw_file_number", file_number},
+             {"khumsafil_raw_descriptor_step", step},
+             {"khumsafil_raw_descriptor_is_trigger_tap", is_tap},
+             {"khumsafil_raw_trigger_read", trigger_read},
+             {"khumsafil_raw_trigger_belongs", belongs},
+             {"khumsafil_raw_clock_fresh", fresh},
+             {"khumsafil_raw_clock_offer", clock_offer},
+             {"khumsafil_raw_clock_move", move},
+             {"khumsafil_raw_clock_time", clock_time},
+             {"khumsafil_raw_clock_state", state}};
 
 #define PAINT UINT64_C(0xA5C3E1F0A5C3E1F0)
 static uint64_t stack[8192];
@@ -127,8 +142,9 @@ int main(void) {
         size_t used = depth(calls[i].call);
         if (used < before || used == sizeof stack)
             return 1;
-        /* A call of which an answer is refused would tell nothing. */
-        if ((uint8_t)answer != 0 && calls[i].call != is_tap && calls[i].call != belongs)
+        /* A call of which an answer is refused, or false where a table is whole or a trigger belongs, would tell nothing. */
+        if (calls[i].call == is_complete || calls[i].call == belongs ? answer != 1
+                                                                     : (uint8_t)answer != 0)
             return fprintf(stderr, "%s: refused %u\n", calls[i].name, (unsigned)(uint8_t)answer), 1;
         printf("| `%s` | %zu |\n", calls[i].name, used - before);
     }

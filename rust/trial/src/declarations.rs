@@ -87,8 +87,68 @@ pub fn numbers_in_header(text: &str) -> Vec<(String, u64)> {
         .filter_map(|line| line.trim().strip_prefix("#define "));
     let pairs = defined.filter_map(|line| line.trim().split_once(' '));
     pairs
-        .filter_map(|(name, value)| Some((name.to_string(), value.trim().parse().ok()?)))
+        .filter_map(|(name, value)| Some((name.to_string(), number(value.trim())?)))
         .collect()
+}
+
+/// A decimal number, or one in hexadecimal.
+fn number(text: &str) -> Option<u64> {
+    match text.strip_prefix("0x") {
+        Some(digits) => u64::from_str_radix(digits, 16).ok(),
+        None => text.parse().ok(),
+    }
+}
+
+/// The enumerations of a C header: each one's name, and its constants with their numbers. A constant without a number of
+/// its own fails.
+pub fn enumerations_in_header(text: &str) -> Vec<(String, Vec<(String, u64)>)> {
+    let text = without_comments(text);
+    let mut found = Vec::new();
+    for piece in text.split("typedef enum ").skip(1) {
+        let (name, rest) = piece.split_once('{').expect("an enumeration's constants");
+        let (constants, rest) = rest.split_once('}').expect("an enumeration's end");
+        assert!(
+            rest.trim_start().starts_with(&format!("{};", name.trim())),
+            "an enumeration of two names: {name}"
+        );
+        let constants = constants.split(',').map(|constant| {
+            let (name, value) = constant.split_once('=').expect("a constant's number");
+            let value = number(value.trim()).expect("a constant's number");
+            (name.trim().to_string(), value)
+        });
+        found.push((name.trim().to_string(), constants.collect()));
+    }
+    found
+}
+
+/// A function that a C header defines.
+#[derive(Clone, Debug, PartialEq, Eq)]
+pub struct Inline {
+    pub name: String,
+    pub result: String,
+    pub body: String,
+}
+
+/// The inline functions of a C header. An `inline` that is not at a line's beginning and `static`, or has no body, fails.
+pub fn inline_in_header(text: &str) -> Vec<Inline> {
+    let text = without_comments(text);
+    let found: Vec<_> = format!("\n{text}")
+        .split("\nstatic inline ")
+        .skip(1)
+        .map(|piece| {
+            let (head, rest) = piece.split_once('(').expect("the parameters");
+            let (_, rest) = rest.split_once(") {\n").expect("a body");
+            let (body, _) = rest.split_once("\n}").expect("a body's end");
+            let at = head.rfind([' ', '*']).expect("a result") + 1;
+            Inline {
+                name: head[at..].to_string(),
+                result: head[..at].trim().to_string(),
+                body: body.to_string(),
+            }
+        })
+        .collect();
+    assert_eq!(found.len(), text.matches("inline").count());
+    found
 }
 
 /// The constants of a file of Rattle that are plain numbers, by name.
@@ -268,6 +328,22 @@ mod tests {
         assert_eq!(header, in_rattle(RATTLE));
         assert_eq!(numbers_in_header(HEADER), [("WIDTH".to_string(), 16)]);
         assert_eq!(numbers_in_header(HEADER), numbers_in_rattle(RATTLE));
+    }
+
+    #[test]
+    fn enumerations_and_inline_functions() {
+        let header = "/* inline */\n#define V 0x0102\ntypedef enum e {\n    E_A = 0, /* none */\n    E_B = 7\n} e;\n\
+            static inline e f(int x) {\n    return g(x);\n}\n\nstatic inline const char *h(void) {\n    return 0;\n}\n";
+        let constants = vec![("E_A".to_string(), 0), ("E_B".to_string(), 7)];
+        assert_eq!(
+            enumerations_in_header(header),
+            [("e".to_string(), constants)]
+        );
+        assert_eq!(numbers_in_header(header), [("V".to_string(), 0x0102)]);
+        let found = inline_in_header(header);
+        let names: Vec<_> = found.iter().map(|f| (&f.result[..], &f.name[..])).collect();
+        assert_eq!(names, [("e", "f"), ("const char *", "h")]);
+        assert_eq!(found[0].body.trim(), "return g(x);");
     }
 
     #[test]

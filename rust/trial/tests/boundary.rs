@@ -1,10 +1,11 @@
-//! The header, the wrapper's declarations and the Rattle source say the same.
+//! The headers, the wrapper's declarations and the Rattle source say the same.
 
 use std::collections::BTreeMap;
 use std::fs;
 use std::path::{Path, PathBuf};
 use trial::declarations::{
-    in_header, in_rattle, in_rust, numbers_in_header, numbers_in_rattle, Function,
+    enumerations_in_header, in_header, in_rattle, in_rust, inline_in_header, numbers_in_header,
+    numbers_in_rattle, Function,
 };
 use trial::top;
 
@@ -35,7 +36,7 @@ fn sorted(mut functions: Vec<Function>) -> Vec<Function> {
 
 #[test]
 fn declarations_agree() {
-    let header = sorted(in_header(&text(top("include/khumsafil.h"))));
+    let header = sorted(in_header(&text(top("include/khumsafil_raw.h"))));
     let rust = sorted(in_rust(&text(top("rust/khumsafil/src/boundary.rs"))));
     let sources = files(&top("crates/khumsafil/src"), ".rt");
     let rattle = sorted(
@@ -52,9 +53,43 @@ fn declarations_agree() {
         header.len()
     );
     for function in &header {
-        assert!(function.name.starts_with("khumsafil_"), "{}", function.name);
-        println!("  {}", function.name);
+        let name = &function.name;
+        assert!(name.starts_with("khumsafil_raw_"), "{name}");
+        println!("  {name}");
     }
+}
+
+/// Whether a name stands in a text as a whole word.
+fn has_word(text: &str, name: &str) -> bool {
+    text.split(|c: char| !c.is_alphanumeric() && c != '_')
+        .any(|word| word == name)
+}
+
+/// Every raw function is called by an inline function of khumsafil.h, and no other function of that prefix is; and every
+/// inline function that a host calls is called by `answers.c`.
+#[test]
+fn the_inline_functions_reach_all() {
+    let raw = in_header(&text(top("include/khumsafil_raw.h")));
+    let inline = inline_in_header(&text(top("include/khumsafil.h")));
+    let bodies: String = inline.iter().map(|f| f.body.clone() + "\n").collect();
+    for function in &raw {
+        assert!(has_word(&bodies, &function.name), "{}", function.name);
+    }
+    let words = bodies.split(|c: char| !c.is_alphanumeric() && c != '_');
+    for word in words.filter(|word| word.starts_with("khumsafil_raw_")) {
+        assert!(raw.iter().any(|function| function.name == word), "{word}");
+    }
+    let tried = text(top("rust/trial/tests/answers.c"));
+    let called: Vec<_> = inline.iter().filter(|f| !f.name.ends_with('_')).collect();
+    for function in &called {
+        assert!(function.name.starts_with("khumsafil_"), "{}", function.name);
+        assert!(has_word(&tried, &function.name), "{}", function.name);
+    }
+    println!(
+        "{} inline functions over {} raw ones",
+        called.len(),
+        raw.len()
+    );
 }
 
 /// A caller that is not Rattle is held to nothing, so no exported function may ask anything of it.
@@ -89,6 +124,13 @@ fn reached() -> Vec<String> {
     found
 }
 
+/// The constants of an enumeration of khumsafil.h.
+fn constants(name: &str) -> Vec<(String, u64)> {
+    let found = enumerations_in_header(&text(top("include/khumsafil.h")));
+    let mut found = found.into_iter().filter(|(found, _)| found == name);
+    found.next().unwrap_or_else(|| panic!("{name}")).1
+}
+
 /// Each number of refusal has one name and one number, in the header, the wrapper and the Rattle source. There it
 /// stands by that name, or in a crate whose name's first word it begins with.
 #[test]
@@ -110,12 +152,12 @@ fn refusals_agree() {
     let ours: Vec<_> = ours
         .map(|(name, refusal)| (name.to_string(), u64::from(refusal.number())))
         .collect();
-    let header: Vec<_> = numbers_in_header(&text(top("include/khumsafil.h")))
-        .into_iter()
-        .filter_map(|(name, number)| {
-            Some((name.strip_prefix("KHUMSAFIL_REFUSED_")?.to_string(), number))
-        })
-        .collect();
+    let mut header = constants("khumsafil_refusal");
+    let accepted = ("KHUMSAFIL_NOT_REFUSED".to_string(), 0);
+    assert_eq!(header.remove(0), accepted);
+    for (name, _) in &mut header {
+        *name = name.replacen("KHUMSAFIL_REFUSED_", "", 1);
+    }
     assert_eq!(header, ours, "the header and the wrapper");
     for (name, number) in &ours {
         let there = rattle.get(name).map_or(&[][..], |numbers| numbers);
@@ -130,41 +172,103 @@ fn refusals_agree() {
     );
 }
 
-/// The sizes, actions and states in the header are the wrapper's.
+/// The sizes in the header, and its version, are the wrapper's and the library's.
 #[test]
 fn sizes_agree() {
-    use khumsafil::clock::{Action, State};
-    use khumsafil::shelf::Accepted;
-    let header: BTreeMap<_, _> = numbers_in_header(&text(top("include/khumsafil.h")))
-        .into_iter()
-        .collect();
+    let raw = numbers_in_header(&text(top("include/khumsafil_raw.h")));
     let ours = [
-        ("SECTION_HEADER", khumsafil::section::HEADER),
-        ("DESCRIPTOR_HEAD", khumsafil::descriptor::HEAD),
-        ("TRIGGER_FIELDS", khumsafil::trigger::FIELDS),
-        ("LARGEST_TRIGGER", khumsafil::trigger::LARGEST),
         ("SHELF_RECORD", khumsafil::shelf::RECORD),
         ("STORE", khumsafil::shelf::STORE),
+        ("PLACES", khumsafil::shelf::PLACES),
+        ("SECTIONS", khumsafil::shelf::SECTIONS),
+        ("CLOCK_RECORD", khumsafil::clock::RECORD),
+        ("TABLE_FIELDS", khumsafil::shelf::TABLE_FIELDS),
+        ("TRIGGER_FIELDS", khumsafil::trigger::FIELDS),
         ("LARGEST_SECTION", khumsafil::shelf::LARGEST_SECTION),
         ("LARGEST_FILE", khumsafil::shelf::LARGEST_FILE),
         ("LARGEST_LIST", khumsafil::file::LARGEST_LIST),
+        ("LARGEST_TRIGGER", khumsafil::trigger::LARGEST),
         ("LARGEST_BODY", khumsafil::writer::LARGEST_BODY),
-        ("SHELF_BEGAN", Accepted::Began as usize),
-        ("SHELF_BEGAN_AGAIN", Accepted::BeganAgain as usize),
-        ("SHELF_ADDED", Accepted::Added as usize),
-        ("SHELF_REPEAT", Accepted::Repeat as usize),
-        ("CLOCK_WORDS", khumsafil::clock::WORDS),
-        ("ACTION_PREP", Action::Prep as usize),
-        ("ACTION_EXEC", Action::Exec as usize),
-        ("ACTION_SUSP", Action::Susp as usize),
-        ("ACTION_KILL", Action::Kill as usize),
-        ("STATE_RELEASED", State::Released as usize),
-        ("STATE_READY", State::Ready as usize),
-        ("STATE_ACTIVE", State::Active as usize),
-        ("STATE_SUSPENDED", State::Suspended as usize),
+        ("SECTION_HEADER", khumsafil::section::HEADER),
+        ("DESCRIPTOR_HEAD", khumsafil::descriptor::HEAD),
+        ("TABLE_ID", 0),
+        ("TABLE_EXTENSION", 1),
+        ("TABLE_VERSION", 2),
+        ("TABLE_LAST", 3),
+        ("TABLE_LENGTHS", 4),
+        ("TRIGGER_ID_LENGTH", 0),
+        ("TRIGGER_DESCRIPTION", 1),
+        ("TRIGGER_ID_PLACE", 2),
+        ("TRIGGER_ID_BYTES", 3),
+        ("TRIGGER_KIND", 4),
+        ("TRIGGER_TYPE", 5),
+        ("TRIGGER_FIRST", 6),
+        ("TRIGGER_SECOND", 7),
+        ("TRIGGER_THIRD", 8),
+        ("TRIGGER_USER_PLACE", 9),
+        ("TRIGGER_USER_BYTES", 10),
     ];
-    for (name, size) in ours {
-        let there = header.get(&format!("KHUMSAFIL_{name}"));
-        assert_eq!(there, Some(&(size as u64)), "{name}");
+    let ours = ours.map(|(name, size)| (format!("KHUMSAFIL_{name}"), size as u64));
+    assert_eq!(raw, ours);
+
+    let header = text(top("include/khumsafil.h"));
+    let version = u64::from(khumsafil::VERSION);
+    let there = ("KHUMSAFIL_VERSION".to_string(), version);
+    assert_eq!(numbers_in_header(&header), [there]);
+    assert_eq!(khumsafil::version(), khumsafil::VERSION);
+    let [_, major, minor, patch] = khumsafil::VERSION.to_be_bytes();
+    let words = format!("#define KHUMSAFIL_VERSION_TEXT \"{major}.{minor}.{patch}\"");
+    assert!(header.lines().any(|line| line == words), "{words}");
+}
+
+/// The enumerations of the header are the wrapper's: of an answer, one constant more is 0 and says that it was refused.
+#[test]
+fn enumerations_agree() {
+    use khumsafil::clock::{Action, State};
+    use khumsafil::shelf::Accepted;
+    let agree = |name: &str, ours: &[(&str, usize)]| {
+        let ours = ours.iter();
+        let ours: Vec<_> = ours
+            .map(|(name, number)| (format!("KHUMSAFIL_{name}"), *number as u64))
+            .collect();
+        assert_eq!(constants(name), ours, "{name}");
+    };
+    agree(
+        "khumsafil_accepted",
+        &[
+            ("SHELF_NOT_ACCEPTED", 0),
+            ("SHELF_BEGAN", Accepted::Began as usize),
+            ("SHELF_BEGAN_AGAIN", Accepted::BeganAgain as usize),
+            ("SHELF_ADDED", Accepted::Added as usize),
+            ("SHELF_REPEAT", Accepted::Repeat as usize),
+        ],
+    );
+    agree(
+        "khumsafil_action",
+        &[
+            ("ACTION_PREP", Action::Prep as usize),
+            ("ACTION_EXEC", Action::Exec as usize),
+            ("ACTION_SUSP", Action::Susp as usize),
+            ("ACTION_KILL", Action::Kill as usize),
+        ],
+    );
+    agree(
+        "khumsafil_state_kind",
+        &[
+            ("STATE_NOT_KNOWN", 0),
+            ("STATE_RELEASED", State::Released as usize + 1),
+            ("STATE_READY", State::Ready as usize + 1),
+            ("STATE_ACTIVE", State::Active as usize + 1),
+            ("STATE_SUSPENDED", State::Suspended as usize + 1),
+        ],
+    );
+    // All but actions, which a host gives, have a constant for a refused answer.
+    for (name, constants) in enumerations_in_header(&text(top("include/khumsafil.h"))) {
+        let (first, number) = &constants[0];
+        let refused = ["_NOT_", "_NOTHING"].iter().any(|w| first.contains(w));
+        assert!(
+            *number == 0 && (refused || name == "khumsafil_action"),
+            "{name}"
+        );
     }
 }

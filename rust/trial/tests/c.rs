@@ -9,29 +9,48 @@ use trial::sections::{self, KINDS};
 use trial::tally::share;
 use trial::{native, top};
 
-/// Compiles a C program against the header and the library, and gives the path of the executable. The compiler is `cc`,
-/// or the one that the environment variable `KHUMSAFIL_CC` names.
-fn compile(name: &str, source: PathBuf) -> PathBuf {
+/// The compiler is `cc`, or the one that the environment variable `KHUMSAFIL_CC` names.
+fn compiler() -> Command {
+    let mut command = Command::new(std::env::var_os("KHUMSAFIL_CC").unwrap_or("cc".into()));
+    command.args(["-std=c99", "-pedantic", "-Wall", "-Wextra", "-Wconversion"]);
+    command.args(["-Werror", "-O2", "-I"]).arg(top("include"));
+    command
+}
+
+/// The C++ compiler is `c++`, or the one that `KHUMSAFIL_CXX` names. There may be none, and none is looked for beside
+/// another C compiler, which may be for another machine.
+fn cpp_compiler() -> Option<Command> {
+    let named = std::env::var_os("KHUMSAFIL_CXX");
+    if named.is_none() && std::env::var_os("KHUMSAFIL_CC").is_some() {
+        return None;
+    }
+    let name = named.unwrap_or("c++".into());
+    let there = Command::new(&name).arg("--version").output();
+    there.ok().filter(|done| done.status.success())?;
+    let mut command = Command::new(name);
+    command.args(["-std=c++11", "-Wall", "-Wextra", "-Wconversion", "-Werror"]);
+    command.args(["-O2", "-I"]).arg(top("include"));
+    Some(command)
+}
+
+/// Compiles a program against the header and the library, and gives the path of the executable.
+fn compiled(mut compiler: Command, language: &str, name: &str, source: PathBuf) -> PathBuf {
     let program = Path::new(env!("CARGO_TARGET_TMPDIR")).join(name);
-    let done = Command::new(std::env::var_os("KHUMSAFIL_CC").unwrap_or("cc".into()))
-        .args([
-            "-std=c99",
-            "-pedantic",
-            "-Wall",
-            "-Wextra",
-            "-Werror",
-            "-O2",
-        ])
-        .arg("-I")
-        .arg(top("include"))
+    let done = compiler
         .arg("-o")
         .arg(&program)
+        .args(["-x", language])
         .arg(source)
+        .args(["-x", "none"])
         .arg(native("libkhumsafil.a"))
         .status()
         .expect("the compiler runs");
     assert!(done.success(), "the compiler refuses {name}");
     program
+}
+
+fn compile(name: &str, source: PathBuf) -> PathBuf {
+    compiled(compiler(), "c", name, source)
 }
 
 /// What the program writes when it is given that input.
@@ -103,13 +122,149 @@ fn the_sample_goes_round() {
 }
 
 /// What a host in C may do that one in Rust cannot: no buffer and a null pointer for it, fewer numbers than a trigger
-/// has, a number that is no action.
+/// or a table has, a number that is no action.
 #[test]
 fn a_bad_host() {
     run(
         &compile("bad_host", top("rust/trial/tests/bad_host.c")),
         &[],
     );
+}
+
+/// Each function of the header, accepted and refused.
+#[test]
+fn the_answers() {
+    run(&compile("answers", top("rust/trial/tests/answers.c")), &[]);
+}
+
+/// The next place is right in a loop of a terabyte, which a checker of memory may have no room for.
+#[test]
+fn a_loop_of_a_terabyte() {
+    let program = compile("terabyte", top("rust/trial/tests/terabyte.c"));
+    let said = run(&program, &[]);
+    let under = std::env::var_os("KHUMSAFIL_UNDER").is_some();
+    assert!(said == "tried\n" || under && said == "no room for a terabyte\n");
+}
+
+/// The words of a refusal are the same in C and in Rust.
+#[test]
+fn the_words_of_a_refusal() {
+    let said = run(&compile("words", top("rust/trial/tests/words.c")), &[]);
+    let ours: String = (0..=300)
+        .map(|number| {
+            let mut all = khumsafil::Refusal::ALL.iter();
+            let named = all.find(|(_, refusal)| u32::from(refusal.number()) == number);
+            let text = named.map_or("no number of this library", |(_, r)| r.text());
+            format!("{number} {text}\n")
+        })
+        .collect();
+    assert_eq!(said, ours);
+}
+
+/// The samples and the programs that try the header are C++ too.
+#[test]
+fn as_cpp() {
+    if cpp_compiler().is_none() {
+        println!("no C++ compiler: the header was not tried as C++");
+        return;
+    }
+    let cpp = |name: &str, source: PathBuf| {
+        let compiler = cpp_compiler().expect("the C++ compiler");
+        compiled(compiler, "c++", &format!("{name}_cpp"), source)
+    };
+    for name in ["answers", "bad_host"] {
+        run(&cpp(name, top(&format!("rust/trial/tests/{name}.c"))), &[]);
+    }
+    for name in ["section", "shelf", "trigger"] {
+        cpp(name, top(&format!("samples/{name}.c")));
+    }
+    let said = fs::read_to_string(top("samples/round.txt")).expect("samples/round.txt");
+    assert_eq!(run(&cpp("round", top("samples/round.c")), &[]), said);
+    println!("the header was tried as C++");
+}
+
+/// A call of each function that answers in a structure, by that function's name.
+const ANSWERS: [(&str, &str); 23] = [
+    ("section_read", "bytes, 8"),
+    ("shelf_begin", "&shelf"),
+    ("shelf_offer", "&shelf, bytes, 8"),
+    ("shelf_completeness", "&shelf, key"),
+    ("shelf_lowest_missing", "&shelf, key"),
+    ("shelf_table", "&shelf, 0"),
+    ("shelf_copy_section", "&shelf, key, 0, bytes, 8"),
+    ("shelf_release", "&shelf, key"),
+    ("shelf_save", "&shelf, key, bytes, 8"),
+    ("file_table", "bytes, 8"),
+    ("shelf_load", "&shelf, bytes, 8"),
+    ("file_list", "bytes, 4, bytes + 4, 4"),
+    ("file_number", "bytes, 8"),
+    ("descriptor_step", "bytes, 8, 0"),
+    ("trigger_read", "bytes, 8"),
+    ("clock_fresh", "&clock"),
+    ("clock_offer", "&clock, activation"),
+    ("clock_move", "&clock, 1"),
+    ("clock_time", "&clock"),
+    ("clock_state", "&clock, 1"),
+    ("writer_count", "8"),
+    ("writer_section", "label, bytes, 4, 0, bytes + 4, 4"),
+    ("writer_file", "label, bytes, 4, bytes + 4, 4"),
+];
+
+/// Whether the compiler takes a program in which that statement stands.
+fn takes(statement: &str) -> bool {
+    let source = format!(
+        "#include \"khumsafil.h\"\n\
+         uint32_t tried(khumsafil_key key, khumsafil_label label, khumsafil_activation activation);\n\
+         uint32_t tried(khumsafil_key key, khumsafil_label label, khumsafil_activation activation) {{\n\
+         static khumsafil_shelf shelf;\nstatic khumsafil_clock clock;\nstatic uint8_t bytes[8];\n\
+         uint32_t number = shelf.store[0] + clock.record[0] + bytes[0] + key.table_id + label.version + activation.event;\n\
+         {statement}\nreturn number;\n}}\n"
+    );
+    let mut child = compiler()
+        .args(["-fsyntax-only", "-x", "c", "-"])
+        .stdin(Stdio::piped())
+        .stderr(Stdio::null())
+        .spawn()
+        .expect("the compiler runs");
+    let mut stdin = child.stdin.take().expect("its input");
+    stdin.write_all(source.as_bytes()).expect("it is read");
+    drop(stdin);
+    child.wait().expect("the compiler ends").success()
+}
+
+/// No answer that is not a plain yes or no stands in an `if`, in `!` or in a number: the compiler refuses that program, and
+/// takes the one beside it that looks at the refusal. What is a plain yes or no may stand there.
+#[test]
+fn no_answer_is_taken_for_yes() {
+    let header = fs::read_to_string(top("include/khumsafil.h")).expect("the header");
+    let made = ["khumsafil_key", "khumsafil_label"];
+    let mut there: Vec<_> = trial::declarations::inline_in_header(&header)
+        .into_iter()
+        .filter(|f| f.result.starts_with("khumsafil_") && !made.contains(&&f.result[..]))
+        .filter(|f| !f.name.ends_with('_'))
+        .map(|f| f.name)
+        .collect();
+    let mut tried: Vec<_> = ANSWERS
+        .iter()
+        .map(|(name, _)| format!("khumsafil_{name}"))
+        .collect();
+    there.sort();
+    tried.sort();
+    assert_eq!(there, tried, "every function that answers in a structure");
+    for (name, with) in ANSWERS {
+        let call = format!("khumsafil_{name}({with})");
+        assert!(takes(&format!("if ({call}.refusal) number = 1;")), "{call}");
+        assert!(takes(&format!("number = {call}.refusal;")), "{call}");
+        assert!(!takes(&format!("if ({call}) number = 1;")), "{call}");
+        assert!(!takes(&format!("if (!{call}) number = 1;")), "{call}");
+        assert!(!takes(&format!("number = {call};")), "{call}");
+        assert!(!takes(&format!("number = {call} == 0;")), "{call}");
+    }
+    assert!(takes(
+        "if (khumsafil_shelf_is_complete(&shelf, key)) number = 1;"
+    ));
+    assert!(!takes("if (khumsafil_shelf_is_complete) number = 1;"));
+    println!("{} answers that no program takes for yes", tried.len());
 }
 
 /// The numbers of a trigger stand where the header says.

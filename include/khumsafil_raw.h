@@ -1,0 +1,389 @@
+/*
+ * The functions of the library as they are linked: numbers and buffers alone. A host calls khumsafil.h, which has a type for
+ * each answer. One that keeps a shelf's record and its store apart, or lends them to another language, calls these.
+ *
+ * A raw answer is a number and no truth value: the one that says "incomplete" is not 0, and neither is a refusal. Only what
+ * is declared bool is a plain yes or no.
+ *
+ * A buffer is a pointer and, as the next parameter, the number of its elements. What is said of a buffer below is all that
+ * a call does to it; a refused call leaves every buffer as it was.
+ *
+ * Where an answer is wider than 8 bits, bits 0 to 7 are the number of refusal, or 0 where the call is accepted, and of a
+ * refused call all other bits are 0. Of an accepted one they are as the function says, and the bits that it does not name
+ * are 0.
+ *
+ * The archive needs memcpy, memmove and memset of whoever links it, and nothing else.
+ */
+#ifndef KHUMSAFIL_RAW_H
+#define KHUMSAFIL_RAW_H
+
+#include <stdbool.h>
+#include <stddef.h>
+#include <stdint.h>
+
+#ifdef __cplusplus
+extern "C" {
+#endif
+
+/*
+ * What the host lends, and the largest of what it receives:
+ *
+ *   a shelf      KHUMSAFIL_SHELF_RECORD numbers and KHUMSAFIL_STORE bytes, and neither more nor fewer
+ *   a clock      KHUMSAFIL_CLOCK_RECORD numbers, and neither more nor fewer
+ *   a table      room for KHUMSAFIL_TABLE_FIELDS numbers at least
+ *   a trigger    room for KHUMSAFIL_TRIGGER_FIELDS numbers at least
+ *   a section    room for KHUMSAFIL_LARGEST_SECTION bytes is enough, for a file KHUMSAFIL_LARGEST_FILE, for a file's
+ *                list KHUMSAFIL_LARGEST_LIST
+ *   a datagram   one byte more than KHUMSAFIL_LARGEST_SECTION or KHUMSAFIL_LARGEST_TRIGGER, so that a longer one is
+ *                refused and not clipped
+ */
+#define KHUMSAFIL_SHELF_RECORD 84
+#define KHUMSAFIL_STORE 65536
+#define KHUMSAFIL_PLACES 4
+#define KHUMSAFIL_SECTIONS 16
+#define KHUMSAFIL_CLOCK_RECORD 67
+#define KHUMSAFIL_TABLE_FIELDS 20
+#define KHUMSAFIL_TRIGGER_FIELDS 11
+#define KHUMSAFIL_LARGEST_SECTION 1024
+#define KHUMSAFIL_LARGEST_FILE 16418
+#define KHUMSAFIL_LARGEST_LIST 390
+#define KHUMSAFIL_LARGEST_TRIGGER 4096
+#define KHUMSAFIL_LARGEST_BODY 16256
+
+/* The bytes of a section before its body, and of a descriptor before its content. */
+#define KHUMSAFIL_SECTION_HEADER 8
+#define KHUMSAFIL_DESCRIPTOR_HEAD 2
+
+/* The library's version: 65536 times the major number, 256 times the minor one and the patch. */
+uint32_t khumsafil_raw_version(void);
+
+/*
+ * Reads the payload as one section. Refuses by 1 to 8: the lowest number that applies.
+ *
+ * payload: read, and left as it is.
+ *
+ * Bits 8 to 15 are the table id, 16 to 31 the table id extension, 32 to 39 the version, 40 to 47 the section number, 48 to
+ * 55 the last number. The body is the payload from byte KHUMSAFIL_SECTION_HEADER to the end.
+ */
+uint64_t khumsafil_raw_section_read(const uint8_t *payload, size_t payload_length);
+
+/*
+ * A shelf is a record of KHUMSAFIL_SHELF_RECORD numbers and a store of KHUMSAFIL_STORE bytes, both lent. Another size of the
+ * store is refused by 17, and then another number of numbers by 18.
+ *
+ * Of place p of four, and section n of sixteen, the record has
+ *
+ *   16p + n   the length of the section, where it is held
+ *   64 + 4p   256 + the table id where the place is taken; any number below 256 or above 511 where it is free
+ *   65 + 4p   the table id extension
+ *   66 + 4p   the version
+ *   67 + 4p   the last number
+ *   80 + p    bit n is 1 where the section is held
+ *
+ * Section n of place p stands in the store from byte 1024 (16p + n) on. The numbers of a place that is free, and the
+ * length of a section that is not held, are disregarded. So every value of the numbers is some record; a spoiled one is
+ * refused by 18. Promises over a history presume that the host lends record and store back as they were left.
+ *
+ * What the calls leave where it is disregarded:
+ *
+ *   begin     each length 8, the four numbers of each place from 64 + 4p on p, 0, 0, 0, and each mask from 80 on 1
+ *   release   of its place the four numbers p, 0, 0, 0 and the mask 1; the lengths stay as they were
+ *   offer and load   of a table that begins, begins again or is loaded, the four numbers, the mask and the lengths of the
+ *             sections that it holds; of a section that is added, its length and the mask; all else stays as it was
+ *
+ * So two records of the same tables need not be the same numbers. They are equal exactly when
+ * khumsafil_raw_shelf_table answers the same of both at each of the four places.
+ */
+
+/*
+ * Makes record and store a fresh shelf: four free places. Answers 0, or the number of refusal: 17, 18.
+ *
+ * record: written, whatever stood there.
+ * store: all bytes become 0.
+ */
+uint8_t khumsafil_raw_shelf_begin(uint16_t *record, size_t record_length, uint8_t *store, size_t store_length);
+
+/*
+ * Offers a payload. Refuses by 17, 18, and then 1 to 10: the lowest number that applies.
+ *
+ * record: after the call the next one; where the section is a repeat, left as it was.
+ * store: the section's berth becomes the section and then zeros; where it begins its table again, the berths that
+ * were held become 0 before that; all other bytes stay as they were. Left as it was with the record.
+ * payload: read, and left as it is.
+ *
+ * Bits 8 to 15 are what the section did: 1 it began its table, 2 it began it again, 3 it was added, 4 it is a repeat.
+ */
+uint16_t khumsafil_raw_shelf_offer(uint16_t *record, size_t record_length, uint8_t *store, size_t store_length,
+                                   const uint8_t *payload, size_t payload_length);
+
+/*
+ * Whether a table is held and every section of it from 0 to its last. False where the question would be refused by 17, 18
+ * or 14.
+ *
+ * record, store: read, and left as they are.
+ */
+bool khumsafil_raw_shelf_is_complete(const uint16_t *record, size_t record_length, const uint8_t *store,
+                                     size_t store_length, uint8_t table, uint16_t extension);
+
+/*
+ * Whether every section of a table, from 0 to its last, is held. Refuses by 17, 18, 14.
+ *
+ * record, store: read, and left as they are.
+ *
+ * Bits 8 to 15 are 1 where the table is complete and 2 where it is not. So no answer is 0.
+ */
+uint16_t khumsafil_raw_shelf_complete(const uint16_t *record, size_t record_length, const uint8_t *store,
+                                      size_t store_length, uint8_t table, uint16_t extension);
+
+/*
+ * The lowest number of a table that is not held. Refuses by 17, 18, 14.
+ *
+ * record, store: read, and left as they are.
+ *
+ * Bits 8 to 15 are 1 where nothing is missing and 2 where a section is; its number is then in bits 16 to 23.
+ */
+uint32_t khumsafil_raw_shelf_lowest_missing(const uint16_t *record, size_t record_length, const uint8_t *store,
+                                            size_t store_length, uint8_t table, uint16_t extension);
+
+/* Where the numbers of a table stand: its key, its version, its last number, and then the lengths of its sections 0 to 15
+   in bytes, 0 where a section is not held. */
+#define KHUMSAFIL_TABLE_ID 0
+#define KHUMSAFIL_TABLE_EXTENSION 1
+#define KHUMSAFIL_TABLE_VERSION 2
+#define KHUMSAFIL_TABLE_LAST 3
+#define KHUMSAFIL_TABLE_LENGTHS 4
+
+/*
+ * Which table is in a place. Any place may be asked. Answers 0, or the number of refusal: 17, 18, 14 where the place is
+ * free or is none of 0 to 3, 15 where there is room for fewer than KHUMSAFIL_TABLE_FIELDS numbers.
+ *
+ * record, store: read, and left as they are.
+ * fields: the first KHUMSAFIL_TABLE_FIELDS become the table's numbers, and those past them stay as they were.
+ */
+uint8_t khumsafil_raw_shelf_table(const uint16_t *record, size_t record_length, const uint8_t *store,
+                                  size_t store_length, uint8_t place, uint16_t *fields, size_t fields_length);
+
+/*
+ * Copies a held section out. Any number may be asked. Refuses by 17, 18, 14, 16, 15.
+ *
+ * record, store: read, and left as they are.
+ * out: its first bytes become the section, and those past it stay as they were.
+ *
+ * Bits 8 to 31 are how many bytes the section is.
+ */
+uint32_t khumsafil_raw_shelf_copy_section(const uint16_t *record, size_t record_length, const uint8_t *store,
+                                          size_t store_length, uint8_t table, uint16_t extension, uint8_t number,
+                                          uint8_t *out, size_t out_length);
+
+/*
+ * Releases a table: its place is free. Answers 0, or the number of refusal: 17, 18, 14.
+ *
+ * record: after the call the next one.
+ * store: the place's sixteen berths become 0, and all other bytes stay as they were.
+ */
+uint8_t khumsafil_raw_shelf_release(uint16_t *record, size_t record_length, uint8_t *store, size_t store_length,
+                                    uint8_t table, uint16_t extension);
+
+/*
+ * Saves a held table as a file. Refuses by 17, 18, 14, 15.
+ *
+ * record, store: read, and left as they are.
+ * out: its first bytes become the file, and those past it stay as they were. KHUMSAFIL_LARGEST_FILE bytes are room for
+ * every table.
+ *
+ * Bits 8 to 31 are how many bytes the file is.
+ */
+uint32_t khumsafil_raw_shelf_save(const uint16_t *record, size_t record_length, const uint8_t *store,
+                                  size_t store_length, uint8_t table, uint16_t extension, uint8_t *out,
+                                  size_t out_length);
+
+/*
+ * Loads a file's table into the lowest free place. Answers 0, or the number of refusal: 17, 18, the file's first fault
+ * (11, 12, or 2 to 8 for one of a section), 13, 9.
+ *
+ * record: after the call the next one.
+ * store: the berth of each section becomes the section and then zeros, and all other bytes stay as they were.
+ * file: read, and left as it is.
+ */
+uint8_t khumsafil_raw_shelf_load(uint16_t *record, size_t record_length, uint8_t *store, size_t store_length,
+                                 const uint8_t *file, size_t file_length);
+
+/*
+ * Which table a file is, in the numbers of khumsafil_raw_shelf_table. Answers 0, or the number of refusal: the file's first
+ * fault (11, 12, 2 to 8), then 15 where there is room for fewer than KHUMSAFIL_TABLE_FIELDS numbers.
+ *
+ * file: read, and left as it is.
+ * fields: the first KHUMSAFIL_TABLE_FIELDS become the table's numbers, and those past them stay as they were.
+ */
+uint8_t khumsafil_raw_file_table(const uint8_t *file, size_t file_length, uint16_t *fields, size_t fields_length);
+
+/*
+ * Says in lines of text what a file holds; of one that is refused, by which number. Refuses by 15 alone.
+ *
+ * file: read, and left as it is.
+ * out: its first bytes become the text, with no zero byte behind it, and those past it stay as they were.
+ *
+ * Bits 8 to 31 are how many bytes the text is.
+ */
+uint32_t khumsafil_raw_file_list(const uint8_t *file, size_t file_length, uint8_t *out, size_t out_length);
+
+/*
+ * The seven-bit number at the front of some bytes. Refuses by 11.
+ *
+ * bytes: read, and left as it is.
+ *
+ * Bits 8 to 23 are the number, 24 to 31 how many bytes it takes, 1 to 3.
+ */
+uint32_t khumsafil_raw_file_number(const uint8_t *bytes, size_t bytes_length);
+
+/*
+ * What stands at a place of a descriptor loop. Any place may be asked. Refuses by 19.
+ *
+ * bytes: the loop; read, and left as it is.
+ *
+ * Bits 8 to 15 are 1 where a descriptor was found and 2 where the walk is over. Of a descriptor bits 16 to 23 are the tag,
+ * and 24 to 63 the low 40 bits of the place of the next step. Its content starts KHUMSAFIL_DESCRIPTOR_HEAD behind the place
+ * asked and ends at that next place; in a loop of 2^40 bytes or more the low 8 bits of the difference are the content's
+ * length, which is right in every loop.
+ */
+uint64_t khumsafil_raw_descriptor_step(const uint8_t *bytes, size_t bytes_length, size_t at);
+
+/*
+ * Whether the descriptor at a place marks a trigger Tap. Where no descriptor can be read, it does not.
+ *
+ * bytes: the loop; read, and left as it is.
+ */
+bool khumsafil_raw_descriptor_is_trigger_tap(const uint8_t *bytes, size_t bytes_length, size_t at);
+
+/* Where the numbers of a trigger stand. One that a kind of target has no use for is 0. */
+#define KHUMSAFIL_TRIGGER_ID_LENGTH 0   /* the application id's length as read; 0: for every application */
+#define KHUMSAFIL_TRIGGER_DESCRIPTION 1 /* 0 where that length is 0 */
+#define KHUMSAFIL_TRIGGER_ID_PLACE 2    /* where the id lies in the payload */
+#define KHUMSAFIL_TRIGGER_ID_BYTES 3    /* and how many bytes it is */
+#define KHUMSAFIL_TRIGGER_KIND 4        /* 0 none, 1 module, 2 tap, 3 absolute URI, 4 lid URI, 5 http URI, 6 reserved */
+#define KHUMSAFIL_TRIGGER_TYPE 5        /* its type; 0 where there is no explicit target */
+#define KHUMSAFIL_TRIGGER_FIRST 6       /* download; tap; place of the target's bytes */
+#define KHUMSAFIL_TRIGGER_SECOND 7      /* group; number of the target's bytes */
+#define KHUMSAFIL_TRIGGER_THIRD 8       /* module */
+#define KHUMSAFIL_TRIGGER_USER_PLACE 9  /* where the user data lies in the payload */
+#define KHUMSAFIL_TRIGGER_USER_BYTES 10 /* and how many bytes it is */
+
+/*
+ * Reads the payload as a trigger. Answers 0, or the number of refusal: 26, then field by field 20 to 25, and then
+ * 15 where there is room for fewer than KHUMSAFIL_TRIGGER_FIELDS numbers.
+ *
+ * payload: read, and left as it is.
+ * fields: the first KHUMSAFIL_TRIGGER_FIELDS become the trigger's numbers, and those past them stay as they were.
+ */
+uint8_t khumsafil_raw_trigger_read(const uint8_t *payload, size_t payload_length, uint16_t *fields,
+                                   size_t fields_length);
+
+/*
+ * Whether a trigger belongs to the application with an id. Any numbers may be given: one whose id length is 0 is every
+ * application's, and one whose id does not lie in the payload is none's. Of fewer than KHUMSAFIL_TRIGGER_FIELDS numbers it
+ * is false; those past them are not looked at.
+ *
+ * payload: what the trigger was read from; read, and left as it is.
+ * fields: the numbers as the reading gave them; read, and left as they are.
+ * application: the application's id, which may be empty; read, and left as it is.
+ */
+bool khumsafil_raw_trigger_belongs(const uint8_t *payload, size_t payload_length, const uint16_t *fields,
+                                   size_t fields_length, const uint8_t *application, size_t application_length);
+
+/*
+ * A clock's record is KHUMSAFIL_CLOCK_RECORD numbers. Another number of them is refused by 35.
+ *
+ *   0                the clock's time
+ *   1                the states, two bits each: application i has bits 2i and 2i + 1
+ *   2                how many activations are held
+ *   3 + 2i, 4 + 2i   activation i: the time, and then from bit 0 the event, from bit 16 the application, from bit 24 the
+ *                    action, at bit 26 whether it was applied
+ *
+ * All other bits, and numbers past those of the activations held, are disregarded, and are 0 after a call that wrote the
+ * record. So every value of the numbers is some record; a spoiled one is refused by 35. Promises over a history presume that
+ * the host lends the record back as it was left.
+ */
+
+/*
+ * Makes the record a clock at 0 with every application Released and nothing held. Answers 0, or 35.
+ *
+ * record: written whole, whatever stood there.
+ */
+uint8_t khumsafil_raw_clock_fresh(uint32_t *record, size_t record_length);
+
+/*
+ * Offers an activation. Actions are 0 prep, 1 exec, 2 susp, 3 kill. Refuses by 255 an action above 3, then by 35, 30, 32, 33
+ * and 34.
+ *
+ * record: after the call the next one.
+ *
+ * Bits 8 to 15 are 1 where the activation was applied on arrival and 2 where it waits.
+ */
+uint16_t khumsafil_raw_clock_offer(uint32_t *record, size_t record_length, uint8_t application, uint16_t event,
+                                   uint8_t action, uint32_t time);
+
+/*
+ * Moves the clock. Refuses by 35 and 31.
+ *
+ * record: after the call the next one.
+ *
+ * Bits 8 to 15 are how many waiting activations the move applied, at most 32. So the answer to a move that applied none is
+ * 0.
+ */
+uint16_t khumsafil_raw_clock_move(uint32_t *record, size_t record_length, uint32_t to);
+
+/*
+ * The clock's time. Refuses by 35.
+ *
+ * record: read, and left as it is.
+ *
+ * Bits 32 to 63 are the time.
+ */
+uint64_t khumsafil_raw_clock_time(const uint32_t *record, size_t record_length);
+
+/*
+ * The state of an application. Refuses by 35 and 30.
+ *
+ * record: read, and left as it is.
+ *
+ * Bits 8 to 15 are 0 Released, 1 Ready, 2 Active, 3 Suspended.
+ */
+uint16_t khumsafil_raw_clock_state(const uint32_t *record, size_t record_length, uint8_t application);
+
+/*
+ * How many sections a body of so many bytes makes, 1 to 16: as few as will do. Refuses by 40.
+ *
+ * Bits 8 to 15 are the count.
+ */
+uint16_t khumsafil_raw_writer_count(size_t length);
+
+/*
+ * Writes section k, from 0 on, of the table that carries the body: each section's body full but the last. Refuses by 40,
+ * 41, 42, 15.
+ *
+ * body: read, and left as it is.
+ * out: its first bytes become the section, and those past it stay as they were. KHUMSAFIL_LARGEST_SECTION bytes are room
+ * for every section.
+ *
+ * Bits 8 to 31 are how many bytes the section is.
+ */
+uint32_t khumsafil_raw_writer_section(uint8_t table, uint16_t extension, uint8_t version, const uint8_t *body,
+                                      size_t body_length, uint8_t k, uint8_t *out, size_t out_length);
+
+/*
+ * Writes the file of the table that carries the body, with all its sections. Refuses by 40, 41, 15.
+ *
+ * body: read, and left as it is.
+ * out: its first bytes become the file, and those past it stay as they were. KHUMSAFIL_LARGEST_FILE bytes are room for
+ * every file.
+ *
+ * Bits 8 to 31 are how many bytes the file is.
+ */
+uint32_t khumsafil_raw_writer_file(uint8_t table, uint16_t extension, uint8_t version, const uint8_t *body,
+                                   size_t body_length, uint8_t *out, size_t out_length);
+
+#ifdef __cplusplus
+}
+#endif
+
+#endif

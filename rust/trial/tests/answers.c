@@ -1,0 +1,421 @@
+/* Each function of khumsafil.h, accepted and refused. It ends with 0 where each is answered as the header says. */
+#include <string.h>
+
+#include "khumsafil.h"
+
+#include "expect.h"
+
+/* P1, its file, and P10: tap 23, data 41. */
+static const uint8_t p1[] = {0xC9, 0x70, 0x05, 0x12, 0x34, 0xC7, 0x00, 0x00};
+static const uint8_t p1_file[] = {0x01, 0x01, 0x08, 0xC9, 0x70, 0x05, 0x12, 0x34, 0xC7, 0x00, 0x00};
+static const uint8_t p10[] = {0x00, 0x00, 0x02, 0x00, 0x01, 0x02, 0x00, 0x02, 0x00, 0x17, 0x00, 0x01, 0x41};
+
+static khumsafil_shelf shelf, other;
+static uint8_t out[KHUMSAFIL_LARGEST_FILE];
+
+/* A section without a body: number and last, table 201, key 4660, that version. */
+static const uint8_t *section(uint8_t version, uint8_t number, uint8_t last) {
+    static uint8_t made[8];
+    memcpy(made, p1, sizeof made);
+    made[5] = (uint8_t)(0xC1 | version << 1), made[6] = number, made[7] = last;
+    return made;
+}
+
+static int version_and_words(void) {
+    unsigned number;
+    EXPECT(khumsafil_version() == KHUMSAFIL_VERSION);
+    EXPECT(strcmp(KHUMSAFIL_VERSION_TEXT, "0.2.0") == 0 && KHUMSAFIL_VERSION == 2 * 256);
+    EXPECT(strcmp(khumsafil_refusal_text(KHUMSAFIL_REFUSED_PAYLOAD_SHORT), "payload under 8 bytes") == 0);
+    EXPECT(strcmp(khumsafil_refusal_text(KHUMSAFIL_NOT_REFUSED), "no number of this library") == 0);
+    EXPECT(strcmp(khumsafil_refusal_text(256 + 1), "no number of this library") == 0);
+    for (number = 0; number < 300; number++)
+        EXPECT(khumsafil_refusal_text(number)[0] != 0);
+    return 0;
+}
+
+static int keys(void) {
+    const khumsafil_key key = khumsafil_key_of(201, 4660);
+    EXPECT(key.table_id == 201 && key.extension == 4660);
+    EXPECT(khumsafil_key_same(key, khumsafil_key_of(201, 4660)));
+    EXPECT(!khumsafil_key_same(key, khumsafil_key_of(202, 4660)) && !khumsafil_key_same(key, khumsafil_key_of(201, 4661)));
+    EXPECT(khumsafil_key_same(khumsafil_label_of(key, 3).key, key) && khumsafil_label_of(key, 3).version == 3);
+    return 0;
+}
+
+static int sections(void) {
+    static const uint8_t with_body[] = {0xC9, 0x70, 0x07, 0x12, 0x34, 0xC7, 0x01, 0x02, 0xAB, 0xCD};
+    khumsafil_section read = khumsafil_section_read(with_body, sizeof with_body);
+    EXPECT(!read.refusal && khumsafil_key_same(read.key, khumsafil_key_of(0xC9, 0x1234)));
+    EXPECT(read.version == 3 && read.number == 1 && read.last == 2);
+    EXPECT(read.body == with_body + 8 && read.body_length == 2);
+    read = khumsafil_section_read(with_body, sizeof with_body - 1);
+    EXPECT(read.refusal == KHUMSAFIL_REFUSED_LONGER_THAN_PAYLOAD);
+    EXPECT(khumsafil_key_same(read.key, khumsafil_key_of(0, 0)) && read.version == 0 && read.number == 0);
+    EXPECT(read.last == 0 && read.body == NULL && read.body_length == 0);
+    EXPECT(khumsafil_section_read(NULL, 0).refusal == KHUMSAFIL_REFUSED_PAYLOAD_SHORT);
+    return 0;
+}
+
+/* All members of a refused table are 0. */
+static int nothing_of(khumsafil_table table, khumsafil_refusal by) {
+    unsigned n;
+    EXPECT(table.refusal == by && khumsafil_key_same(table.key, khumsafil_key_of(0, 0)));
+    EXPECT(table.version == 0 && table.last == 0);
+    for (n = 0; n < KHUMSAFIL_SECTIONS; n++)
+        EXPECT(table.lengths[n] == 0);
+    return 0;
+}
+
+/* Every question about the key is refused by the number, the lamp is dark, and nothing else is said. */
+static int dark(khumsafil_key key, khumsafil_refusal by) {
+    const khumsafil_completeness completeness = khumsafil_shelf_completeness(&shelf, key);
+    const khumsafil_missing missing = khumsafil_shelf_lowest_missing(&shelf, key);
+    const khumsafil_size copied = khumsafil_shelf_copy_section(&shelf, key, 0, out, sizeof out);
+    const khumsafil_size saved = khumsafil_shelf_save(&shelf, key, out, sizeof out);
+    EXPECT(!khumsafil_shelf_is_complete(&shelf, key));
+    EXPECT(completeness.refusal == by && !completeness.complete);
+    EXPECT(missing.refusal == by && !missing.nothing_missing && missing.number == 0);
+    EXPECT(copied.refusal == by && copied.size == 0);
+    EXPECT(saved.refusal == by && saved.size == 0);
+    EXPECT(khumsafil_shelf_release(&shelf, key).refusal == by);
+    return 0;
+}
+
+static int shelves(void) {
+    const khumsafil_key key = khumsafil_key_of(201, 4660);
+    khumsafil_offered offered;
+    khumsafil_missing missing;
+    khumsafil_size size;
+    khumsafil_table table;
+    unsigned n;
+    EXPECT(!khumsafil_shelf_begin(&shelf).refusal);
+    EXPECT(dark(key, KHUMSAFIL_REFUSED_TABLE_NOT_HELD) == 0);
+    EXPECT(nothing_of(khumsafil_shelf_table(&shelf, 0), KHUMSAFIL_REFUSED_TABLE_NOT_HELD) == 0);
+
+    /* What each offer did, and the lamp at a gap and without one. */
+    offered = khumsafil_shelf_offer(&shelf, section(3, 0, 1), 7);
+    EXPECT(offered.refusal == KHUMSAFIL_REFUSED_PAYLOAD_SHORT && offered.accepted == KHUMSAFIL_SHELF_NOT_ACCEPTED);
+    offered = khumsafil_shelf_offer(&shelf, section(3, 0, 1), 8);
+    EXPECT(!offered.refusal && offered.accepted == KHUMSAFIL_SHELF_BEGAN);
+    EXPECT(!khumsafil_shelf_is_complete(&shelf, key));
+    EXPECT(!khumsafil_shelf_completeness(&shelf, key).refusal && !khumsafil_shelf_completeness(&shelf, key).complete);
+    missing = khumsafil_shelf_lowest_missing(&shelf, key);
+    EXPECT(!missing.refusal && !missing.nothing_missing && missing.number == 1);
+    EXPECT(khumsafil_shelf_offer(&shelf, section(3, 0, 1), 8).accepted == KHUMSAFIL_SHELF_REPEAT);
+    EXPECT(!khumsafil_shelf_is_complete(&shelf, key));
+    EXPECT(khumsafil_shelf_offer(&shelf, section(3, 1, 1), 8).accepted == KHUMSAFIL_SHELF_ADDED);
+    EXPECT(khumsafil_shelf_is_complete(&shelf, key));
+    EXPECT(!khumsafil_shelf_completeness(&shelf, key).refusal && khumsafil_shelf_completeness(&shelf, key).complete);
+    missing = khumsafil_shelf_lowest_missing(&shelf, key);
+    EXPECT(!missing.refusal && missing.nothing_missing && missing.number == 0);
+    EXPECT(!khumsafil_shelf_is_complete(&shelf, khumsafil_key_of(201, 4661)));
+    EXPECT(!khumsafil_shelf_is_complete(&shelf, khumsafil_key_of(202, 4660)));
+    EXPECT(khumsafil_shelf_offer(&shelf, section(4, 2, 5), 8).accepted == KHUMSAFIL_SHELF_BEGAN_AGAIN);
+
+    /* Which table is in a place. */
+    table = khumsafil_shelf_table(&shelf, 0);
+    EXPECT(!table.refusal && khumsafil_key_same(table.key, key) && table.version == 4 && table.last == 5);
+    for (n = 0; n < KHUMSAFIL_SECTIONS; n++)
+        EXPECT(table.lengths[n] == (n == 2 ? 8 : 0));
+    EXPECT(nothing_of(khumsafil_shelf_table(&shelf, 1), KHUMSAFIL_REFUSED_TABLE_NOT_HELD) == 0);
+    EXPECT(nothing_of(khumsafil_shelf_table(&shelf, 4), KHUMSAFIL_REFUSED_TABLE_NOT_HELD) == 0);
+
+    /* Copying out, saving, releasing and loading. */
+    size = khumsafil_shelf_copy_section(&shelf, key, 2, out, 8);
+    EXPECT(!size.refusal && size.size == 8 && memcmp(out, section(4, 2, 5), 8) == 0);
+    size = khumsafil_shelf_copy_section(&shelf, key, 2, out, 7);
+    EXPECT(size.refusal == KHUMSAFIL_REFUSED_OUTPUT_TOO_SMALL && size.size == 0);
+    size = khumsafil_shelf_copy_section(&shelf, key, 1, out, 8);
+    EXPECT(size.refusal == KHUMSAFIL_REFUSED_SECTION_NOT_HELD && size.size == 0);
+    EXPECT(!khumsafil_shelf_release(&shelf, key).refusal);
+    EXPECT(dark(key, KHUMSAFIL_REFUSED_TABLE_NOT_HELD) == 0);
+    table = khumsafil_shelf_load(&shelf, p1_file, sizeof p1_file);
+    EXPECT(!table.refusal && khumsafil_key_same(table.key, key) && table.version == 3 && table.last == 0);
+    EXPECT(table.lengths[0] == 8 && table.lengths[1] == 0 && khumsafil_shelf_is_complete(&shelf, key));
+    EXPECT(nothing_of(khumsafil_shelf_load(&shelf, p1_file, sizeof p1_file), KHUMSAFIL_REFUSED_KEY_HELD) == 0);
+    EXPECT(nothing_of(khumsafil_shelf_load(&shelf, p1_file, 10), KHUMSAFIL_REFUSED_BAD_FILE) == 0);
+    size = khumsafil_shelf_save(&shelf, key, out, sizeof p1_file);
+    EXPECT(!size.refusal && size.size == sizeof p1_file && memcmp(out, p1_file, sizeof p1_file) == 0);
+    size = khumsafil_shelf_save(&shelf, key, out, sizeof p1_file - 1);
+    EXPECT(size.refusal == KHUMSAFIL_REFUSED_OUTPUT_TOO_SMALL && size.size == 0);
+
+    /* A spoiled shelf refuses all, and its lamp is dark. */
+    shelf.record[66] = 32;
+    EXPECT(dark(key, KHUMSAFIL_REFUSED_SHELF_SPOILED) == 0);
+    offered = khumsafil_shelf_offer(&shelf, p1, sizeof p1);
+    EXPECT(offered.refusal == KHUMSAFIL_REFUSED_SHELF_SPOILED && offered.accepted == KHUMSAFIL_SHELF_NOT_ACCEPTED);
+    EXPECT(nothing_of(khumsafil_shelf_table(&shelf, 0), KHUMSAFIL_REFUSED_SHELF_SPOILED) == 0);
+    EXPECT(nothing_of(khumsafil_shelf_load(&shelf, p1_file, sizeof p1_file), KHUMSAFIL_REFUSED_SHELF_SPOILED) == 0);
+    EXPECT(!khumsafil_shelf_begin(&shelf).refusal);
+    EXPECT(dark(key, KHUMSAFIL_REFUSED_TABLE_NOT_HELD) == 0);
+    return 0;
+}
+
+/* Shelves are the same by their tables: not by free places, lengths not held or stores, and by nothing where spoiled. */
+static int same_shelves(void) {
+    const khumsafil_key key = khumsafil_key_of(201, 4660);
+    EXPECT(!khumsafil_shelf_begin(&shelf).refusal && !khumsafil_shelf_begin(&other).refusal);
+    EXPECT(khumsafil_shelf_same(&shelf, &other) && khumsafil_shelf_same(&shelf, &shelf));
+    EXPECT(!khumsafil_shelf_offer(&shelf, section(3, 1, 2), 8).refusal);
+    EXPECT(!khumsafil_shelf_same(&shelf, &other) && !khumsafil_shelf_same(&other, &shelf));
+    EXPECT(!khumsafil_shelf_offer(&other, section(4, 1, 2), 8).refusal);
+    EXPECT(!khumsafil_shelf_same(&shelf, &other));
+    EXPECT(!khumsafil_shelf_offer(&other, section(3, 1, 3), 8).refusal);
+    EXPECT(!khumsafil_shelf_same(&shelf, &other));
+    EXPECT(!khumsafil_shelf_offer(&other, section(4, 1, 2), 8).refusal);
+    EXPECT(!khumsafil_shelf_offer(&other, section(3, 0, 2), 8).refusal);
+    EXPECT(!khumsafil_shelf_same(&shelf, &other));
+    EXPECT(!khumsafil_shelf_release(&other, key).refusal);
+    EXPECT(!khumsafil_shelf_offer(&other, section(3, 1, 2), 8).refusal);
+    EXPECT(khumsafil_shelf_same(&shelf, &other));
+    other.record[0] = 77, other.record[64 + 4] = 600, other.store[0] = 9;
+    EXPECT(khumsafil_shelf_same(&shelf, &other));
+    other.record[1] = 9;
+    EXPECT(!khumsafil_shelf_same(&shelf, &other));
+    other.record[1] = 8, other.record[65]++;
+    EXPECT(!khumsafil_shelf_same(&shelf, &other));
+    other.record[65]--, other.record[64]++;
+    EXPECT(!khumsafil_shelf_same(&shelf, &other));
+    other.record[64]--;
+    EXPECT(khumsafil_shelf_same(&shelf, &other));
+    other.record[66] = 32;
+    EXPECT(!khumsafil_shelf_same(&shelf, &other) && !khumsafil_shelf_same(&other, &other));
+    return 0;
+}
+
+static int files(void) {
+    static const char listed[] = "table 201 key 4660 version 3 last 0\nsection 0 bytes 8\ncomplete\n";
+    static const uint8_t at_128[] = {0x80, 0x01}, not_shortest[] = {0x80, 0x00};
+    khumsafil_table table = khumsafil_file_table(p1_file, sizeof p1_file);
+    khumsafil_size size;
+    khumsafil_number number;
+    EXPECT(!table.refusal && khumsafil_key_same(table.key, khumsafil_key_of(201, 4660)) && table.version == 3);
+    EXPECT(table.last == 0 && table.lengths[0] == 8 && table.lengths[15] == 0);
+    EXPECT(nothing_of(khumsafil_file_table(p1_file, 1), KHUMSAFIL_REFUSED_BAD_NUMBER) == 0);
+    size = khumsafil_file_list(p1_file, sizeof p1_file, out, sizeof listed - 1);
+    EXPECT(!size.refusal && size.size == sizeof listed - 1 && memcmp(out, listed, sizeof listed - 1) == 0);
+    size = khumsafil_file_list(p1_file, sizeof p1_file, out, sizeof listed - 2);
+    EXPECT(size.refusal == KHUMSAFIL_REFUSED_OUTPUT_TOO_SMALL && size.size == 0);
+    number = khumsafil_file_number(at_128, sizeof at_128);
+    EXPECT(!number.refusal && number.value == 128 && number.size == 2);
+    number = khumsafil_file_number(not_shortest, sizeof not_shortest);
+    EXPECT(number.refusal == KHUMSAFIL_REFUSED_BAD_NUMBER && number.value == 0 && number.size == 0);
+    return 0;
+}
+
+static int loops(void) {
+    static const uint8_t loop[] = {1, 0, 2, 2, 7, 8}, cut[] = {1, 0, 2, 3, 7, 8};
+    static const char mark[] = "\x72\x18"
+                               "application/atsc-trigger";
+    khumsafil_step step = khumsafil_descriptor_step(loop, sizeof loop, 0);
+    uint8_t tap[sizeof mark - 1];
+    size_t at, steps;
+    EXPECT(!step.refusal && step.found == KHUMSAFIL_STEP_DESCRIPTOR && step.tag == 1);
+    EXPECT(step.content == loop + 2 && step.content_length == 0 && step.next == 2);
+    step = khumsafil_descriptor_step(loop, sizeof loop, step.next);
+    EXPECT(!step.refusal && step.found == KHUMSAFIL_STEP_DESCRIPTOR && step.tag == 2);
+    EXPECT(step.content == loop + 4 && step.content_length == 2 && step.next == 6);
+    step = khumsafil_descriptor_step(loop, sizeof loop, step.next);
+    EXPECT(!step.refusal && step.found == KHUMSAFIL_STEP_OVER && step.tag == 0);
+    EXPECT(step.content == NULL && step.content_length == 0 && step.next == sizeof loop);
+    step = khumsafil_descriptor_step(cut, sizeof cut, 2);
+    EXPECT(step.refusal == KHUMSAFIL_REFUSED_DESCRIPTOR_RUNS_PAST && step.found == KHUMSAFIL_STEP_NOTHING);
+    EXPECT(step.tag == 0 && step.content == NULL && step.content_length == 0 && step.next == sizeof cut);
+    step = khumsafil_descriptor_step(cut, sizeof cut, SIZE_MAX);
+    EXPECT(step.refusal == KHUMSAFIL_REFUSED_DESCRIPTOR_RUNS_PAST && step.next == sizeof cut);
+    step = khumsafil_descriptor_step(NULL, 0, 0);
+    EXPECT(!step.refusal && step.found == KHUMSAFIL_STEP_OVER && step.content == NULL && step.next == 0);
+
+    /* Walks that look at no refusal end, by the place and by what was found. */
+    for (at = 0, steps = 0; at < sizeof cut && steps < 9; steps++)
+        at = khumsafil_descriptor_step(cut, sizeof cut, at).next;
+    EXPECT(steps == 2);
+    for (at = 0, steps = 0; steps < 9; steps++) {
+        step = khumsafil_descriptor_step(cut, sizeof cut, at);
+        if (step.found == KHUMSAFIL_STEP_OVER)
+            break;
+        at = step.next;
+    }
+    EXPECT(steps == 2);
+
+    memcpy(tap, mark, sizeof tap);
+    EXPECT(khumsafil_descriptor_is_trigger_tap(tap, sizeof tap, 0));
+    EXPECT(!khumsafil_descriptor_is_trigger_tap(tap, sizeof tap - 1, 0));
+    EXPECT(!khumsafil_descriptor_is_trigger_tap(tap, sizeof tap, 1));
+    return 0;
+}
+
+/* All members of a refused trigger are 0, and it belongs to none. */
+static int no_trigger(const uint8_t *payload, size_t length, khumsafil_refusal by) {
+    const khumsafil_trigger t = khumsafil_trigger_read(payload, length);
+    unsigned n;
+    EXPECT(t.refusal == by && t.id_length == 0 && t.description == 0 && t.id.place == 0 && t.id.length == 0);
+    EXPECT(t.target.kind == KHUMSAFIL_TARGET_NOT_READ && t.target.type == 0 && t.target.tap == 0);
+    EXPECT(t.target.download == 0 && t.target.group == 0 && t.target.module == 0);
+    EXPECT(t.target.bytes.place == 0 && t.target.bytes.length == 0 && t.user.place == 0 && t.user.length == 0);
+    for (n = 0; n < KHUMSAFIL_TRIGGER_FIELDS; n++)
+        EXPECT(t.fields[n] == 0);
+    EXPECT(!khumsafil_trigger_belongs(payload, length, &t, NULL, 0));
+    EXPECT(!khumsafil_trigger_belongs(payload, length, &t, payload, length));
+    return 0;
+}
+
+static int triggers(void) {
+    static const uint8_t zeros[8] = {0}, module[] = {0, 0, 0, 1, 0, 6, 0, 1, 0, 2, 0, 3, 0, 0},
+                                   with_id[] = {0, 0, 4, 1, 2, 'A', 'B', 0, 0, 0, 0, 0};
+    khumsafil_trigger t = khumsafil_trigger_read(p10, sizeof p10);
+    uint8_t kind;
+    EXPECT(!t.refusal && t.id_length == 2 && t.description == 1 && t.id.place == 5 && t.id.length == 0);
+    EXPECT(t.target.kind == KHUMSAFIL_TARGET_TAP && t.target.type == 2 && t.target.tap == 23);
+    EXPECT(t.target.download == 0 && t.target.bytes.place == 0 && t.target.bytes.length == 0);
+    EXPECT(t.user.place == 12 && t.user.length == 1);
+    EXPECT(khumsafil_trigger_belongs(p10, sizeof p10, &t, NULL, 0));
+    EXPECT(!khumsafil_trigger_belongs(p10, sizeof p10, &t, p10, 1));
+    t = khumsafil_trigger_read(zeros, sizeof zeros);
+    EXPECT(!t.refusal && t.id_length == 0 && t.id.place == 3 && t.target.kind == KHUMSAFIL_TARGET_NONE);
+    EXPECT(t.user.place == 8 && t.user.length == 0 && khumsafil_trigger_belongs(zeros, sizeof zeros, &t, p10, 1));
+    t = khumsafil_trigger_read(module, sizeof module);
+    EXPECT(!t.refusal && t.target.kind == KHUMSAFIL_TARGET_MODULE && t.target.type == 1 && t.target.tap == 0);
+    EXPECT(t.target.download == 1 && t.target.group == 2 && t.target.module == 3 && t.target.bytes.length == 0);
+    t = khumsafil_trigger_read(with_id, sizeof with_id);
+    EXPECT(!t.refusal && t.id_length == 4 && t.description == 258 && t.id.place == 5 && t.id.length == 2);
+    EXPECT(khumsafil_trigger_belongs(with_id, sizeof with_id, &t, with_id + 5, 2));
+    EXPECT(!khumsafil_trigger_belongs(with_id, sizeof with_id, &t, with_id + 5, 1));
+    /* URIs, and the lowest and highest reserved type. */
+    for (kind = 3; kind < 8; kind++) {
+        uint8_t target[] = {0, 0, 0, 0, 0, 2, 'h', 't', 0, 0};
+        target[3] = kind < 7 ? kind : 0xFF;
+        t = khumsafil_trigger_read(target, sizeof target);
+        EXPECT(!t.refusal && t.target.type == target[3]);
+        EXPECT(t.target.kind == (kind == 3   ? KHUMSAFIL_TARGET_ABSOLUTE_URI
+                                 : kind == 4 ? KHUMSAFIL_TARGET_LID_URI
+                                 : kind == 5 ? KHUMSAFIL_TARGET_HTTP_URI
+                                             : KHUMSAFIL_TARGET_RESERVED));
+        EXPECT(t.target.bytes.place == 6 && t.target.bytes.length == 2 && t.target.tap == 0 && t.target.download == 0);
+    }
+    EXPECT(no_trigger(p10, 12, KHUMSAFIL_REFUSED_TRIGGER_CUT_OFF) == 0);
+    EXPECT(no_trigger(p1, sizeof p1, KHUMSAFIL_REFUSED_TRIGGER_OTHER_EVENT) == 0);
+    EXPECT(no_trigger(NULL, 0, KHUMSAFIL_REFUSED_TRIGGER_CUT_OFF) == 0);
+    return 0;
+}
+
+static khumsafil_activation activation(uint8_t application, uint16_t event, unsigned action, uint32_t time) {
+    khumsafil_activation made;
+    made.application = application;
+    made.event = event;
+    made.action = (khumsafil_action)action;
+    made.time = time;
+    return made;
+}
+
+static int refused_by_clock(khumsafil_clock *clock, khumsafil_activation offer, khumsafil_refusal by) {
+    const khumsafil_clock before = *clock;
+    const khumsafil_heard heard = khumsafil_clock_offer(clock, offer);
+    EXPECT(heard.refusal == by && heard.heard == KHUMSAFIL_HEARD_NOTHING);
+    EXPECT(memcmp(before.record, clock->record, sizeof before.record) == 0);
+    return 0;
+}
+
+static int clocks(void) {
+    khumsafil_clock clock;
+    khumsafil_heard heard;
+    khumsafil_moved moved;
+    khumsafil_time time;
+    khumsafil_state state;
+    EXPECT(!khumsafil_clock_fresh(&clock).refusal);
+    time = khumsafil_clock_time(&clock);
+    EXPECT(!time.refusal && time.time == 0);
+    state = khumsafil_clock_state(&clock, 5);
+    EXPECT(!state.refusal && state.state == KHUMSAFIL_STATE_RELEASED);
+    heard = khumsafil_clock_offer(&clock, activation(5, 1, KHUMSAFIL_ACTION_PREP, 0));
+    EXPECT(!heard.refusal && heard.heard == KHUMSAFIL_HEARD_APPLIED);
+    EXPECT(khumsafil_clock_state(&clock, 5).state == KHUMSAFIL_STATE_READY);
+    heard = khumsafil_clock_offer(&clock, activation(5, 1, KHUMSAFIL_ACTION_EXEC, 7));
+    EXPECT(!heard.refusal && heard.heard == KHUMSAFIL_HEARD_WAITING);
+    moved = khumsafil_clock_move(&clock, 6);
+    EXPECT(!moved.refusal && moved.applied == 0);
+    moved = khumsafil_clock_move(&clock, 70000);
+    EXPECT(!moved.refusal && moved.applied == 1);
+    EXPECT(khumsafil_clock_time(&clock).time == 70000);
+    EXPECT(khumsafil_clock_state(&clock, 5).state == KHUMSAFIL_STATE_ACTIVE);
+    EXPECT(!khumsafil_clock_offer(&clock, activation(5, 2, KHUMSAFIL_ACTION_SUSP, 10000)).refusal);
+    EXPECT(khumsafil_clock_state(&clock, 5).state == KHUMSAFIL_STATE_SUSPENDED);
+    EXPECT(!khumsafil_clock_offer(&clock, activation(5, 3, KHUMSAFIL_ACTION_KILL, 70000)).refusal);
+    EXPECT(khumsafil_clock_state(&clock, 5).state == KHUMSAFIL_STATE_RELEASED);
+
+    moved = khumsafil_clock_move(&clock, 69999);
+    EXPECT(moved.refusal == KHUMSAFIL_REFUSED_CLOCK_MOVED_BACK && moved.applied == 0);
+    state = khumsafil_clock_state(&clock, 8);
+    EXPECT(state.refusal == KHUMSAFIL_REFUSED_CLOCK_ABOVE && state.state == KHUMSAFIL_STATE_NOT_KNOWN);
+    EXPECT(refused_by_clock(&clock, activation(8, 1, 0, 70000), KHUMSAFIL_REFUSED_CLOCK_ABOVE) == 0);
+    EXPECT(refused_by_clock(&clock, activation(5, 1, 0, 9999), KHUMSAFIL_REFUSED_CLOCK_PAST) == 0);
+    EXPECT(refused_by_clock(&clock, activation(5, 3, 0, 70000), KHUMSAFIL_REFUSED_CLOCK_ALREADY_HELD) == 0);
+    EXPECT(refused_by_clock(&clock, activation(5, 1, 4, 70000), KHUMSAFIL_REFUSED_NO_SUCH_ACTION) == 0);
+#ifndef __cplusplus
+    /* A number that 8 bits cannot hold does not become an action by losing the rest. C++ has no such value of the type. */
+    EXPECT(refused_by_clock(&clock, activation(5, 1, 256, 70000), KHUMSAFIL_REFUSED_NO_SUCH_ACTION) == 0);
+    EXPECT(refused_by_clock(&clock, activation(5, 1, 0x80000001, 70000), KHUMSAFIL_REFUSED_NO_SUCH_ACTION) == 0);
+#endif
+    clock.record[2] = 33;
+    time = khumsafil_clock_time(&clock);
+    state = khumsafil_clock_state(&clock, 5);
+    moved = khumsafil_clock_move(&clock, 80000);
+    EXPECT(time.refusal == KHUMSAFIL_REFUSED_CLOCK_SPOILED && time.time == 0);
+    EXPECT(state.refusal == KHUMSAFIL_REFUSED_CLOCK_SPOILED && state.state == KHUMSAFIL_STATE_NOT_KNOWN);
+    EXPECT(moved.refusal == KHUMSAFIL_REFUSED_CLOCK_SPOILED && moved.applied == 0);
+    EXPECT(refused_by_clock(&clock, activation(5, 1, 0, 70000), KHUMSAFIL_REFUSED_CLOCK_SPOILED) == 0);
+    return 0;
+}
+
+/* Clocks are the same by time, states and the set held, and by nothing where spoiled. */
+static int same_clocks(void) {
+    khumsafil_clock a, b;
+    EXPECT(!khumsafil_clock_fresh(&a).refusal && !khumsafil_clock_fresh(&b).refusal);
+    EXPECT(khumsafil_clock_same(&a, &b));
+    EXPECT(!khumsafil_clock_move(&b, 1).refusal && !khumsafil_clock_same(&a, &b));
+    EXPECT(!khumsafil_clock_move(&a, 1).refusal && khumsafil_clock_same(&a, &b));
+    EXPECT(!khumsafil_clock_offer(&a, activation(1, 1, 1, 5)).refusal && !khumsafil_clock_same(&a, &b));
+    EXPECT(!khumsafil_clock_offer(&a, activation(2, 1, 1, 5)).refusal);
+    EXPECT(!khumsafil_clock_offer(&b, activation(2, 1, 1, 5)).refusal && !khumsafil_clock_same(&b, &a));
+    /* In another order they are the same set; with another action, event, application or time they are not. */
+    EXPECT(!khumsafil_clock_offer(&b, activation(1, 1, 1, 5)).refusal && khumsafil_clock_same(&a, &b));
+    b.record[6] ^= (uint32_t)1 << 24;
+    EXPECT(!khumsafil_clock_same(&a, &b));
+    b.record[6] ^= (uint32_t)1 << 24, b.record[6] ^= 2;
+    EXPECT(!khumsafil_clock_same(&a, &b));
+    b.record[6] ^= 2, b.record[6] ^= (uint32_t)4 << 16;
+    EXPECT(!khumsafil_clock_same(&a, &b));
+    b.record[6] ^= (uint32_t)4 << 16, b.record[5]++;
+    EXPECT(!khumsafil_clock_same(&a, &b));
+    /* What is disregarded makes no difference; a state does. */
+    b.record[5]--, b.record[6] ^= (uint32_t)1 << 27, b.record[66] = 9, b.record[1] ^= (uint32_t)1 << 16;
+    EXPECT(khumsafil_clock_same(&a, &b));
+    b.record[1] ^= 1;
+    EXPECT(!khumsafil_clock_same(&a, &b));
+    b.record[2] = 33;
+    EXPECT(!khumsafil_clock_same(&b, &b) && !khumsafil_clock_same(&a, &b) && !khumsafil_clock_same(&b, &a));
+    return 0;
+}
+
+static int writers(void) {
+    const khumsafil_label label = khumsafil_label_of(khumsafil_key_of(0xC9, 0x1234), 3);
+    khumsafil_count count = khumsafil_writer_count(1017);
+    khumsafil_size size;
+    EXPECT(!count.refusal && count.sections == 2);
+    count = khumsafil_writer_count(KHUMSAFIL_LARGEST_BODY + 1);
+    EXPECT(count.refusal == KHUMSAFIL_REFUSED_WRITER_BODY_TOO_LONG && count.sections == 0);
+    size = khumsafil_writer_section(label, NULL, 0, 0, out, sizeof out);
+    EXPECT(!size.refusal && size.size == sizeof p1 && memcmp(out, p1, sizeof p1) == 0);
+    size = khumsafil_writer_section(label, NULL, 0, 1, out, sizeof out);
+    EXPECT(size.refusal == KHUMSAFIL_REFUSED_WRITER_K_ABOVE_LAST && size.size == 0);
+    size = khumsafil_writer_file(label, NULL, 0, out, sizeof out);
+    EXPECT(!size.refusal && size.size == sizeof p1_file && memcmp(out, p1_file, sizeof p1_file) == 0);
+    size = khumsafil_writer_file(khumsafil_label_of(label.key, 32), NULL, 0, out, sizeof out);
+    EXPECT(size.refusal == KHUMSAFIL_REFUSED_WRITER_VERSION_ABOVE_31 && size.size == 0);
+    return 0;
+}
+
+int main(void) {
+    return version_and_words() || keys() || sections() || shelves() || same_shelves() || files() || loops() || triggers() ||
+           clocks() || same_clocks() || writers();
+}
