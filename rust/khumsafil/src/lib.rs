@@ -1,5 +1,18 @@
 //! Khumsafil for a Rust host: safe functions over the proved library, each with a type for its answer.
-//! A call allocates nothing, keeps nothing and never panics, and nothing here needs `std`.
+//! A call allocates nothing, keeps nothing and never panics.
+//!
+//! Nothing here needs `std`. The library calls `memcpy`, `memmove` and `memset`, which a host without a C library has to bring.
+//!
+//! ```
+//! use khumsafil::shelf::{Shelf, STORE};
+//! use khumsafil::{Key, Refusal};
+//!
+//! let mut store = vec![0; STORE];
+//! let mut shelf = Shelf::begin(&mut store)?;
+//! shelf.offer(b"\xC9\x70\x0A\x12\x34\xC7\x00\x00Ferry")?;
+//! assert!(shelf.is_complete(Key::new(201, 4_660)));
+//! # Ok::<(), Refusal>(())
+//! ```
 
 #![no_std]
 #![deny(missing_docs)]

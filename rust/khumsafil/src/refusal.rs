@@ -83,3 +83,17 @@ impl fmt::Display for Refusal {
 }
 
 impl core::error::Error for Refusal {}
+
+#[cfg(test)]
+mod tests {
+    use super::Refusal;
+
+    #[test]
+    fn a_number_without_a_name_has_words_too() {
+        let named = |number| Refusal::ALL.iter().any(|(_, one)| one.number() == number);
+        for number in 0..=255 {
+            let text = Refusal::of(number).text();
+            assert_eq!(text != "no number of this library", named(number));
+        }
+    }
+}

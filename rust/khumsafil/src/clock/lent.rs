@@ -24,7 +24,7 @@ fn answered(word: u16) -> Result<u8, Refusal> {
     }
 }
 
-/// Makes the record a clock at 0 with every application Released. Refused: 35, another number of numbers.
+/// Makes the record a clock at 0 with every application Released. Refused: 35, where it is of another size.
 #[inline]
 pub fn fresh(record: &mut [u32]) -> Result<(), Refusal> {
     // SAFETY: the pointer and the length are those of a slice.

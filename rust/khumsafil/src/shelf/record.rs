@@ -2,7 +2,7 @@
 
 use super::{PLACES, RECORD, SECTIONS};
 
-/// A shelf's record, apart from its store: 84 numbers, to put away and to take up again.
+/// A shelf's record, apart from its store: [`RECORD`] numbers, to put away and to take up again.
 ///
 /// Any numbers are some record; [`super::Shelf::resume`] refuses one that is spoiled. Two records are equal where their
 /// taken places are: what the numbers of a free place happen to be does not matter, nor the length of a section that is

@@ -184,7 +184,8 @@ pub fn equal(a: &[u32; RECORD], b: &[u32; RECORD]) -> Option<bool> {
     let ((one, their_one), (two, their_two)) = (resumed(a)?, resumed(b)?);
     let same = theirs::equal(&their_one, &their_two);
     assert_eq!(one == two, same, "{a:?} and {b:?}");
-    assert_eq!(two == one, same, "{b:?} and {a:?}");
+    let turned = theirs::equal(&their_two, &their_one);
+    assert_eq!((two == one, turned), (same, same), "{b:?} and {a:?}");
     assert!(one == one.clone() && two == two.clone(), "a clock is itself");
     Some(same)
 }

@@ -64,7 +64,7 @@ pub fn list(bytes: &[u8], less: usize) -> u8 {
     let refused = text.strip_prefix("refused ").map(str::trim_end);
     let refused = refused.map_or(0, |n| n.parse().expect("a number"));
     assert_eq!(table(bytes, less), refused, "listed and told: {bytes:02X?}");
-    for at in 0..bytes.len().min(4) {
+    for at in 0..=bytes.len().min(3) {
         number(&bytes[at..]);
     }
     refused

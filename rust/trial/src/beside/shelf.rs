@@ -43,17 +43,19 @@ pub fn fields(table: &theirs::Table) -> [u16; TABLE_FIELDS] {
 
 /// Whether the two tables are one.
 pub fn same_table(ours: &ours::Table, other: &theirs::Table) -> bool {
-    let numbers = 0..SECTIONS as u8;
-    let missing = numbers.filter(|n| *n <= other.last && other.lengths[usize::from(*n)] == 0);
-    let missing: Vec<u8> = missing.collect();
     let held = |n: u8| other.lengths.get(usize::from(n)).copied().unwrap_or(0);
+    let missing = || (0..=other.last).filter(|n| held(*n) == 0);
+    // Those past a table's numbers are not held.
+    let mut asked = (0..SECTIONS as u8 + 2).chain([128, 255]);
     ours.key == Key::new(other.table_id, other.extension)
         && (ours.version, ours.last) == (other.version, other.last)
         && ours.lengths == other.lengths
-        && ours.missing().eq(missing.iter().copied())
-        && ours.is_complete() == missing.is_empty()
-        && (0..=255).all(|n| ours.holds(n) == (held(n) > 0))
-        && (0..=255).all(|n| ours.length(n).unwrap_or(0) == usize::from(held(n)))
+        && ours.missing().eq(missing())
+        && ours.is_complete() == (missing().count() == 0)
+        && asked.all(|n| {
+            let length = ours.length(n).unwrap_or(0);
+            ours.holds(n) == (length > 0) && length == usize::from(held(n))
+        })
 }
 
 /// A call by the library over a record and a store that are lent.
@@ -318,8 +320,9 @@ pub fn equal(a: &[u16; RECORD], b: &[u16; RECORD], store: &[u8]) -> bool {
     let (again_one, again_two) = (ours::Record::from(*a), ours::Record::from(*b));
     assert!(one == again_one && two == again_two, "a record is itself");
     if shown(a) || shown(b) {
-        let other = theirs::equal(&decode(a), &decode(b));
-        assert_eq!(same, other, "{a:?} and {b:?}");
+        let (a, b) = (decode(a), decode(b));
+        let other = (theirs::equal(&a, &b), theirs::equal(&b, &a));
+        assert_eq!((same, same), other, "{a:?} and {b:?}");
     }
     let tables = |record: &[u16; RECORD]| {
         let places = (0..PLACES as u8).map(|place| lent::table(record, store, place));
