@@ -15,6 +15,7 @@ pub mod sections;
 pub mod shelf;
 pub mod tally;
 pub mod triggers;
+pub mod vectors;
 
 use std::path::{Path, PathBuf};
 use std::process::Command;
