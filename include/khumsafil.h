@@ -711,11 +711,12 @@ static inline khumsafil_state khumsafil_clock_state(const khumsafil_clock *clock
  */
 static inline bool khumsafil_clock_same(const khumsafil_clock *a, const khumsafil_clock *b) {
     uint32_t i, j;
-    if (khumsafil_clock_time(a).refusal || khumsafil_clock_time(b).refusal)
+    if (khumsafil_clock_time(a).refusal)
         return false;
     if (a->record[0] != b->record[0] || ((a->record[1] ^ b->record[1]) & 0xFFFF) != 0 || a->record[2] != b->record[2])
         return false;
-    /* No two of a clock are alike, so as many that are all found are the same set. The low 27 bits are an activation's. */
+    /* No two of a are alike, so where as many are all found in b they are the same set, and b is as sound as a. The low 27
+       bits are an activation's. */
     for (i = 0; i < a->record[2]; i++) {
         for (j = 0; j < b->record[2]; j++)
             if (a->record[3 + 2 * i] == b->record[3 + 2 * j] &&

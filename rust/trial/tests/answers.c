@@ -394,6 +394,10 @@ static int same_clocks(void) {
     EXPECT(!khumsafil_clock_same(&a, &b));
     b.record[2] = 33;
     EXPECT(!khumsafil_clock_same(&b, &b) && !khumsafil_clock_same(&a, &b) && !khumsafil_clock_same(&b, &a));
+    /* One that holds the same activation twice is spoiled, and not the same as one that holds it and another. */
+    b = a, b.record[5] = b.record[3], b.record[6] = b.record[4];
+    EXPECT(khumsafil_clock_time(&b).refusal && !khumsafil_clock_same(&b, &a) && !khumsafil_clock_same(&a, &b));
+    EXPECT(!khumsafil_clock_same(&b, &b) && khumsafil_clock_same(&a, &a));
     return 0;
 }
 

@@ -28,8 +28,8 @@ pub fn table(bytes: &[u8], less: usize) -> u8 {
     assert!(same, "{answer:?} is not {other:?}: {bytes:02X?}");
     let short = TABLE_FIELDS - 1 - less % TABLE_FIELDS;
     for room in [short, TABLE_FIELDS, TABLE_FIELDS + 3] {
-        let mut lent = vec![UNWRITTEN; room];
-        let answer = file::table_fields(bytes, &mut lent).map_err(Refusal::number);
+        let mut given = vec![UNWRITTEN; room];
+        let answer = file::table_fields(bytes, &mut given).map_err(Refusal::number);
         let number = match &other {
             Err(number) => *number,
             Ok(_) if room < TABLE_FIELDS => 15,
@@ -38,9 +38,9 @@ pub fn table(bytes: &[u8], less: usize) -> u8 {
         assert_eq!(answer.err().unwrap_or(0), number, "{room}: {bytes:02X?}");
         let written = if number == 0 { TABLE_FIELDS } else { 0 };
         if let (0, Ok(table)) = (number, &other) {
-            assert_eq!(lent[..TABLE_FIELDS], fields(table), "{bytes:02X?}");
+            assert_eq!(given[..TABLE_FIELDS], fields(table), "{bytes:02X?}");
         }
-        let kept = lent[written..].iter().all(|n| *n == UNWRITTEN);
+        let kept = given[written..].iter().all(|n| *n == UNWRITTEN);
         assert!(kept, "{room}: past the answer of {bytes:02X?}");
     }
     other.err().unwrap_or(0)

@@ -202,8 +202,8 @@ impl Both {
                 0 => self.calls / 4 % TABLE_FIELDS,
                 more => TABLE_FIELDS + more - 1,
             };
-            let mut lent = [UNWRITTEN_NUMBER; TABLE_FIELDS + 2];
-            let answer = lent::table_fields(record, store, place, &mut lent[..room]);
+            let mut given = [UNWRITTEN_NUMBER; TABLE_FIELDS + 2];
+            let answer = lent::table_fields(record, store, place, &mut given[..room]);
             let number = match other {
                 Err(number) => number,
                 Ok(_) if room < TABLE_FIELDS => 15,
@@ -213,9 +213,9 @@ impl Both {
             assert_eq!(answer, number, "{place} of {record:?}, room {room}");
             let written = if number == 0 { TABLE_FIELDS } else { 0 };
             if let (0, Ok(table)) = (number, &other) {
-                assert_eq!(lent[..TABLE_FIELDS], fields(table), "{place} of {record:?}");
+                assert_eq!(given[..TABLE_FIELDS], fields(table), "{place} of {record:?}");
             }
-            let kept = lent[written..].iter().all(|n| *n == UNWRITTEN_NUMBER);
+            let kept = given[written..].iter().all(|n| *n == UNWRITTEN_NUMBER);
             assert!(kept, "{place} of {record:?}, room {room}: past the answer");
             let met = [0, 14, 15, 17, 18].iter().position(|n| *n == number);
             self.tables[met.expect("an answer of this question")] += 1;
@@ -297,10 +297,10 @@ impl Both {
         assert!(record.iter().all(|n| *n == 0x0101), "{call:?}");
         assert!(out.iter().all(|b| *b == UNWRITTEN), "{call:?}");
         for place in 0..ASKED {
-            let mut lent = [UNWRITTEN_NUMBER; TABLE_FIELDS];
-            let answer = lent::table_fields(&record, &self.store[..size], place, &mut lent);
+            let mut given = [UNWRITTEN_NUMBER; TABLE_FIELDS];
+            let answer = lent::table_fields(&record, &self.store[..size], place, &mut given);
             assert_eq!(answer, Err(refusal), "{place}, {count} numbers");
-            assert_eq!(lent, [UNWRITTEN_NUMBER; TABLE_FIELDS], "{place}");
+            assert_eq!(given, [UNWRITTEN_NUMBER; TABLE_FIELDS], "{place}");
         }
     }
 
