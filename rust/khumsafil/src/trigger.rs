@@ -56,17 +56,17 @@ pub const LARGEST: usize = 4_096;
 /// How many numbers a trigger is answered in.
 pub const FIELDS: usize = 11;
 
-/// Reads the payload as a trigger into the first [`FIELDS`] numbers of `out`, in the header's order. Refused: 26, 20 to
-/// 25, and 15 where `out` has room for fewer.
+/// Reads the payload as a trigger into the first [`FIELDS`] numbers of `fields`, in the header's order. Refused: 26, 20 to
+/// 25, and 15 where fewer are lent.
 #[inline]
-pub fn fields(payload: &[u8], out: &mut [u16]) -> Result<(), Refusal> {
+pub fn fields(payload: &[u8], fields: &mut [u16]) -> Result<(), Refusal> {
     // SAFETY: pointers and lengths are those of slices, and the one that is written is not part of the other.
     let number = unsafe {
         boundary::khumsafil_raw_trigger_read(
             payload.as_ptr(),
             payload.len(),
-            out.as_mut_ptr(),
-            out.len(),
+            fields.as_mut_ptr(),
+            fields.len(),
         )
     };
     match number {
