@@ -63,6 +63,10 @@ fn feed() -> Result<(), Fault> {
 }
 
 fn main() -> ExitCode {
+    if env::args_os().skip(1).eq(["--help"]) {
+        println!("{USAGE}");
+        return ExitCode::SUCCESS;
+    }
     match feed() {
         Ok(()) => ExitCode::SUCCESS,
         Err(Fault::Said(why)) => {

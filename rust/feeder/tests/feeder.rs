@@ -132,6 +132,13 @@ fn arguments_that_are_no_label() {
     for words in wrong {
         silent(&run(feeder(words), b"body"), usage, 2);
     }
+    let helped = run(feeder(&["--help"]), b"body");
+    assert_eq!(helped.status.code(), Some(0));
+    assert_eq!(
+        String::from_utf8_lossy(&helped.stdout),
+        format!("{usage}\n")
+    );
+    assert!(helped.stderr.is_empty());
 }
 
 /// A read that fails is not the end of the body, and a file that cannot be written is no success.

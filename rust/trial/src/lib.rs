@@ -5,6 +5,7 @@
 
 pub mod beside;
 pub mod clocks;
+pub mod commands;
 pub mod declarations;
 pub mod files;
 pub mod inputs;
