@@ -61,7 +61,7 @@ load-code : (h : History) (file : List ℕ) → loadAfter h file .code ≡ loade
 load-code h file = ap (λ a. a .code) (next-answer h (load file))
 
 -- .. from which it comes back
-load-told : (h : History) (file : List ℕ) → loadedIn (loadAfter h file .code) ≡ loadOn (afterAll (h .calls)) file .said
+pub load-told : (h : History) (file : List ℕ) → loadedIn (loadAfter h file .code) ≡ loadOn (afterAll (h .calls)) file .said
 load-told h file =
     let t = afterAll (h .calls) in
     ap loadedIn (load-code h file) ∙ loaded-told (loadOn t file .said) (range t (holds-all (h .calls) .good) (load file))

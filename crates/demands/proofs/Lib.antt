@@ -1,6 +1,7 @@
 pub mod Shelf
 pub mod Offers
 pub mod Files
+pub mod Tables
 pub mod Bench
 pub mod Linked
 pub mod Clock

@@ -1,5 +1,5 @@
 -- The buyer's third condition, proved of the functions that a host calls: the layer's laws, told of lent numbers.
---   held-exactly, complete-exactly, more-reception, asked-exactly, released-exactly, never-17-18, handed-out
+--   held-exactly, complete-exactly, lamp-exactly, more-reception, asked-exactly, released-exactly, never-17-18, handed-out
 use mathlib.Core.Path.{_≡_, refl, sym, ap, subst, _∙_}
 use mathlib.Core.Bool.{Bool, true, false}
 use mathlib.Core.Logic.{_↔_}
@@ -30,13 +30,14 @@ use Rattle.shelf_laws.proofs.Histories.{holds-all}
 use Rattle.shelf_offer.specs.Answer.{offeredCode}
 use Rattle.shelf_release.specs.declared.Released.{Released}
 use Rattle.shelf_release.specs.Answer.{releasedCode}
-use Rattle.shelf_ask.specs.Answer.{wholeCode, wholeBack, copyOut}
+use Rattle.shelf_ask.specs.Answer.{wholeCode, wholeBack, isComplete, wholeLent, completeLent, copyOut}
+use Rattle.shelf_ask.proofs.Told.{complete-plainly}
 use Rattle.shelf_histories.specs.Numbers.{replied, answered, inNumbers}
-use Rattle.shelf_histories.specs.History.{History, logAfter, wholeAfter, EachLine}
+use Rattle.shelf_histories.specs.History.{History, leftAfter, logAfter, wholeAfter, EachLine}
 use Rattle.shelf_histories.proofs.Back.{whole-told, entry-number}
 use Rattle.shelf_histories.proofs.OneHistory.{one-history}
 use Rattle.shelf_histories.proofs.After.{reply-range, reply-after, reply-refusal, next-answer, next-reply}
-use Rattle.demands.specs.Shelf.{complete, HeldExactly, CompleteExactly, MoreReception, AskedExactly, ReleasedExactly, Never17Nor18, HandedOut}
+use Rattle.demands.specs.Shelf.{complete, HeldExactly, CompleteExactly, LampExactly, MoreReception, AskedExactly, ReleasedExactly, Never17Nor18, HandedOut}
 
 -- an offer that is not refused is accepted
 accepted-by : (a : Offered) → OfferRange a → refusalIn (offeredCode a) ≡ 0 → accepted a ≡ true
@@ -82,6 +83,22 @@ complete-exactly h key =
     (λ t.
     let both = complete-table.complete-exactly (h .calls) key t in
     (λ e. both .0 (complete-by h key e), λ a. by-complete h key (both .1 a)))
+
+-- the number of a table that is called complete is no 14
+held-by-whole : (h : History) (key : Key) → wholeAfter h key ≡ complete → heldBy key (logAfter h) ≡ true
+held-by-whole h key e = held-exactly h (whole key) .0 (λ z. let q : refusalIn complete ≡ 14 = ap refusalIn (sym e) ∙ z in omega arith)
+
+pub lamp-exactly : LampExactly
+unfolding wholeLent completeLent
+lamp-exactly h key = (
+  λ e.
+      let called : wholeAfter h key ≡ complete = ap wholeCode (complete-plainly (leftAfter h .words) (leftAfter h .store) key .0 e) in
+      let held = held-by-whole h key called in
+      (held, complete-exactly h key held .0 called),
+  λ w.
+      ap (λ s. isComplete (wholeIn s key)) (one-history .1 h .state)
+      ∙ ap isComplete (complete-by h key (complete-exactly h key (w .0) .1 (w .1))),
+)
 
 pub more-reception : MoreReception
 more-reception key version last bytes first second calm-first calm-second offers =

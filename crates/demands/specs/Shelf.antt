@@ -2,7 +2,7 @@
 --
 -- "On a shelf begun fresh and handed back as left, a held table is called complete exactly when every section from 0 to its last
 -- was accepted or loaded since it last began, by a hearing while unheld, change of version or load."
---   HeldExactly, CompleteExactly
+--   HeldExactly, CompleteExactly; LampExactly of the question that answers yes or no
 --
 -- "More reception takes nothing away: take two such histories where one table's sound sections share one version, one last number
 -- and the same bytes per section number, none met a full shelf, and the table was neither released nor loaded. If the second
@@ -15,7 +15,7 @@
 -- specs/Log) read that log alone, and never the record. `Undisturbed` and `SectionOf` are in shelf_laws, specs/Reception.
 use Prim.Native.Nat.{ℕ, _≤_}
 use mathlib.Core.Path.{_≡_}
-use mathlib.Core.Bool.{true}
+use mathlib.Core.Bool.{Bool, true}
 use mathlib.Core.Logic.{_↔_}
 use mathlib.Core.List.{List}
 use lib.ListN.{length}
@@ -25,14 +25,14 @@ use Rattle.section.specs.Section.{sectionNumber}
 use Rattle.answers.specs.Answers.{refusalIn, filled}
 use Rattle.shelf.specs.declared.Key.{Key}
 use Rattle.shelf_ask.specs.declared.Whole.{Whole}
-use Rattle.shelf_ask.specs.Answer.{wholeCode, copyLent}
+use Rattle.shelf_ask.specs.Answer.{wholeCode, completeLent, copyLent}
 use Rattle.shelf_laws.specs.History.{Question, about, Each}
 use Rattle.shelf_laws.specs.Named.{keyIn}
 use Rattle.shelf_laws.specs.Log.{heldBy, since, lastSince}
 use Rattle.shelf_laws.specs.Questions.{replyBy}
 use Rattle.shelf_laws.specs.Reception.{SectionOf, OfferedIn, Undisturbed}
 use Rattle.shelf_histories.specs.Numbers.{replied}
-use Rattle.shelf_histories.specs.History.{History, logAfter, linesAfter, replyAfter, wholeAfter, copyAfter, offerAfter, releaseAfter, EachLine}
+use Rattle.shelf_histories.specs.History.{History, leftAfter, logAfter, linesAfter, replyAfter, wholeAfter, copyAfter, offerAfter, releaseAfter, EachLine}
 
 -- the number that calls a table complete
 abbrev pub complete : ℕ
@@ -47,6 +47,16 @@ CompleteExactly =
     (h : History) (key : Key)
     → heldBy key (logAfter h) ≡ true
     → (wholeAfter h key ≡ complete) ↔ ((n : ℕ) → n ≤ lastSince key (logAfter h) → since key (logAfter h) n ≡ true)
+
+-- the lamp's question, as a plain truth: yes exactly when the table is held and complete in this sense, and no refusal is a yes
+abbrev pub lampAfter : History → Key → Bool
+lampAfter h key = completeLent (leftAfter h .words) (leftAfter h .store) key
+
+abbrev pub LampExactly : Type 0
+LampExactly =
+    (h : History) (key : Key)
+    → (lampAfter h key ≡ true)
+    ↔ ((heldBy key (logAfter h) ≡ true) × ((n : ℕ) → n ≤ lastSince key (logAfter h) → since key (logAfter h) n ≡ true))
 
 abbrev pub MoreReception : Type 0
 MoreReception =
