@@ -140,7 +140,7 @@ pub fn clock_time(words: &[u32]) -> u64
 }
 
 // The state of an application.
-pub fn application_state(words: &[u32], application: u8) -> u16
+pub fn clock_state(words: &[u32], application: u8) -> u16
     ensures { λ r. ⌜ r ≡ stateCall (now (words .entry)) application ⌝ }
 {
     if words.len() != SIZE {

@@ -48,5 +48,5 @@ pub extern "C" fn khumsafil_raw_clock_time(record: &[u32]) -> u64
 pub extern "C" fn khumsafil_raw_clock_state(record: &[u32], application: u8) -> u16
     ensures { λ r. ⌜ r ≡ stateCall (now («record» .entry)) application ⌝ }
 {
-    clock_answers::application_state(record, application)
+    clock_answers::clock_state(record, application)
 }

@@ -1,17 +1,19 @@
 -- Where a table is held, case by case, what is so of a table that is, and what an answer is in either case.
+--   no-17, no-18, no-none            17 and 18 as they are found; lent-whole, lent-sound: neither is so
+--   in-refused                       .. and the answer of `holdingOf` where one is
 --   in-17, in-18, in-14, in-place    the answer of `holdingOf`, by what was tested
 --   held                             what is so of a table that is held in place p (`In`)
 --   copy-refused, copy-held          the answer of `copyOf`, by that of `holdingOf`; so for `wholeOf` and `missingOf`
 use mathlib.Core.Path.{_≡_, refl, sym, ap, subst, _∙_}
-use mathlib.Core.Bool.{true, false}
+use mathlib.Core.Bool.{true, false, not}
 use mathlib.Core.List.{List, [], _∷_, _++_}
 use mathlib.Core.Logic.{⊎-elim}
 use Prim.Native.Nat.{ℕ, _<_, _≤_}
 use native.Mathlib.Omega.{arith}
-use lib.Dec.{ltb}
+use lib.Dec.{ltb, eqb}
 use lib.ListN.{length}
 use borrow.Author.Tests.{lt-ltb, le-ltb, le-leb, eq-eqb, ne-eqb, ltb-true, ltb-false}
-use Rattle.base.specs.Choice.{if_then_else_, Row, first}
+use Rattle.base.specs.Choice.{if_then_else_, Row, _if_, first}
 use Rattle.base.proofs.Cases.{by, same-or}
 use Rattle.berth.specs.Berth.{places, sections, berthSize, storeSize}
 use Rattle.berth.specs.Calls.{goesIn, copiedIn}
@@ -21,14 +23,51 @@ use Rattle.shelf.specs.declared.Key.{Key}
 use Rattle.shelf.specs.Record.{Shelf}
 use Rattle.shelf.proofs.Find.{place-le, place-taken}
 use Rattle.shelf.proofs.Words.{sound-place}
-use Rattle.shelf_ask.specs.Ask.{unaskedBy, holdingOf, uncopied, copyFrom, asked, copy, Copy, copyOf, wholeOf, missingOf, complete, lowestMissing}
+use Rattle.shelf_ask.specs.Ask.{unlentBy, unlentNo, unaskedBy, holdingOf, uncopied, copyFrom, asked, copy, Copy, copyOf, wholeOf, missingOf, complete, lowestMissing}
 use Rattle.shelf_ask.proofs.Gaps.{gap-complete, gap-incomplete}
 use Rattle.shelf_ask.specs.declared.Holding.{Holding}
 use Rattle.shelf_ask.specs.declared.Copied.{Copied}
 use Rattle.shelf_ask.specs.declared.Whole.{Whole}
 use Rattle.shelf_ask.specs.declared.Missing.{Missing}
 
+-- 17 and 18, as they are found
+module _ (shelf : Shelf) (size : ℕ) where
+  pub no-17 : (size ≡ storeSize → ⊥) → 17 ≡ unlentNo shelf size
+  unfolding unlentNo
+  no-17 h = rw (ne-eqb size storeSize h)
+
+  module _ (w : size ≡ storeSize) where
+    pub no-18 : spoiledOf shelf ≡ true → 18 ≡ unlentNo shelf size
+    unfolding unlentNo
+    no-18 h = rw (eq-eqb size storeSize w, h)
+
+    pub no-none : spoiledOf shelf ≡ false → 0 ≡ unlentNo shelf size
+    unfolding unlentNo
+    no-none h = rw (eq-eqb size storeSize w, h)
+
+  -- neither is so
+  pub lent-whole : unlentNo shelf size ≡ 0 → size ≡ storeSize
+  lent-whole e = ⊎-elim (λ w. w) (λ w. let z : 17 ≡ 0 = no-17 w ∙ e in absurd (omega arith)) (same-or size storeSize)
+
+  pub lent-sound : unlentNo shelf size ≡ 0 → spoiledOf shelf ≡ false
+  lent-sound e = by (spoiledOf shelf) (λ t. let z : 18 ≡ 0 = no-18 (lent-whole e) t ∙ e in absurd (omega arith)) (λ f. f)
+
+  -- a table of refusals that begins with them gives the one that is so
+  pub unlent-refused : {A : Type 0} (refused : ℕ → A) (rest : List Row) (other : A) → (unlentNo shelf size ≡ 0 → ⊥)
+      → first refused (unlentBy shelf size ++ rest) other ≡ refused (unlentNo shelf size)
+  unfolding unlentNo
+  unlent-refused refused rest other d =
+      by (not (eqb size storeSize))
+      (λ t. rw t)
+      (λ f. by (spoiledOf shelf) (λ t. rw (f, t)) (λ g. absurd (d (rw (f, g)))))
+
 module _ (shelf : Shelf) (size : ℕ) (key : Key) where
+  pub in-refused : {n : ℕ} → n ≡ unlentNo shelf size → (n ≡ 0 → ⊥) → Holding.Refused n ≡ holdingOf shelf size key
+  unfolding holdingOf
+  in-refused e d =
+      ap Holding.Refused e
+      ∙ sym (unlent-refused shelf size Holding.Refused (14 if eqb (placeOf shelf key) places ∷ []) (Holding.In (placeOf shelf key)) (λ z. d (e ∙ z)))
+
   pub in-17 : (size ≡ storeSize → ⊥) → holdingOf shelf size key ≡ Holding.Refused 17
   unfolding holdingOf
   in-17 h = rw (ne-eqb size storeSize h)

@@ -1,5 +1,5 @@
 -- The table in a place.
---   taken-17, taken-18, taken-14, taken-place     the answer of `takenOf`, by what was tested
+--   taken-refused, taken-14, taken-place          the answer of `takenOf`, by what was tested
 --   taken-says                                    what is so of a place that is taken (`TakenIn`)
 --   head-taken, head-free                         whether a place is taken is told by the first number of its head
 --   table-read                                    the table, in the numbers of a record that has it
@@ -15,7 +15,7 @@ use native.Mathlib.Omega.{arith}
 use lib.Dec.{ltb}
 use lib.ListN.{length, getD, List·getD-eq-default}
 use borrow.Author.Tests.{eq-eqb, ne-eqb, le-ltb, ltb-true, ltb-false, eqb-true}
-use Rattle.base.specs.Choice.{Row, first}
+use Rattle.base.specs.Choice.{_if_}
 use Rattle.base.proofs.Cases.{by, same-or}
 use Rattle.berth.specs.Berth.{places, storeSize}
 use Rattle.answers.specs.Answers.{told, out, puts}
@@ -27,19 +27,26 @@ use Rattle.shelf.specs.Layout.{shelfAt, shelfIn, tableIn, lengthsIn, lengthIn, 
 use Rattle.shelf.specs.Calls.{keyAmong, lengthAmong}
 use Rattle.shelf.proofs.Lists.{listed-same}
 use Rattle.shelf.proofs.Numbers.{at-count, spoiled-count, taken-at, table-at, among-key, among-version, among-last, among-length}
+use Rattle.shelf_ask.specs.Ask.{unlentNo}
 use Rattle.shelf_ask.specs.Tables.{tableOf, untold, takenOf, tableTold}
 use Rattle.shelf_ask.specs.Calls.{tableAmong}
 use Rattle.shelf_ask.specs.Answer.{tableLent}
 use Rattle.shelf_ask.specs.declared.Holding.{Holding}
-use Rattle.shelf_ask.proofs.Held.{never, still, past}
+use Rattle.shelf_ask.proofs.Held.{unlent-refused, never, still, past}
 
 module _ (shelf : Shelf) (size p : ℕ) where
-  pub taken-17 : (size ≡ storeSize → ⊥) → takenOf shelf size p ≡ Holding.Refused 17
+  pub taken-refused : {n : ℕ} → n ≡ unlentNo shelf size → (n ≡ 0 → ⊥) → Holding.Refused n ≡ takenOf shelf size p
+  unfolding takenOf
+  taken-refused e d =
+      ap Holding.Refused e
+      ∙ sym (unlent-refused shelf size Holding.Refused (14 if not (placeAt shelf p .taken) ∷ []) (Holding.In p) (λ z. d (e ∙ z)))
+
+  taken-17 : (size ≡ storeSize → ⊥) → takenOf shelf size p ≡ Holding.Refused 17
   unfolding takenOf
   taken-17 h = rw (ne-eqb size storeSize h)
 
   module _ (w : size ≡ storeSize) where
-    pub taken-18 : spoiledOf shelf ≡ true → takenOf shelf size p ≡ Holding.Refused 18
+    taken-18 : spoiledOf shelf ≡ true → takenOf shelf size p ≡ Holding.Refused 18
     unfolding takenOf
     taken-18 h = rw (eq-eqb size storeSize w, h)
 

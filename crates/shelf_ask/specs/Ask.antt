@@ -51,13 +51,17 @@ pub record Copy : Type 0 where
 abbrev pub copy : Copied → List ℕ → Copy
 copy said out = record { said = said; out = out }
 
--- 17, 18, 14: the refusals of every question, put with a store of that size
+-- 17, 18: the refusals of a record and a store of that size, before what a question looks for
+abbrev pub unlentBy : Shelf → ℕ → List Row
+unlentBy shelf size = 17 if not (eqb size storeSize) ∷ 18 if spoiledOf shelf ∷ []
+
+-- the number of the first, 0 where neither is so
+unfoldable pub unlentNo : Shelf → ℕ → ℕ
+unlentNo shelf size = first (λ n. n) (unlentBy shelf size) 0
+
+-- 17, 18, 14: the refusals of every question about a table
 abbrev pub unaskedBy : Shelf → ℕ → Key → List Row
-unaskedBy shelf size key =
-    17 if not (eqb size storeSize)
-    ∷ 18 if spoiledOf shelf
-    ∷ 14 if eqb (placeOf shelf key) places
-    ∷ []
+unaskedBy shelf size key = unlentBy shelf size ++ (14 if eqb (placeOf shelf key) places ∷ [])
 
 -- the place of the table that is asked for
 unfoldable pub holdingOf : Shelf → ℕ → Key → Holding

@@ -1,15 +1,14 @@
 -- Which tables are held: the table in a place. Order of refusal: 17, 18, 14, and 15 where its numbers are put into a buffer. Document 01 has
 -- no such question; its numbers are those of the other questions, and a place that is free, or that there is not, is 14.
 use Prim.Native.Nat.{ℕ}
-use mathlib.Core.List.{List, [], _∷_}
+use mathlib.Core.List.{List, [], _∷_, _++_}
 use mathlib.Core.Bool.{not}
-use lib.Dec.{eqb}
 use Rattle.base.specs.Choice.{Row, _if_, first}
-use Rattle.berth.specs.Berth.{storeSize}
 use Rattle.answers.specs.Answers.{Told, told}
 use Rattle.tables.specs.declared.Table.{Table}
 use Rattle.tables.specs.Numbers.{numbersOf}
-use Rattle.shelf.specs.Record.{Place, Shelf, placeAt, spoiledOf}
+use Rattle.shelf.specs.Record.{Place, Shelf, placeAt}
+use Rattle.shelf_ask.specs.Ask.{unlentBy}
 use Rattle.shelf_ask.specs.declared.Holding.{Holding}
 
 -- the table of a place
@@ -25,11 +24,7 @@ tableOf place =
 
 module _ (shelf : Shelf) (size p : ℕ) where
   abbrev pub untold : List Row
-  untold =
-      17 if not (eqb size storeSize)
-      ∷ 18 if spoiledOf shelf
-      ∷ 14 if not (placeAt shelf p .taken)
-      ∷ []
+  untold = unlentBy shelf size ++ (14 if not (placeAt shelf p .taken) ∷ [])
 
   -- the place, where a table is in it
   unfoldable pub takenOf : Holding

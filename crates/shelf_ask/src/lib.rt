@@ -11,7 +11,7 @@ ghost use Rattle.base.specs.Below.{lowest};
 ghost use Rattle.base.specs.Bits.{bit};
 ghost use Rattle.berth.specs.Berth.{sections};
 ghost use Rattle.shelf.specs.Layout.{shelfAt};
-ghost use Rattle.shelf_ask.specs.Ask.{holdingOf, copy, copyOf, wholeOf, missingOf};
+ghost use Rattle.shelf_ask.specs.Ask.{unlentNo, holdingOf, copy, copyOf, wholeOf, missingOf};
 ghost use Rattle.answers.specs.Answers.{out as outOf};
 ghost use Rattle.shelf_ask.specs.Tables.{takenOf};
 ghost use Rattle.shelf_ask.specs.Calls.{tableAmong};
@@ -46,16 +46,27 @@ pub enum Missing {
 
 pub const SECTION_NOT_HELD: u8 = 16;
 
+// The first of 17 and 18 that is so of a record and a store of that size, 0 where neither is.
+fn unlent(words: &[u16], size: usize) -> u8
+    ensures { λ r. ⌜ r ≡ unlentNo (shelfAt (now (words .entry))) size ⌝ }
+{
+    if size != STORE {
+        return shelf::STORE_SIZE;
+    }
+    if shelf_check::is_spoiled(words) {
+        return shelf::SHELF_SPOILED;
+    }
+    0
+}
+
 // Where the table with that key is, or the first number that refuses every question about it, put with a store of that
 // size.
 pub fn held_in(words: &[u16], size: usize, key: Key) -> Holding
     ensures { λ r. ⌜ r ≡ holdingOf (shelfAt (now (words .entry))) size key ⌝ }
 {
-    if size != STORE {
-        return Holding::Refused(shelf::STORE_SIZE);
-    }
-    if shelf_check::is_spoiled(words) {
-        return Holding::Refused(shelf::SHELF_SPOILED);
+    let no = unlent(words, size);
+    if no != 0 {
+        return Holding::Refused(no);
     }
     let p = shelf::place_of(words, key);
     if p == PLACES {
@@ -199,11 +210,9 @@ pub fn copy_code(words: &[u16], store: &[u8], key: Key, n: u8, out: &mut [u8]) -
 fn taken_in(words: &[u16], size: usize, p: usize) -> Holding
     ensures { λ r. ⌜ r ≡ takenOf (shelfAt (now (words .entry))) size p ⌝ }
 {
-    if size != STORE {
-        return Holding::Refused(shelf::STORE_SIZE);
-    }
-    if shelf_check::is_spoiled(words) {
-        return Holding::Refused(shelf::SHELF_SPOILED);
+    let no = unlent(words, size);
+    if no != 0 {
+        return Holding::Refused(no);
     }
     if shelf::key_number(words, p) / 256 % 256 != 1 {
         return Holding::Refused(shelf::TABLE_NOT_HELD);

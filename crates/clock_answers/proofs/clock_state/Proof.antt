@@ -1,10 +1,10 @@
--- `application_state` leaves by the ways of its meaning.
+-- `clock_state` leaves by the ways of its meaning.
 use mathlib.Core.Path.{sym, ap, _∙_}
 use Rattle.clock.specs.Codes.{stateCode}
 use Rattle.clock_answers.proofs.Calls.{state-35, state-asked}
 use borrow.Author.Needs.{needs}
-use Rattle.clock_answers.proofs.application_state.Statement.{statement}
-use Rattle.clock_answers.proofs.application_state.Tie as tie
+use Rattle.clock_answers.proofs.clock_state.Statement.{statement}
+use Rattle.clock_answers.proofs.clock_state.Tie as tie
 
 cast-result : tie.Need-cast-result
 cast-result c = search needs
@@ -44,8 +44,8 @@ returns-3 : tie.Need-returns-3
 returns-3 c = ap stateCode (sym (c .before .asked2 .given .1))
     ∙ state-asked (c .before .before .before .before .before .before .before .args .words .now) (c .before .before .before .before .before .before .before .args .application) (c .before .before .before .before .before .if1 .left) (c .before .before .before .before .record-in .result) (c .before .before .before .before .record-in .ensures) (c .before .before .before .state-of .result) (c .before .before .before .state-of .ensures)
 
-pub application-state-spec : {M : Type 1} → statement M
-application-state-spec =
+pub clock-state-spec : {M : Type 1} → statement M
+clock-state-spec =
     tie.close
     (tie.spec
     cast-result
