@@ -1,4 +1,4 @@
-//! docs/REFUSALS.md and docs/FORMAT.md say what the code does.
+//! docs/REFUSALS.md, docs/FORMAT.md and the README say what the code does.
 
 use khumsafil::{file, shelf, Refusal};
 use std::collections::{BTreeMap, BTreeSet};
@@ -300,4 +300,14 @@ fn the_largest_file() {
         largest % 1_000
     );
     assert!(page("docs/FORMAT.md").contains(&said), "{said}");
+}
+
+/// What the README shows of its first command is what that prints.
+#[test]
+fn the_readme_shows_the_listing() {
+    let page = page("README.md");
+    let sample = fs::read(top("samples/whole.shelf")).expect("the sample");
+    let mut out = [0; file::LARGEST_LIST];
+    let listed = file::list(&sample, &mut out).expect("room");
+    assert_eq!(block(&page, "The first prints what the file holds"), listed);
 }
