@@ -57,7 +57,7 @@ written c r e = go (c .said) refl r e
     go (Saved.Refused n) q r e = let a : 1 ≤ n = r .0 in let b : n ≤ 16 = r .1 in absurd (omega arith)
 
 -- the number of a load, by the layer's answer
-load-code : (h : History) (file : List ℕ) → loadAfter h file .code ≡ loadedCode (loadOn (afterAll (h .calls)) file .said)
+pub load-code : (h : History) (file : List ℕ) → loadAfter h file .code ≡ loadedCode (loadOn (afterAll (h .calls)) file .said)
 load-code h file = ap (λ a. a .code) (next-answer h (load file))
 
 -- .. from which it comes back

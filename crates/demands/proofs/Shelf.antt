@@ -37,7 +37,7 @@ use Rattle.shelf_histories.specs.History.{History, leftAfter, logAfter, wholeAf
 use Rattle.shelf_histories.proofs.Back.{whole-told, entry-number}
 use Rattle.shelf_histories.proofs.OneHistory.{one-history}
 use Rattle.shelf_histories.proofs.After.{reply-range, reply-after, reply-refusal, next-answer, next-reply}
-use Rattle.demands.specs.Shelf.{complete, HeldExactly, CompleteExactly, LampExactly, MoreReception, AskedExactly, ReleasedExactly, Never17Nor18, HandedOut}
+use Rattle.demands.specs.Shelf.{complete, lampAfter, HeldExactly, CompleteExactly, LampExactly, MoreReception, AskedExactly, ReleasedExactly, Never17Nor18, HandedOut}
 
 -- an offer that is not refused is accepted
 accepted-by : (a : Offered) → OfferRange a → refusalIn (offeredCode a) ≡ 0 → accepted a ≡ true
@@ -88,16 +88,19 @@ complete-exactly h key =
 held-by-whole : (h : History) (key : Key) → wholeAfter h key ≡ complete → heldBy key (logAfter h) ≡ true
 held-by-whole h key e = held-exactly h (whole key) .0 (λ z. let q : refusalIn complete ≡ 14 = ap refusalIn (sym e) ∙ z in omega arith)
 
+-- the lamp is lit exactly when the table is called complete in its number
+lit-whole : (h : History) (key : Key) → lampAfter h key ≡ true → wholeAfter h key ≡ complete
+unfolding wholeLent
+lit-whole h key e = ap wholeCode (complete-plainly (leftAfter h .words) (leftAfter h .store) key .0 e)
+
+whole-lit : (h : History) (key : Key) → wholeAfter h key ≡ complete → lampAfter h key ≡ true
+unfolding completeLent
+whole-lit h key e = ap (λ s. isComplete (wholeIn s key)) (one-history .1 h .state) ∙ ap isComplete (complete-by h key e)
+
 pub lamp-exactly : LampExactly
-unfolding wholeLent completeLent
 lamp-exactly h key = (
-  λ e.
-      let called : wholeAfter h key ≡ complete = ap wholeCode (complete-plainly (leftAfter h .words) (leftAfter h .store) key .0 e) in
-      let held = held-by-whole h key called in
-      (held, complete-exactly h key held .0 called),
-  λ w.
-      ap (λ s. isComplete (wholeIn s key)) (one-history .1 h .state)
-      ∙ ap isComplete (complete-by h key (complete-exactly h key (w .0) .1 (w .1))),
+  λ e. let held = held-by-whole h key (lit-whole h key e) in (held, complete-exactly h key held .0 (lit-whole h key e)),
+  λ w. whole-lit h key (complete-exactly h key (w .0) .1 (w .1)),
 )
 
 pub more-reception : MoreReception
@@ -112,6 +115,7 @@ more-reception key version last bytes first second calm-first calm-second offers
           ∙ ap copyOut (both .0 n output (sym (reply-refusal first (copy key n output)) ∙ e))
           ∙ sym (reply-after first (copy key n output)),
       λ e. by-complete second key (both .1 (complete-by first key e)),
+      λ e. whole-lit second key (by-complete second key (both .1 (complete-by first key (lit-whole first key e)))),
     )
 
 pub asked-exactly : AskedExactly

@@ -1,6 +1,6 @@
 -- What the theorems of this crate and of clock_demands speak of is what a host links. `Learnt` is the promise of an exported function as the checker
--- holds it, of its arguments `a`, its answer `z` and its arguments at exit `e`; each says the definition that the histories are made of. None of these
--- functions asks anything of its host beyond its types. What it is lent to read only stays as it was, since nothing is written through such a loan.
+-- holds it, of its arguments `a`, its answer `z` and its arguments at exit `e`; each says the definition that the histories are made of, or that
+-- a theorem asks after one: the lamp's question, a place's and a file's change nothing, and are not among a history's calls. None of these functions asks anything of its host beyond its types. What it is lent to read only stays as it was, since nothing is written through such a loan.
 -- The theorems are in proofs/Linked: each promise is its own proof.
 use mathlib.Core.Path.{_≡_}
 use denote.Ref.{now}
@@ -11,7 +11,7 @@ use Rattle.shelf_ask.specs.Answer.{wholeLent, completeLent, missingLent, copyLe
 use Rattle.shelf_release.specs.Answer.{releaseLent}
 use Rattle.shelf_save.specs.Answer.{saveLent}
 use Rattle.shelf_load.specs.Answer.{loadLent}
-use Rattle.file_table.specs.Answer.{fileLent}
+use Rattle.file_table.specs.Answer.{fileTableLent}
 use Rattle.writer.specs.Answer.{label, sectionLent}
 use Rattle.clock_answers.specs.Calls.{freshCall, offerCall, moveCall, timeCall, stateCall}
 use Rattle.khumsafil.specs.Shelf.{givenKey}
@@ -99,7 +99,7 @@ LoadLinked =
 abbrev pub FileTableLinked : Type 0
 FileTableLinked =
     (κs : _) (a : _) (z : _) (e : _) → file-table.Learnt κs a z e
-    → out z (now (e .1 .0)) ≡ fileLent (now (a .0)) (now (a .1 .0))
+    → out z (now (e .1 .0)) ≡ fileTableLent (now (a .0)) (now (a .1 .0))
 
 -- table, extension, version, body, k, out
 abbrev pub SectionLinked : Type 0

@@ -66,6 +66,7 @@ MoreReception =
     → ((payload : List ℕ) → SectionOf key payload → OfferedIn (first .calls) payload → OfferedIn (second .calls) payload)
     → ((n : ℕ) (output : List ℕ) → refusalIn (copyAfter first key n output .code) ≡ 0 → copyAfter second key n output ≡ copyAfter first key n output)
     × (wholeAfter first key ≡ complete → wholeAfter second key ≡ complete)
+    × (lampAfter first key ≡ true → lampAfter second key ≡ true)
 
 -- beside it: every question is answered what the log says (shelf_laws, specs/Questions): a copy the bytes with which the section was last
 -- accepted or loaded, a save the file of all of them, completeness as above, the lowest missing number the lowest from 0 to the table's last that

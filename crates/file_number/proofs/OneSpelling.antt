@@ -171,6 +171,9 @@ three-most s w n next e =
     let l : length (spelt n) ≤ 3 = spelt-3-long n in
     (g .most, omega (arith, g .after))
 
+pub size-same : (next : ℕ) → next ≤ 3 → next % 256 ≡ next
+size-same next h = omega arith
+
 -- the parts of the number that crosses the boundary
 number-of : (n next : ℕ) → n ≤ largest → (256 * n + 16777216 * next) / 256 % 65536 ≡ n
 number-of n next m = let whole : (256 * n + 16777216 * next) / 256 ≡ n + 65536 * next = omega arith in rw whole (omega arith)
@@ -180,9 +183,8 @@ size-of n next m = omega arith
 
 back-value : (n next : ℕ) → n ≤ largest → next ≤ 3 → numberBack (numberCode (Number.Value n next)) ≡ Number.Value n next
 back-value n next m l =
-    let same : next % 256 ≡ next = omega arith in
     let low : (256 * n + 16777216 * next) % 256 ≡ 0 = omega arith in
-    rw (same, low, number-of n next m, size-of n next m)
+    rw (low, number-of n next m, size-of n next m)
 
 -- no other number refuses
 only-11 : (s : List ℕ) (n : ℕ) → numberIn s 0 ≡ Number.Refused n → n ≡ 11

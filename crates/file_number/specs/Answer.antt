@@ -14,9 +14,9 @@ abbrev pub numberTold : Number → Told
 numberTold (Number.Value n next) = told 0 (n ∷ next ∷ [])
 numberTold (Number.Refused n) = told n []
 
--- of the number at the front of some bytes, as it crosses the boundary: from bit 8 up the number, from bit 24 up how many bytes it takes
+-- the answer as it crosses the boundary: the number in bits 8 to 23, the place after it in bits 24 to 31
 abbrev pub numberCode : Number → ℕ
-numberCode (Number.Value n next) = 256 * n + 16777216 * (next % 256)
+numberCode (Number.Value n next) = 256 * n + 16777216 * next
 numberCode (Number.Refused n) = n
 
 -- what a host takes out of it
@@ -25,6 +25,10 @@ numberBack code =
     if eqb (code % 256) 0 then Number.Value (code / 256 % 65536) (code / 16777216)
     else Number.Refused code
 
+-- of the number at the front of some bytes: the place after it is how many bytes it takes
+abbrev pub numberLent : List ℕ → ℕ
+numberLent bytes = numberCode (numberAt bytes 0)
+
 -- how many bytes now stand at the front of the output
 abbrev pub spelledTold : Written → Told
 spelledTold (Written.Bytes n) = told 0 (n ∷ [])
@@ -32,7 +36,7 @@ spelledTold (Written.Refused n) = told n []
 
 -- the number that crosses the boundary loses nothing
 abbrev pub Number-Back : Type 0
-Number-Back = (bytes : List ℕ) → Bytes bytes → numberBack (numberCode (numberAt bytes 0)) ≡ numberAt bytes 0
+Number-Back = (bytes : List ℕ) → Bytes bytes → numberBack (numberLent bytes) ≡ numberAt bytes 0
 
 -- both others lose nothing
 abbrev pub Number-Told : Type 0

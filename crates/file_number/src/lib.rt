@@ -2,7 +2,7 @@
 // every group but the last, in the shortest form, at most 65,535. So a number has one spelling.
 ghost use mathlib.Core.Path.{_≡_};
 ghost use Rattle.file_number.specs.Number.{numberAt, writing, writtenOf};
-ghost use Rattle.file_number.specs.Answer.{numberCode};
+ghost use Rattle.file_number.specs.Answer.{numberLent};
 
 pub enum Number {
     // The number, and the place after its last group.
@@ -72,14 +72,14 @@ pub fn read_number(file: &[u8], at: usize) -> Number
     Number::Value(value, next)
 }
 
-// The answer in one number: the number from bit 8 up, and how many bytes it takes from bit 24 up.
+// The answer in one number: the number in bits 8 to 23, and how many bytes it takes in bits 24 to 31.
 const BIT_8: u32 = 256;
 
 const BIT_24: u32 = 16777216;
 
 // The number at the front of some bytes, in a number whose low 8 bits are the refusal.
 pub fn number_code(bytes: &[u8]) -> u32
-    ensures { λ r. ⌜ r ≡ numberCode (numberAt (now (bytes .entry)) 0) ⌝ }
+    ensures { λ r. ⌜ r ≡ numberLent (now (bytes .entry)) ⌝ }
 {
     let found = read_number(bytes, 0);
     match found {

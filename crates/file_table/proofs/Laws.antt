@@ -12,11 +12,11 @@ use Rattle.tables.specs.Numbers.{tablePut}
 use Rattle.section.specs.declared.Header.{Header}
 use Rattle.file.specs.Scan.{scanOf}
 use Rattle.file.specs.declared.Scan.{Scan}
-use Rattle.file_table.specs.Answer.{fileTable, toldBy, fileTold, fileLent}
+use Rattle.file_table.specs.Answer.{fileTable, toldBy, fileTold, fileTableLent}
 
 module _ (file fields : List ℕ) where
-  pub lent-refused : (n : ℕ) → scanOf file .answer ≡ Scan.Refused n → out n fields ≡ fileLent file fields
-  unfolding fileLent fileTold
+  pub lent-refused : (n : ℕ) → scanOf file .answer ≡ Scan.Refused n → out n fields ≡ fileTableLent file fields
+  unfolding fileTableLent fileTold
   lent-refused n e = puts-refused n fields ∙ ap (λ s. puts (toldBy (scanOf file .lengths) s) fields) (sym e)
 
   pub lent-table :
@@ -27,17 +27,17 @@ module _ (file fields : List ℕ) where
       → {code : ℕ}
       {left : List ℕ}
       → out code left ≡ tablePut (fileTable h lengths) fields
-      → out code left ≡ fileLent file fields
-  unfolding fileLent fileTold tablePut
+      → out code left ≡ fileTableLent file fields
+  unfolding fileTableLent fileTold tablePut
   lent-table h lengths e l g =
       g ∙ ap (λ x. puts (toldBy x (Scan.Table h)) fields) l ∙ ap (λ s. puts (toldBy (scanOf file .lengths) s) fields) (sym e)
 
-  pub file-untouched : ¬ (fileLent file fields .code ≡ 0) → fileLent file fields .out ≡ fields
-  unfolding fileLent
+  pub file-untouched : ¬ (fileTableLent file fields .code ≡ 0) → fileTableLent file fields .out ≡ fields
+  unfolding fileTableLent
   file-untouched = puts-untouched (fileTold file) fields
 
   pub file-accepted :
-      (fileLent file fields .code ≡ 0)
+      (fileTableLent file fields .code ≡ 0)
       ↔ ((fileTold file .number ≡ 0) × (length (fileTold file .values) ≤ length fields))
-  unfolding fileLent
+  unfolding fileTableLent
   file-accepted = puts-accepted (fileTold file) fields

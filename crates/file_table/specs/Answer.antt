@@ -4,7 +4,7 @@ use Prim.Native.Nat.{ℕ}
 use mathlib.Core.List.{List, []}
 use Rattle.answers.specs.Answers.{Told, told, Out, puts}
 use Rattle.tables.specs.declared.Table.{Table}
-use Rattle.tables.specs.Numbers.{numbersOf}
+use Rattle.tables.specs.Numbers.{tableNumbers}
 use Rattle.section.specs.declared.Header.{Header}
 use Rattle.file.specs.Scan.{scanOf}
 use Rattle.file.specs.declared.Scan.{Scan}
@@ -16,12 +16,12 @@ fileTable h lengths =
 
 -- the number and the values of the answer
 abbrev pub toldBy : List ℕ → Scan → Told
-toldBy lengths (Scan.Table h) = told 0 (numbersOf (fileTable h lengths))
+toldBy lengths (Scan.Table h) = told 0 (tableNumbers (fileTable h lengths))
 toldBy lengths (Scan.Refused n) = told n []
 
 unfoldable pub fileTold : List ℕ → Told
 fileTold file = toldBy (scanOf file .lengths) (scanOf file .answer)
 
 -- put at the front of a lent buffer
-unfoldable pub fileLent : List ℕ → List ℕ → Out
-fileLent file fields = puts (fileTold file) fields
+unfoldable pub fileTableLent : List ℕ → List ℕ → Out
+fileTableLent file fields = puts (fileTold file) fields

@@ -3,11 +3,11 @@ use file::Scan;
 use tables::Table;
 ghost use mathlib.Core.Path.{_≡_};
 ghost use Rattle.answers.specs.Answers.{out as outOf};
-ghost use Rattle.file_table.specs.Answer.{fileLent};
+ghost use Rattle.file_table.specs.Answer.{fileTableLent};
 
 // Puts the numbers of the file's table at the front of the buffer, or answers the refusal.
 pub fn table_code(file: &[u8], fields: &mut [u16]) -> u8
-    ensures { λ r. ⌜ outOf r (now (fields .exit)) ≡ fileLent (now (file .entry)) (now (fields .entry)) ⌝ }
+    ensures { λ r. ⌜ outOf r (now (fields .exit)) ≡ fileTableLent (now (file .entry)) (now (fields .entry)) ⌝ }
 {
     let scanned = file::read_file(file);
     let answer = scanned.answer;

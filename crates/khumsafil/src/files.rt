@@ -1,9 +1,8 @@
 // Files that need no shelf: which table one is, its listing, a number as a file has it, and the file of the table that carries a body.
 ghost use mathlib.Core.Path.{_≡_};
 ghost use Rattle.answers.specs.Answers.{out as outOf};
-ghost use Rattle.file_number.specs.Number.{numberAt};
-ghost use Rattle.file_number.specs.Answer.{numberCode};
-ghost use Rattle.file_table.specs.Answer.{fileLent as fileTableLent};
+ghost use Rattle.file_number.specs.Answer.{numberLent};
+ghost use Rattle.file_table.specs.Answer.{fileTableLent};
 ghost use Rattle.file_listing.specs.Answer.{listLent};
 ghost use Rattle.writer.specs.Answer.{label};
 ghost use Rattle.writer_file.specs.Answer.{fileLent};
@@ -21,7 +20,7 @@ pub extern "C" fn khumsafil_raw_file_table(file: &[u8], fields: &mut [u16]) -> u
 // many bytes it takes.
 #[no_mangle]
 pub extern "C" fn khumsafil_raw_file_number(bytes: &[u8]) -> u32
-    ensures { λ r. ⌜ r ≡ numberCode (numberAt (now (bytes .entry)) 0) ⌝ }
+    ensures { λ r. ⌜ r ≡ numberLent (now (bytes .entry)) ⌝ }
 {
     file_number::number_code(bytes)
 }

@@ -1,6 +1,6 @@
 -- The shelf's record as a host lends it, 84 numbers of 16 bits: 64 lengths, that of section n of place p at 16p + n; four heads of
 -- four numbers, that of place p at 64 + 4p: 256 + table id where the place is taken, extension, version, last; four masks, that of
--- place p at 80 + p: bit n is 1 where section n is held.
+-- place p at 80 + p: in a taken place bit n is 1 where section n is held.
 use Prim.Native.Nat.{ℕ, zero, suc, _+_, _*_, _/_, _%_}
 use mathlib.Core.List.{List, [], _∷_}
 use mathlib.Core.Bool.{Bool, true, not}

@@ -14,7 +14,7 @@ use Rattle.shelf_ask.specs.declared.Copied.{Copied}
 use Rattle.shelf_ask.specs.declared.Whole.{Whole}
 use Rattle.shelf_ask.specs.declared.Missing.{Missing}
 
--- from bit 8 up: 1 complete, 2 incomplete
+-- bits 8 to 15: 1 complete, 2 incomplete
 abbrev pub wholeCode : Whole → ℕ
 wholeCode Whole.Complete = 256
 wholeCode Whole.Incomplete = 512
@@ -26,13 +26,13 @@ isComplete Whole.Complete = true
 isComplete Whole.Incomplete = false
 isComplete (Whole.Refused n) = false
 
--- from bit 8 up: 1 nothing missing, 2 a number, which stands from bit 16 up
+-- bits 8 to 15: 1 nothing missing, 2 a number, which stands in bits 16 to 23
 abbrev pub missingCode : Missing → ℕ
 missingCode Missing.Nothing = 256
 missingCode (Missing.Number n) = 512 + 65536 * n
 missingCode (Missing.Refused n) = n
 
--- from bit 8 up how many bytes now stand at the output's front
+-- bits 8 to 23: how many bytes now stand at the output's front
 abbrev pub copiedCode : Copied → ℕ
 copiedCode (Copied.Bytes n) = sizeCode n
 copiedCode (Copied.Refused n) = n

@@ -4,7 +4,8 @@ use mathlib.Core.List.{List}
 use Rattle.tables.specs.declared.Table.{Table}
 use Rattle.shelf.specs.Calls.{keyAmong, versionAmong, lastAmong, lengthsAmong}
 
--- the first number of a head is a taken place's where it is 256 to 511
+-- the table id in the low 8 bits of the head's first number, the extension in its second; where the place is taken and the numbers have 16 bits
+-- it is the place's table
 abbrev pub tableAmong : List ℕ → ℕ → Table
 tableAmong words p =
     record {

@@ -29,7 +29,7 @@ use Rattle.shelf.specs.Record.{Shelf}
 use Rattle.shelf.proofs.Words.{Held, Wrong, OneKey, Spoiled, decided, SoundPlace, one-place}
 use Rattle.shelf_laws.specs.State.{Formed}
 
-one-is : (a b : Key) → OneKey a b → a ≡ b
+pub one-is : (a b : Key) → OneKey a b → a ≡ b
 one-is a b k = ap (λ n. record { table = n; extension = a .extension }) (k .0) ∙ ap (λ n. record { table = b .table; extension = n }) (k .1)
 
 pub same-key : (a b : Key) → sameKey a b ≡ true → a ≡ b

@@ -1,5 +1,6 @@
 -- Which tables are held after a history, and which table a load holds.
 --   held-told, told-held      a held table is told by a place as the log tells it, and a place tells no other
+--   told-once                 no table is told twice
 --   load-told                 a load gives a place the table that the file's own question tells
 use mathlib.Core.Path.{_≡_, refl, sym, ap, _∙_}
 use mathlib.Core.Bool.{Bool, true, false, not}
@@ -13,12 +14,12 @@ use borrow.Author.Tests.{eqb-true, ltb-true, ltb-false}
 use Rattle.base.specs.Choice.{if_then_else_}
 use Rattle.base.proofs.Cases.{by, unlike}
 use Rattle.answers.specs.Answers.{told}
-use Rattle.tables.specs.Numbers.{numbersOf}
+use Rattle.tables.specs.Numbers.{tableNumbers}
 use Rattle.berth.specs.Berth.{sections, places}
 use Rattle.shelf.specs.Record.{Place, placeAt, lengthAt, holds, placeOf, freeOf}
 use Rattle.shelf.specs.declared.Key.{Key}
 use Rattle.shelf.proofs.Lists.{filled-all}
-use Rattle.shelf_ask.specs.Tables.{tableOf}
+use Rattle.shelf_ask.specs.Tables.{placeTable}
 use Rattle.shelf_ask.proofs.Tables.{taken-14, taken-place, told-refused, told-table}
 use Rattle.shelf_load.specs.Load.{After, loadedPlace}
 use Rattle.file.specs.declared.Scan.{Scan}
@@ -28,8 +29,8 @@ use Rattle.shelf_laws.specs.State.{State, loadOn, afterLoad}
 use Rattle.shelf_laws.specs.Answers.{isDone}
 use Rattle.shelf_laws.specs.History.{Call, Entry, afterAll, logOf}
 use Rattle.shelf_laws.specs.Log.{heldBy, since, bytesSince}
-use Rattle.shelf_laws.specs.Tables.{lengthSince, numbersBy, tellsOf, HeldTold, ToldHeld}
-use Rattle.shelf_laws.proofs.Places.{has-key, its-key, is-taken, at-same, place-of}
+use Rattle.shelf_laws.specs.Tables.{lengthSince, numbersBy, tellsOf, HeldTold, ToldHeld, ToldOnce, LoadTold}
+use Rattle.shelf_laws.proofs.Places.{one-is, has-key, its-key, is-taken, at-same, place-of}
 use Rattle.shelf_laws.proofs.Kept.{Good, Kept, kept-key}
 use Rattle.shelf_laws.proofs.Loaded.{Goes, goes, load-good}
 use Rattle.shelf_laws.proofs.Histories.{loggedTable, holds-all}
@@ -37,8 +38,8 @@ use Rattle.shelf_laws.proofs.Held.{held-place, place-held}
 
 -- what a place of a good shelf tells
 module _ (s : State) (g : Good s) (p : ℕ) where
-  tells-taken : placeAt s.shelf p .taken ≡ true → tellsOf s p ≡ told 0 (numbersOf (tableOf (placeAt s.shelf p)))
-  tells-taken t = told-table s.shelf (length s.store) p p (taken-place s.shelf (length s.store) p (g .lent) (g .unspoiled) t)
+  tells-taken : p < places → placeAt s.shelf p .taken ≡ true → tellsOf s p ≡ told 0 (tableNumbers (placeTable (placeAt s.shelf p)))
+  tells-taken l t = told-table s.shelf (length s.store) p p (taken-place s.shelf (length s.store) p (g .lent) (g .unspoiled) l t)
 
   tells-free : placeAt s.shelf p .taken ≡ false → tellsOf s p ≡ told 14 []
   tells-free f = told-refused s.shelf (length s.store) p 14 (taken-14 s.shelf (length s.store) p (g .lent) (g .unspoiled) f)
@@ -78,7 +79,7 @@ module _ (h : List Call) (key : Key) (t : heldBy key (logOf h) ≡ true) where
       (λ y. rw y (kept .lengths n i y))
       (λ f. rw f (zero-held (lengthAt (placeAt s.shelf at) n) (kept .numbers n i ∙ f)))
 
-  numbers-kept : numbersOf (tableOf (placeAt s.shelf at)) ≡ numbersBy key log
+  numbers-kept : tableNumbers (placeTable (placeAt s.shelf at)) ≡ numbersBy key log
   numbers-kept =
       let k : placeAt s.shelf at .key ≡ key = its-key (placeAt s.shelf at) key (kept-key s kept) in
       let l = filled-all (placeAt s.shelf at .lengths) sections sections (lengthSince key log) refl (good .formed .sixteen at (kept .taken)) length-kept in
@@ -86,7 +87,7 @@ module _ (h : List Call) (key : Key) (t : heldBy key (logOf h) ≡ true) where
 
   pub told-at : tellsOf s at ≡ told 0 (numbersBy key log)
   told-at =
-      tells-taken s good at (is-taken (placeAt s.shelf at) key (kept-key s kept)) ∙ ap (told 0) numbers-kept
+      tells-taken s good at (kept .taken) (is-taken (placeAt s.shelf at) key (kept-key s kept)) ∙ ap (told 0) numbers-kept
 
 pub held-told : HeldTold
 held-told h key t = (placeOf (afterAll h .shelf) key, held-place h key t, told-at h key t)
@@ -101,23 +102,52 @@ told-held h p =
     let low = taken-below s g p t in
     let here : placeOf s.shelf key ≡ p = place-of s.shelf key (g .unspoiled) p low (has-key (placeAt s.shelf p) key t refl) in
     let held = place-held h key (rw here low) in
-    inr (key, held, ap (tellsOf s) (sym here) ∙ told-at h key held))
+    inr (low, (key, held, ap (tellsOf s) (sym here) ∙ told-at h key held)))
+    (λ f. inl (tells-free s g p f))
+
+-- two places that tell the same table have its key
+pub told-once : ToldOnce
+told-once h p q e =
+    let s = afterAll h in
+    let g = holds-all h .good in
+    by (placeAt s.shelf p .taken)
+    (λ t.
+    let i = taken-below s g p t in
+    by (placeAt s.shelf q .taken)
+    (λ u.
+    let j = taken-below s g q u in
+    let same : told 0 (tableNumbers (placeTable (placeAt s.shelf p))) ≡ told 0 (tableNumbers (placeTable (placeAt s.shelf q))) =
+    sym (tells-taken s g p i t) ∙ e ∙ tells-taken s g q j u in
+    let values : tableNumbers (placeTable (placeAt s.shelf p)) ≡ tableNumbers (placeTable (placeAt s.shelf q)) = ap (λ x. x .values) same in
+    let table : placeAt s.shelf p .key .table ≡ placeAt s.shelf q .key .table = cc in
+    let extension : placeAt s.shelf p .key .extension ≡ placeAt s.shelf q .key .extension = cc in
+    let key : placeAt s.shelf p .key ≡ placeAt s.shelf q .key = one-is _ _ (table, extension) in
+    let here = place-of s.shelf (placeAt s.shelf q .key) (g .unspoiled) p i (has-key (placeAt s.shelf p) (placeAt s.shelf q .key) t key) in
+    let there = place-of s.shelf (placeAt s.shelf q .key) (g .unspoiled) q j (has-key (placeAt s.shelf q) (placeAt s.shelf q .key) u refl) in
+    inr (sym here ∙ there))
+    (λ u.
+    let z : 0 ≡ 14 = ap (λ x. x .number) (sym (tells-taken s g p i t) ∙ e ∙ tells-free s g q u) in
+    absurd (omega arith)))
     (λ f. inl (tells-free s g p f))
 
 -- a load that is done gives the lowest free place the file's table
 module _ (s : State) (g : Good s) (file : List ℕ) where
   placed-goes : {scan : Scan} {r : After} → Goes s file scan r → isDone (r .said) ≡ true
       → (placeAt (r .shelf) (freeOf s.shelf) .taken ≡ true)
-      × (told 0 (numbersOf (tableOf (placeAt (r .shelf) (freeOf s.shelf)))) ≡ toldBy (scanOf file .lengths) scan)
+      × (told 0 (tableNumbers (placeTable (placeAt (r .shelf) (freeOf s.shelf)))) ≡ toldBy (scanOf file .lengths) scan)
       × (freeOf s.shelf < places)
   placed-goes (Goes.refuses _ _ _) e = absurd (unlike (sym e))
   placed-goes (Goes.done h c l u q f) e =
       let w = at-same s.shelf (g .formed) (freeOf s.shelf) f (loadedPlace h (scanOf file .lengths)) in
-      (ap (λ (x : Place). x .taken) w, ap (λ (x : Place). told 0 (numbersOf (tableOf x))) w, f)
+      (ap (λ (x : Place). x .taken) w, ap (λ (x : Place). told 0 (tableNumbers (placeTable x))) w, f)
 
-  pub load-told : isDone (loadOn s file .said) ≡ true
-      → (freeOf s.shelf < places) × (tellsOf (afterLoad (loadOn s file)) (freeOf s.shelf) ≡ fileTold file)
-  unfolding fileTold
-  load-told e =
-      let k = placed-goes (goes s file) e in
-      (k .2, tells-taken (afterLoad (loadOn s file)) (load-good s file g) (freeOf s.shelf) (k .0) ∙ k .1)
+pub load-told : LoadTold
+unfolding fileTold
+load-told h file e =
+    let s = afterAll h in
+    let g = holds-all h .good in
+    let k = placed-goes s g file (goes s file) (ap isDone e) in (
+      ap (λ t. t .number) (sym (k .1)),
+      k .2,
+      tells-taken (afterLoad (loadOn s file)) (load-good s file g) (freeOf s.shelf) (k .2) (k .0) ∙ k .1,
+    )

@@ -14,7 +14,7 @@ use Rattle.shelf.specs.Layout.{listed}
 use Rattle.shelf_ask.specs.Tables.{tableTold}
 use Rattle.shelf_load.specs.declared.Loaded.{Loaded}
 use Rattle.file_table.specs.Answer.{fileTold}
-use Rattle.shelf_laws.specs.State.{State, loadOn}
+use Rattle.shelf_laws.specs.State.{State, loadOn, afterLoad}
 use Rattle.shelf_laws.specs.History.{Call, Entry, afterAll, logOf}
 use Rattle.shelf_laws.specs.Log.{heldBy, since, versionSince, lastSince, bytesSince}
 
@@ -43,4 +43,20 @@ abbrev pub ToldHeld : Type 0
 ToldHeld =
     (h : List Call) (p : ℕ)
     → (tellsOf (afterAll h) p ≡ told 14 [])
-    ⊎ ((key : Key) × (heldBy key (logOf h) ≡ true) × (tellsOf (afterAll h) p ≡ told 0 (numbersBy key (logOf h))))
+    ⊎ ((p < places) × ((key : Key) × (heldBy key (logOf h) ≡ true) × (tellsOf (afterAll h) p ≡ told 0 (numbersBy key (logOf h)))))
+
+-- nor is a table told twice
+abbrev pub ToldOnce : Type 0
+ToldOnce =
+    (h : List Call) (p q : ℕ)
+    → tellsOf (afterAll h) p ≡ tellsOf (afterAll h) q
+    → (tellsOf (afterAll h) p ≡ told 14 []) ⊎ (p ≡ q)
+
+-- a load that is done is of a file that is told as a table, which the lowest free place then tells
+abbrev pub LoadTold : Type 0
+LoadTold =
+    (h : List Call) (file : List ℕ)
+    → loadOn (afterAll h) file .said ≡ Loaded.Done
+    → (fileTold file .number ≡ 0)
+    × (freeOf (afterAll h .shelf) < places)
+    × (tellsOf (afterLoad (loadOn (afterAll h) file)) (freeOf (afterAll h .shelf)) ≡ fileTold file)

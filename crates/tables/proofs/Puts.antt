@@ -12,7 +12,7 @@ use lib.Seq.{sets, sets-eq, length-sets, paste, paste-suc, length-paste, take-al
 use Rattle.answers.specs.Answers.{out}
 use Rattle.answers.proofs.Puts.{puts-short, puts-values}
 use Rattle.tables.specs.declared.Table.{Table}
-use Rattle.tables.specs.Numbers.{numbersOf, tablePut}
+use Rattle.tables.specs.Numbers.{tableNumbers, tablePut}
 
 -- n of the lengths stand behind the first four numbers of a buffer
 pub record Behind (start lengths fields : List ℕ) (n : ℕ) : Type 0 where
@@ -54,15 +54,15 @@ put-all l a b c d lengths fields n w e =
 
 -- `e`: an array of sixteen has sixteen
 module _ (t : Table) (fields : List ℕ) (e : length (t .lengths) ≡ 16) where
-  twenty : length (numbersOf t) ≡ 20
+  twenty : length (tableNumbers t) ≡ 20
   twenty = rw e
 
   pub put-short : length fields < 20 → out 15 fields ≡ tablePut t fields
   unfolding tablePut
-  put-short h = let l : length fields < length (numbersOf t) = omega (arith, twenty) in puts-short (numbersOf t) fields l
+  put-short h = let l : length fields < length (tableNumbers t) = omega (arith, twenty) in puts-short (tableNumbers t) fields l
 
-  pub put-fits : 20 ≤ length fields → {after : List ℕ} → after ≡ numbersOf t ++ drop 20 fields → out 0 after ≡ tablePut t fields
+  pub put-fits : 20 ≤ length fields → {after : List ℕ} → after ≡ tableNumbers t ++ drop 20 fields → out 0 after ≡ tablePut t fields
   unfolding tablePut
   put-fits h q =
-      let l : length (numbersOf t) ≤ length fields = omega (arith, twenty) in
-      ap (out 0) (q ∙ ap (λ n. numbersOf t ++ drop n fields) (sym twenty)) ∙ puts-values (numbersOf t) fields l
+      let l : length (tableNumbers t) ≤ length fields = omega (arith, twenty) in
+      ap (out 0) (q ∙ ap (λ n. tableNumbers t ++ drop n fields) (sym twenty)) ∙ puts-values (tableNumbers t) fields l

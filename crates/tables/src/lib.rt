@@ -5,7 +5,7 @@ ghost use mathlib.Core.List.{_++_};
 ghost use Prim.Native.Nat.{_≤_};
 ghost use lib.ListN.{length, drop};
 ghost use Rattle.answers.specs.Answers.{out as outOf};
-ghost use Rattle.tables.specs.Numbers.{numbersOf, tablePut};
+ghost use Rattle.tables.specs.Numbers.{tableNumbers, tablePut};
 
 // A section that is not there has length 0.
 pub struct Table {
@@ -27,7 +27,7 @@ const FIELDS: usize = HEAD + LENGTHS;
 // Puts a table's numbers at the front of the buffer.
 fn put(t: Table, fields: &mut [u16])
     requires { ⌜ 20 ≤ length (now fields) ⌝ }
-    ensures { λ _. ⌜ now (fields .exit) ≡ numbersOf t ++ drop 20 (now (fields .entry)) ⌝ }
+    ensures { λ _. ⌜ now (fields .exit) ≡ tableNumbers t ++ drop 20 (now (fields .entry)) ⌝ }
 {
     let lengths = t.lengths;
     fields[0] = base::half(t.table);

@@ -2,28 +2,31 @@
 --   read-untouched, read-accepted, read-comes-back, by-its-numbers
 --   aim-numbers                          a target's five numbers, in the code's struct
 --   lent-refused, lent-short, lent-put   each way out of a call
---   belongs-short, belongs-by            both of the question whom a trigger is for
+--   read-few, read-early, read-ends      whether numbers can be a payload's; read-long: they are eleven
+--   belongs-not, belongs-by              both of the question whom a trigger is for
 use mathlib.Core.Path.{_≡_, refl, sym, ap, subst, _∙_}
-use mathlib.Core.Bool.{Bool, false}
+use mathlib.Core.Bool.{Bool, true, false, _&&_}
 use mathlib.Core.List.{List, [], _∷_, _++_}
-use Prim.Native.Nat.{ℕ, _<_, _≤_}
+use Prim.Native.Nat.{ℕ, _+_, _<_, _≤_}
 use native.Mathlib.Omega.{arith}
-use lib.Dec.{ltb}
+use lib.Dec.{ltb, leb, eqb}
 use lib.ListN.{length, drop, getD, length-append}
-use borrow.Author.Tests.{lt-ltb, le-ltb, ne-eqb, ltb-true, ltb-false}
-use Rattle.base.proofs.Cases.{by}
+use borrow.Author.Tests.{lt-ltb, le-ltb, le-leb, lt-leb, leb-true, eq-eqb, ne-eqb, ltb-true, ltb-false}
+use Rattle.base.specs.Octets.{Octets}
+use Rattle.base.proofs.Cases.{by, and-left}
 use Rattle.answers.specs.Answers.{Out, out, puts}
 use Rattle.answers.proofs.Puts.{puts-untouched, puts-values}
 use Rattle.trigger.specs.declared.Target.{Target}
 use Rattle.trigger.specs.declared.Trigger.{Trigger}
 use Rattle.trigger.specs.declared.Answer.{Answer}
-use Rattle.trigger.specs.Trigger.{readOf}
+use Rattle.trigger.specs.Trigger.{extent, readOf}
 use Rattle.trigger.specs.Belongs.{belongsOf}
 use Rattle.trigger.specs.Answer.{targetNumbers, numbersOf, triggerTold, triggerBack}
 use Rattle.trigger.proofs.Answers.{numbers-back}
+use Rattle.trigger.proofs.Places.{all-placed}
 use Rattle.trigger.proofs.ExactlyWhen.{refused-range}
 use Rattle.trigger_answers.specs.Aim.{aimOf}
-use Rattle.trigger_answers.specs.Lent.{triggerLent, withId, belongsLent, Read-Untouched, Read-Accepted, Read-Comes-Back, By-Its-Numbers}
+use Rattle.trigger_answers.specs.Lent.{triggerLent, canBeReadBy, belongsLent, Read-Untouched, Read-Accepted, Read-Comes-Back, By-Its-Numbers}
 
 pub aim-numbers : (t : Target) → targetNumbers t ≡ aimOf t .kind ∷ aimOf t .of ∷ aimOf t .first ∷ aimOf t .second ∷ aimOf t .third ∷ []
 aim-numbers Target.None = refl
@@ -93,26 +96,57 @@ module _ (s fields : List ℕ) where
       (λ t e h z. absurd (omega arith))
       (λ t e h z. e ∙ ap Answer.Trigger (sym (numbers-back t (drop 11 fields))))
 
+-- the three ways out of `can_be_read`
+module _ (size : ℕ) (fields : List ℕ) where
+  pub read-few : length fields < 11 → false ≡ canBeReadBy size fields
+  unfolding canBeReadBy
+  read-few h = rw (lt-leb 11 (length fields) h)
+
+  module _ (long : 11 ≤ length fields) {place : ℕ} (p : place ≡ getD fields 2 0) where
+    pub read-early : place < 3 → false ≡ canBeReadBy size fields
+    unfolding canBeReadBy
+    read-early h = let l : getD fields 2 0 < 3 = omega arith in rw (le-leb 11 (length fields) long, lt-leb 3 (getD fields 2 0) l)
+
+    pub read-ends : {a b : ℕ} → 3 ≤ place → a ≡ getD fields 9 0 → b ≡ getD fields 10 0 → eqb (a + b) size ≡ canBeReadBy size fields
+    unfolding canBeReadBy
+    read-ends h e f = let l : 3 ≤ getD fields 2 0 = omega arith in rw (e, f, le-leb 11 (length fields) long, le-leb 3 (getD fields 2 0) l)
+
+  pub read-long : canBeReadBy size fields ≡ true → 11 ≤ length fields
+  unfolding canBeReadBy
+  read-long e = leb-true 11 (length fields) (and-left (leb 11 (length fields)) _ e)
+
 -- both ways out of `trigger_belongs`
 module _ (s fields id : List ℕ) where
-  pub belongs-short : length fields < 11 → false ≡ belongsLent s fields id
+  pub belongs-not : {b : Bool} → b ≡ canBeReadBy (length s) fields → b ≡ false → false ≡ belongsLent s fields id
   unfolding belongsLent
-  belongs-short h = rw (lt-ltb (length fields) 11 h)
+  belongs-not e f = rw (sym e ∙ f)
 
   pub belongs-by :
-      {r : Bool}
+      {b r : Bool}
       {place size : ℕ}
-      → 11 ≤ length fields
+      → b ≡ canBeReadBy (length s) fields
+      → b ≡ true
       → place ≡ getD fields 2 0
       → size ≡ getD fields 3 0
-      → r ≡ belongsOf s (withId (getD fields 0 0) place size) id
+      → r ≡ belongsOf s (record { idlength = getD fields 0 0; description = 0; id = extent place size; target = Target.None; user = extent 0 0 }) id
       → r ≡ belongsLent s fields id
-  unfolding belongsLent
-  belongs-by h p q e = rw (le-ltb (length fields) 11 h) (e ∙ rw (p, q))
+  unfolding belongsLent belongsOf
+  belongs-by e f p q g = rw (sym e ∙ f) (g ∙ rw (p, q))
 
-pub by-its-numbers : (s fields id : List ℕ) (t : Trigger) → By-Its-Numbers s fields id t
-unfolding belongsOf
-by-its-numbers s fields id t e h =
+  pub can-be : 11 ≤ length fields → 3 ≤ getD fields 2 0 → getD fields 9 0 + getD fields 10 0 ≡ length s → canBeReadBy (length s) fields ≡ true
+  unfolding canBeReadBy
+  can-be l p u = rw (le-leb 11 (length fields) l, le-leb 3 (getD fields 2 0) p, eq-eqb (getD fields 9 0 + getD fields 10 0) (length s) u)
+
+pub by-its-numbers : (s : List ℕ) → Octets s → (fields id : List ℕ) (t : Trigger) → By-Its-Numbers s fields id t
+unfolding belongsLent
+by-its-numbers s o fields id t e h =
     let left = sym (lent-put s fields t e h refl) in
+    let back = numbers-back t (drop 11 fields) in
+    let p = all-placed s o t e in
+    let now : List ℕ = numbersOf t ++ drop 11 fields in
+    let long : 11 ≤ length now = omega (arith, length-append (numbersOf t) (drop 11 fields), eleven t) in
+    let low : 3 ≤ getD now 2 0 = p .id .0 in
+    let ends : getD now 9 0 + getD now 10 0 ≡ length s = ap (λ (x : Trigger). x .user .place + x .user .length) back ∙ p .user in
     ap (λ o. belongsLent s (o .out) id) left
-    ∙ sym (belongs-by s (numbersOf t ++ drop 11 fields) id (omega (arith, length-append (numbersOf t) (drop 11 fields), eleven t)) refl refl refl)
+    ∙ ap (λ b. b && belongsOf s (triggerBack now) id) (can-be s now id long low ends)
+    ∙ ap (λ x. belongsOf s x id) back

@@ -1,17 +1,15 @@
 -- How the boundary answers the reading of a trigger: a number of refusal or 0, and the trigger's eleven numbers in a lent buffer.
-use Prim.Native.Nat.{ℕ, _≤_}
+use Prim.Native.Nat.{ℕ, _+_, _≤_}
 use mathlib.Core.Path.{_≡_}
 use mathlib.Core.List.{List}
-use mathlib.Core.Bool.{Bool, false}
+use mathlib.Core.Bool.{Bool, _&&_}
 use mathlib.Core.Logic.{_↔_}
-use lib.Dec.{ltb}
+use lib.Dec.{leb, eqb}
 use lib.ListN.{length, getD}
-use Rattle.base.specs.Choice.{if_then_else_}
 use Rattle.answers.specs.Answers.{Out, puts}
-use Rattle.trigger.specs.declared.Target.{Target}
 use Rattle.trigger.specs.declared.Trigger.{Trigger}
 use Rattle.trigger.specs.declared.Answer.{Answer}
-use Rattle.trigger.specs.Trigger.{extent, readOf}
+use Rattle.trigger.specs.Trigger.{readOf}
 use Rattle.trigger.specs.Belongs.{belongsOf}
 use Rattle.trigger.specs.Answer.{triggerTold, triggerBack}
 
@@ -33,16 +31,15 @@ module _ (s fields : List ℕ) where
   abbrev pub Read-Comes-Back : Type 0
   Read-Comes-Back = triggerLent s fields .code ≡ 0 → readOf s ≡ Answer.Trigger (triggerBack (triggerLent s fields .out))
 
--- a trigger of which the host has where its application id lies, and no more is asked
-abbrev pub withId : ℕ → ℕ → ℕ → Trigger
-withId idlength place size =
-    record { idlength = idlength; description = 0; id = extent place size; target = Target.None; user = extent 0 0 }
+-- the numbers can be those that a reading of a payload of so many bytes left: there are eleven, the id begins behind the three bytes before it, and the user
+-- data ends where the payload does. What a buffer had before any reading, or from another payload's, most often cannot
+unfoldable pub canBeReadBy : ℕ → List ℕ → Bool
+canBeReadBy size fields =
+    leb 11 (length fields) && (leb 3 (getD fields 2 0) && eqb (getD fields 9 0 + getD fields 10 0) size)
 
--- whether the trigger whose numbers a reading put into a buffer belongs to an application; fewer numbers than a trigger has are no trigger,
--- which belongs to none
+-- whether the trigger that comes back out of the numbers belongs to an application; numbers that cannot be this payload's belong to none
 unfoldable pub belongsLent : List ℕ → List ℕ → List ℕ → Bool
-belongsLent s fields id =
-    if ltb (length fields) 11 then false else belongsOf s (withId (getD fields 0 0) (getD fields 2 0) (getD fields 3 0)) id
+belongsLent s fields id = canBeReadBy (length s) fields && belongsOf s (triggerBack fields) id
 
 -- by the numbers as the reading left them it belongs as the trigger does
 abbrev pub By-Its-Numbers : List ℕ → List ℕ → List ℕ → Trigger → Type 0

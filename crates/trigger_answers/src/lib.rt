@@ -6,7 +6,7 @@ ghost use lib.ListN.{length, drop};
 ghost use Rattle.answers.specs.Answers.{out as outOf};
 ghost use Rattle.trigger.specs.Answer.{numbersOf};
 ghost use Rattle.trigger_answers.specs.Aim.{aimOf, Narrow, NarrowTarget, NarrowTrigger};
-ghost use Rattle.trigger_answers.specs.Lent.{triggerLent, belongsLent};
+ghost use Rattle.trigger_answers.specs.Lent.{triggerLent, canBeReadBy, belongsLent};
 use trigger::Answer;
 use trigger::Extent;
 use trigger::Target;
@@ -15,12 +15,19 @@ use trigger::Trigger;
 // How many numbers a trigger is answered in.
 const NUMBERS: usize = 11;
 
-// Where among them the application id's length as read stands, its place, and how many bytes it has.
+// Where among them the application id's length as read stands, its place and how many bytes it has, and those of the user data.
 const ID_LENGTH: usize = 0;
 
 const ID_PLACE: usize = 2;
 
 const ID_BYTES: usize = 3;
+
+const USER_PLACE: usize = 9;
+
+const USER_BYTES: usize = 10;
+
+// The bytes of a trigger before its id.
+const BEFORE_ID: usize = 3;
 
 // Kinds of target. Those below the last are also the types that A/93 gives them.
 const NONE: u16 = 0;
@@ -117,8 +124,8 @@ fn put(t: Trigger, fields: &mut [u16])
     fields[6] = aim.first;
     fields[7] = aim.second;
     fields[8] = aim.third;
-    fields[9] = user.place as u16;
-    fields[10] = user.length as u16;
+    fields[USER_PLACE] = user.place as u16;
+    fields[USER_BYTES] = user.length as u16;
 }
 
 // Reads the payload as a trigger and puts its numbers at the front of the buffer, or answers the refusal.
@@ -138,28 +145,41 @@ pub fn trigger_read(payload: &[u8], fields: &mut [u16]) -> u8
     }
 }
 
-// Whether a trigger, by the numbers that its reading put into the buffer, belongs to the application with an id. Fewer numbers are
-// no trigger.
-pub fn trigger_belongs(payload: &[u8], fields: &[u16], application: &[u8]) -> bool
-    ensures { λ r. ⌜ r ≡ belongsLent (now (payload .entry)) (now (fields .entry)) (now (application .entry)) ⌝ }
+// Whether the numbers can be those that a reading of a payload of so many bytes left.
+fn can_be_read(size: usize, fields: &[u16]) -> bool
+    ensures { λ r. ⌜ r ≡ canBeReadBy size (now (fields .entry)) ⌝ }
 {
     if fields.len() < NUMBERS {
         return false;
     }
-    let idlength = fields[ID_LENGTH];
-    let place = base::wide(fields[ID_PLACE]);
-    let length = base::wide(fields[ID_BYTES]);
-    let id = Extent { place, length };
-    let user = Extent {
-        place: 0,
-        length: 0,
-    };
-    let trigger = Trigger {
-        idlength,
-        description: 0,
-        id,
-        target: Target::None,
-        user,
-    };
-    trigger::belongs(payload, trigger, application)
+    if base::wide(fields[ID_PLACE]) < BEFORE_ID {
+        return false;
+    }
+    base::wide(fields[USER_PLACE]) + base::wide(fields[USER_BYTES]) == size
+}
+
+// Whether a trigger, by the numbers that its reading left, belongs to the application with an id. Numbers that cannot be this
+// payload's belong to none.
+pub fn trigger_belongs(payload: &[u8], fields: &[u16], application: &[u8]) -> bool
+    ensures { λ r. ⌜ r ≡ belongsLent (now (payload .entry)) (now (fields .entry)) (now (application .entry)) ⌝ }
+{
+    if can_be_read(payload.len(), fields) {
+        let idlength = fields[ID_LENGTH];
+        let place = base::wide(fields[ID_PLACE]);
+        let length = base::wide(fields[ID_BYTES]);
+        let id = Extent { place, length };
+        let user = Extent {
+            place: 0,
+            length: 0,
+        };
+        let trigger = Trigger {
+            idlength,
+            description: 0,
+            id,
+            target: Target::None,
+            user,
+        };
+        return trigger::belongs(payload, trigger, application);
+    }
+    false
 }

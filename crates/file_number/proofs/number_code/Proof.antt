@@ -1,6 +1,8 @@
 -- `file_number::number_code` meets its promise: case by case.
 use mathlib.Core.Path.{sym, ap, _∙_}
+use native.Mathlib.Omega.{arith}
 use Rattle.file_number.specs.Answer.{numberCode}
+use Rattle.file_number.proofs.OneSpelling.{three-most, size-same}
 use borrow.Author.Needs.{needs}
 use Rattle.file_number.proofs.number_code.Statement.{statement}
 use Rattle.file_number.proofs.number_code.Tie as tie
@@ -42,8 +44,10 @@ returns c = c .wider .ensures ∙ ap numberCode (sym (c .before .before .found .
 
 returns-2 : tie.Need-returns-2
 returns-2 c =
-    rw (c .full .ensures .0)
-    (ap numberCode (sym (c .before .before .found2 .given .1) ∙ c .before .before .before .before .read-number .ensures))
+    let e = sym (c .before .before .before .before .read-number .ensures) ∙ c .before .before .found2 .given .1 in
+    let few = three-most _ (λ k. omega (arith, c .before .before .before .before .before .shared-slice-known .given k)) _ _ e .1 in
+    let same = size-same _ few in
+    rw (c .full .ensures .0, same) (ap numberCode (sym e))
 
 pub number-code-spec : {M : Type 1} → statement M
 number-code-spec =

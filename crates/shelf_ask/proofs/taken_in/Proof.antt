@@ -4,7 +4,7 @@ use native.Mathlib.Omega.{arith}
 use Prim.Native.Nat.{_+_, _*_}
 use Rattle.base.proofs.Tests.{told}
 use Rattle.shelf_ask.proofs.Held.{lent-whole, lent-sound}
-use Rattle.shelf_ask.proofs.Tables.{taken-refused, taken-14, taken-place, head-taken, head-free}
+use Rattle.shelf_ask.proofs.Tables.{taken-refused, taken-14, head-place, head-free}
 use borrow.Author.Needs.{needs}
 use Rattle.shelf_ask.proofs.taken_in.Statement.{statement}
 use Rattle.shelf_ask.proofs.taken_in.Tie as tie
@@ -35,8 +35,7 @@ returns-3 c =
     let e = told (c .before .before .before .unlent .ensures) (c .before .before .if1 .left) in
     let s = lent-sound _ _ e in
     let g = c .before .before .before .before .before .args in
-    sym (taken-place _ _ _ (lent-whole _ _ e) s
-    (head-taken _ _ (omega (arith, c .before .before .before .before .shared-slice-known .given (64 + 4 * g .p))) s (c .before .key-number .ensures) (c .if2 .left)))
+    sym (head-place _ _ (omega (arith, c .before .before .before .before .shared-slice-known .given (64 + 4 * g .p))) s _ (lent-whole _ _ e) (c .before .key-number .ensures) (c .if2 .left))
 
 pub taken-in-spec : {M : Type 1} → statement M
 taken-in-spec =
