@@ -592,7 +592,7 @@ static inline khumsafil_trigger khumsafil_trigger_read(const uint8_t *payload, s
 
 /*
  * Whether a trigger belongs to the application with an id, which may be empty. The trigger is as the reading gave it, and
- * the payload what it was read from. A refused trigger belongs to none.
+ * the payload what it was read from. A refused trigger belongs to none, nor does one that was never read.
  */
 static inline bool khumsafil_trigger_belongs(const uint8_t *payload, size_t payload_length,
                                              const khumsafil_trigger *trigger, const uint8_t *application,

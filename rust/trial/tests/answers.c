@@ -248,6 +248,7 @@ static int loops(void) {
 /* All members of a refused trigger are 0, and it belongs to none. */
 static int no_trigger(const uint8_t *payload, size_t length, khumsafil_refusal by) {
     const khumsafil_trigger t = khumsafil_trigger_read(payload, length);
+    khumsafil_trigger never_read;
     unsigned n;
     EXPECT(t.refusal == by && t.id_length == 0 && t.description == 0 && t.id.place == 0 && t.id.length == 0);
     EXPECT(t.target.kind == KHUMSAFIL_TARGET_NOT_READ && t.target.type == 0 && t.target.tap == 0);
@@ -257,6 +258,9 @@ static int no_trigger(const uint8_t *payload, size_t length, khumsafil_refusal b
         EXPECT(t.fields[n] == 0);
     EXPECT(!khumsafil_trigger_belongs(payload, length, &t, NULL, 0));
     EXPECT(!khumsafil_trigger_belongs(payload, length, &t, payload, length));
+    /* Nor does one of zeros, which says that it is not refused and was never read. */
+    memset(&never_read, 0, sizeof never_read);
+    EXPECT(!khumsafil_trigger_belongs(payload, length, &never_read, NULL, 0));
     return 0;
 }
 

@@ -7,13 +7,15 @@
 /* P10: tap 23, data 41. */
 static const uint8_t p10[] = {0x00, 0x00, 0x02, 0x00, 0x01, 0x02, 0x00, 0x02, 0x00, 0x17, 0x00, 0x01, 0x41};
 
-/* The numbers of a trigger with that id length as read, and with its id at that place and of that size. One more than are
-   ever lent, so that too many can be. */
-static const uint16_t *of(uint16_t id_length, uint16_t place, uint16_t size) {
+/* The numbers of a trigger with that id length as read, with its id at that place and of that size, and with no user data at
+   the end of a payload of so many bytes. One more than are ever lent, so that too many can be. */
+static const uint16_t *of(size_t payload, uint16_t id_length, uint16_t place, uint16_t size) {
     static uint16_t fields[KHUMSAFIL_TRIGGER_FIELDS + 1];
     fields[KHUMSAFIL_TRIGGER_ID_LENGTH] = id_length;
     fields[KHUMSAFIL_TRIGGER_ID_PLACE] = place;
     fields[KHUMSAFIL_TRIGGER_ID_BYTES] = size;
+    fields[KHUMSAFIL_TRIGGER_USER_PLACE] = (uint16_t)payload;
+    fields[KHUMSAFIL_TRIGGER_USER_BYTES] = 0;
     return fields;
 }
 
@@ -28,9 +30,9 @@ static int empty_buffers(void) {
     EXPECT(khumsafil_raw_trigger_read(NULL, 0, NULL, 0) == KHUMSAFIL_REFUSED_TRIGGER_CUT_OFF);
     EXPECT(khumsafil_raw_trigger_read(NULL, 0, fields, KHUMSAFIL_TRIGGER_FIELDS) == KHUMSAFIL_REFUSED_TRIGGER_CUT_OFF);
     EXPECT(!khumsafil_raw_trigger_belongs(NULL, 0, NULL, 0, NULL, 0));
-    EXPECT(khumsafil_raw_trigger_belongs(NULL, 0, of(0, 3, 0), KHUMSAFIL_TRIGGER_FIELDS, NULL, 0));
-    EXPECT(!khumsafil_raw_trigger_belongs(NULL, 0, of(2, 5, 0), KHUMSAFIL_TRIGGER_FIELDS, NULL, 0));
-    EXPECT(khumsafil_raw_trigger_belongs(p10, sizeof p10, of(2, 5, 0), KHUMSAFIL_TRIGGER_FIELDS, NULL, 0));
+    EXPECT(khumsafil_raw_trigger_belongs(NULL, 0, of(0, 0, 3, 0), KHUMSAFIL_TRIGGER_FIELDS, NULL, 0));
+    EXPECT(!khumsafil_raw_trigger_belongs(NULL, 0, of(0, 2, 5, 0), KHUMSAFIL_TRIGGER_FIELDS, NULL, 0));
+    EXPECT(khumsafil_raw_trigger_belongs(p10, sizeof p10, of(sizeof p10, 2, 5, 0), KHUMSAFIL_TRIGGER_FIELDS, NULL, 0));
     EXPECT(khumsafil_raw_file_table(NULL, 0, NULL, 0) == KHUMSAFIL_REFUSED_BAD_NUMBER);
     EXPECT(khumsafil_raw_file_number(NULL, 0) == KHUMSAFIL_REFUSED_BAD_NUMBER);
     EXPECT(khumsafil_raw_clock_fresh(NULL, 0) == KHUMSAFIL_REFUSED_CLOCK_SPOILED);
@@ -258,16 +260,23 @@ static int the_largest(void) {
 static int shared_to_be_read(void) {
     const uint8_t with_id[] = {0x00, 0x00, 0x04, 0x00, 0x01, 0x41, 0x42, 0x00, 0x00, 0x00, 0x00, 0x00};
     const size_t n = KHUMSAFIL_TRIGGER_FIELDS, s = sizeof with_id;
-    EXPECT(khumsafil_raw_trigger_belongs(with_id, s, of(4, 5, 2), n, with_id + 5, 2));
-    EXPECT(!khumsafil_raw_trigger_belongs(with_id, s, of(4, 5, 2), n, with_id + 6, 2));
-    EXPECT(khumsafil_raw_trigger_belongs(with_id, s, of(4, 0, sizeof with_id), n, with_id, s));
+    EXPECT(khumsafil_raw_trigger_belongs(with_id, s, of(s, 4, 5, 2), n, with_id + 5, 2));
+    EXPECT(!khumsafil_raw_trigger_belongs(with_id, s, of(s, 4, 5, 2), n, with_id + 6, 2));
+    EXPECT(khumsafil_raw_trigger_belongs(with_id, s, of(s, 4, 3, sizeof with_id - 3), n, with_id + 3, s - 3));
+    /* Numbers that cannot be this payload's are no trigger's: an id before place 3, as in a buffer of zeros, or user data that
+       does not end where the payload does. */
+    EXPECT(!khumsafil_raw_trigger_belongs(with_id, s, of(s, 0, 0, 0), n, with_id, s));
+    EXPECT(!khumsafil_raw_trigger_belongs(with_id, s, of(s, 0, 2, 0), n, with_id, s));
+    EXPECT(!khumsafil_raw_trigger_belongs(with_id, s, of(s - 1, 0, 3, 0), n, with_id, s));
+    EXPECT(!khumsafil_raw_trigger_belongs(with_id, s, of(s + 1, 0, 3, 0), n, with_id, s));
+    EXPECT(khumsafil_raw_trigger_belongs(with_id, s, of(s, 0, 3, 0), n, with_id, s));
     /* Fewer numbers than a trigger has are no trigger's, and one more is not looked at. */
-    EXPECT(!khumsafil_raw_trigger_belongs(with_id, s, of(4, 5, 2), n - 1, with_id + 5, 2));
-    EXPECT(!khumsafil_raw_trigger_belongs(with_id, s, of(0, 3, 0), n - 1, with_id + 5, 2));
-    EXPECT(khumsafil_raw_trigger_belongs(with_id, s, of(4, 5, 2), n + 1, with_id + 5, 2));
+    EXPECT(!khumsafil_raw_trigger_belongs(with_id, s, of(s, 4, 5, 2), n - 1, with_id + 5, 2));
+    EXPECT(!khumsafil_raw_trigger_belongs(with_id, s, of(s, 0, 3, 0), n - 1, with_id + 5, 2));
+    EXPECT(khumsafil_raw_trigger_belongs(with_id, s, of(s, 4, 5, 2), n + 1, with_id + 5, 2));
     /* An id that does not lie in the payload is no application's. */
-    EXPECT(!khumsafil_raw_trigger_belongs(with_id, s, of(4, sizeof with_id, 1), n, with_id + 11, 1));
-    EXPECT(khumsafil_raw_trigger_belongs(with_id, s, of(4, sizeof with_id - 1, 1), n, with_id + 11, 1));
+    EXPECT(!khumsafil_raw_trigger_belongs(with_id, s, of(s, 4, sizeof with_id, 1), n, with_id + 11, 1));
+    EXPECT(khumsafil_raw_trigger_belongs(with_id, s, of(s, 4, sizeof with_id - 1, 1), n, with_id + 11, 1));
     return 0;
 }
 

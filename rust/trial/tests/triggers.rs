@@ -112,6 +112,11 @@ fn belonging() {
         fields[0] = random.pick(&[0, 1, 2, 65_535, fields[0]]);
         fields[2] = random.pick(&[0, 3, 5, payload.len() as u16, 65_535]);
         fields[3] = random.pick(&[0, 1, payload.len() as u16, 65_535, id.len() as u16]);
+        // User data that ends with the payload, more often than not: elsewhere it is no application's.
+        if !random.once_in(4) {
+            fields[9] = random.below(payload.len() + 1) as u16;
+            fields[10] = payload.len() as u16 - fields[9];
+        }
         let given = belongs_by_any(&payload, &fields, &id);
         counts[usize::from(given)] += 1;
     }

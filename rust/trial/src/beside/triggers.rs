@@ -80,11 +80,14 @@ pub fn compare(payload: &[u8], targets: &mut Tally) -> u8 {
 }
 
 /// Asks both whether a trigger of these numbers belongs to the application. With fewer than eleven it is none's, and more
-/// are not looked at.
+/// are not looked at. Nor is it any's where the numbers cannot be this payload's: an id before place 3, or user data that does
+/// not end where the payload does.
 pub fn belongs(payload: &[u8], fields: &[u16], application: &[u8]) -> bool {
     let ours = trigger::belongs(payload, fields, application);
     let other = match fields {
-        [id_length, description, place, size, _, _, _, _, _, _, _, ..] => {
+        [id_length, description, place, size, _, _, _, _, _, user, bytes, ..]
+            if *place >= 3 && usize::from(*user) + usize::from(*bytes) == payload.len() =>
+        {
             let numbers = theirs::Trigger {
                 id_length: *id_length,
                 description: *description,
