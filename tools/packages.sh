@@ -10,5 +10,9 @@ lacking() { # COMMAND PACKAGE...
 install_packages() { # WORDS...
     local as_root=sudo
     [ "$(id -u)" != 0 ] || as_root=
-    $as_root apt-get install -y "$@"
+    # The lists of packages need not be there yet.
+    $as_root apt-get install -y "$@" || {
+        $as_root apt-get update
+        $as_root apt-get install -y "$@"
+    }
 }
