@@ -22,13 +22,14 @@
  *   a null pointer with length 0     is an empty buffer; nothing is read or written through it
  *   a record that was written on     18 or 35 where it is spoiled; otherwise it is taken for what it says
  *   a shelf or a clock that was
- *   never begun                      taken for what stands there, which is most often spoiled: begin it first
+ *   never begun                      taken for what stands there: a shelf most often for an empty one, a clock for a spoiled
+ *                                    one (35), or where all is 0 for a fresh one. Begin it first
  *   a store that was written on      taken as it stands: a repeat is compared with it, and copies and files have
  *                                    what stands there; whether a table is whole is told by the record alone
  *   too little room for an answer    15, after the refusals of what is read
  *   an action above 3                255, before all else
- *   any key, number, application,
- *   place or length as a number      refused, or answered as the function says
+ *   any number of a section, place,
+ *   application, version or length   refused, or answered as the function says
  *   two buffers that are only read   may share bytes, or be one
  *
  * A store or a record of another size, which a raw function refuses by 17, 18 or 35, cannot be lent to a function of this
@@ -42,18 +43,30 @@
  *   refused or writes nothing, as with a payload that stands in the store
  *   two calls at the same time on one buffer that either of them writes
  *
- * Of a buffer that is as long as was said, no element beyond it is touched.
+ *   a table id, an extension, an event or a time in a wider variable, which C cuts without a word unless it is asked for
+ *   (-Wconversion): the rest of the number is another one, and as good
+ *
+ * Of a buffer that is as long as was said, no element beyond it is touched. A buffer for datagrams has one byte more than
+ * KHUMSAFIL_LARGEST_SECTION or KHUMSAFIL_LARGEST_TRIGGER, so that a longer one is refused and not clipped.
  */
 #ifndef KHUMSAFIL_H
 #define KHUMSAFIL_H
 
 #include "khumsafil_raw.h"
 
+/* An answer that nobody looks at is told by a compiler that can. */
+#if defined(__GNUC__)
+#define KHUMSAFIL_LOOK_ __attribute__((warn_unused_result))
+#else
+#define KHUMSAFIL_LOOK_
+#endif
+
 /* The version of this header: 65536 times the major number, 256 times the minor one and the patch. */
 #define KHUMSAFIL_VERSION 0x000200
 #define KHUMSAFIL_VERSION_TEXT "0.2.0"
 
 /* The version of the library that is linked, by its own answer. */
+KHUMSAFIL_LOOK_
 static inline uint32_t khumsafil_version(void) {
     return khumsafil_raw_version();
 }
@@ -205,6 +218,7 @@ typedef struct khumsafil_key {
     uint16_t extension;
 } khumsafil_key;
 
+KHUMSAFIL_LOOK_
 static inline khumsafil_key khumsafil_key_of(uint8_t table_id, uint16_t extension) {
     khumsafil_key key;
     key.table_id = table_id;
@@ -213,6 +227,7 @@ static inline khumsafil_key khumsafil_key_of(uint8_t table_id, uint16_t extensio
 }
 
 /* Whether two keys are one. */
+KHUMSAFIL_LOOK_
 static inline bool khumsafil_key_same(khumsafil_key a, khumsafil_key b) {
     return a.table_id == b.table_id && a.extension == b.extension;
 }
@@ -225,6 +240,12 @@ static inline bool khumsafil_key_same(khumsafil_key a, khumsafil_key b) {
 /* What the raw answers have in common. A name with an underscore at its end is no part of what a host calls either. */
 static inline khumsafil_refusal khumsafil_refusal_(uint64_t answer) {
     return (khumsafil_refusal)(answer & 0xFF);
+}
+
+/* A number that 8 bits cannot hold is no place, application, version or number of a section, and must not become one by losing the
+   rest. */
+static inline uint8_t khumsafil_narrow_(unsigned number) {
+    return number > 0xFF ? (uint8_t)0xFF : (uint8_t)number;
 }
 
 static inline khumsafil_done khumsafil_done_(uint8_t answer) {
@@ -252,6 +273,7 @@ typedef struct khumsafil_section {
 } khumsafil_section;
 
 /* Reads the payload as one section. Refused: 1 to 8, the lowest number that applies. */
+KHUMSAFIL_LOOK_
 static inline khumsafil_section khumsafil_section_read(const uint8_t *payload, size_t payload_length) {
     const uint64_t answer = khumsafil_raw_section_read(payload, payload_length);
     khumsafil_section section;
@@ -276,6 +298,7 @@ typedef struct khumsafil_shelf {
 } khumsafil_shelf;
 
 /* Makes it a fresh shelf, whatever stood there: four free places and a store of zeros. Never refused. */
+KHUMSAFIL_LOOK_
 static inline khumsafil_done khumsafil_shelf_begin(khumsafil_shelf *shelf) {
     return khumsafil_done_(khumsafil_raw_shelf_begin(KHUMSAFIL_SHELF_(shelf)));
 }
@@ -295,6 +318,7 @@ typedef struct khumsafil_offered {
 } khumsafil_offered;
 
 /* Offers a datagram's payload. Refused: 18, then 1 to 10, the lowest number that applies. */
+KHUMSAFIL_LOOK_
 static inline khumsafil_offered khumsafil_shelf_offer(khumsafil_shelf *shelf, const uint8_t *payload,
                                                       size_t payload_length) {
     const uint16_t answer = khumsafil_raw_shelf_offer(KHUMSAFIL_SHELF_(shelf), payload, payload_length);
@@ -308,6 +332,7 @@ static inline khumsafil_offered khumsafil_shelf_offer(khumsafil_shelf *shelf, co
  * The lamp: true exactly when the table is held and every section of it from 0 to its last. False of a table that is not
  * held or has a gap, and of a spoiled shelf; khumsafil_shelf_completeness tells these apart.
  */
+KHUMSAFIL_LOOK_
 static inline bool khumsafil_shelf_is_complete(const khumsafil_shelf *shelf, khumsafil_key key) {
     return khumsafil_raw_shelf_is_complete(KHUMSAFIL_SHELF_(shelf), KHUMSAFIL_KEY_(key));
 }
@@ -318,6 +343,7 @@ typedef struct khumsafil_completeness {
 } khumsafil_completeness;
 
 /* Whether every section of a table is held. Refused: 18, 14. */
+KHUMSAFIL_LOOK_
 static inline khumsafil_completeness khumsafil_shelf_completeness(const khumsafil_shelf *shelf, khumsafil_key key) {
     const uint16_t answer = khumsafil_raw_shelf_complete(KHUMSAFIL_SHELF_(shelf), KHUMSAFIL_KEY_(key));
     khumsafil_completeness completeness;
@@ -334,6 +360,7 @@ typedef struct khumsafil_missing {
 } khumsafil_missing;
 
 /* The lowest number of a table that is not held. Refused: 18, 14. */
+KHUMSAFIL_LOOK_
 static inline khumsafil_missing khumsafil_shelf_lowest_missing(const khumsafil_shelf *shelf, khumsafil_key key) {
     const uint32_t answer = khumsafil_raw_shelf_lowest_missing(KHUMSAFIL_SHELF_(shelf), KHUMSAFIL_KEY_(key));
     khumsafil_missing missing;
@@ -367,10 +394,11 @@ static inline khumsafil_table khumsafil_table_(uint8_t answer, const uint16_t *f
 }
 
 /* Which table is in a place, 0 to KHUMSAFIL_PLACES - 1. Refused: 18, 14 where the place is free or is none of these. */
-static inline khumsafil_table khumsafil_shelf_table(const khumsafil_shelf *shelf, uint8_t place) {
+KHUMSAFIL_LOOK_
+static inline khumsafil_table khumsafil_shelf_table(const khumsafil_shelf *shelf, unsigned place) {
     uint16_t fields[KHUMSAFIL_TABLE_FIELDS];
-    const uint8_t answer =
-        khumsafil_raw_shelf_table(KHUMSAFIL_SHELF_(shelf), place, fields, KHUMSAFIL_TABLE_FIELDS);
+    const uint8_t answer = khumsafil_raw_shelf_table(KHUMSAFIL_SHELF_(shelf), khumsafil_narrow_(place), fields,
+                                                     KHUMSAFIL_TABLE_FIELDS);
     return khumsafil_table_(answer, fields);
 }
 
@@ -378,8 +406,9 @@ static inline khumsafil_table khumsafil_shelf_table(const khumsafil_shelf *shelf
  * Whether two shelves have the same tables in the same places, with the same sections held by number and length: document
  * 01's equality of records. What stands in the stores is not compared. A spoiled shelf is the same as none.
  */
+KHUMSAFIL_LOOK_
 static inline bool khumsafil_shelf_same(const khumsafil_shelf *a, const khumsafil_shelf *b) {
-    uint8_t place;
+    unsigned place;
     for (place = 0; place < KHUMSAFIL_PLACES; place++) {
         const khumsafil_table one = khumsafil_shelf_table(a, place), other = khumsafil_shelf_table(b, place);
         unsigned n;
@@ -398,25 +427,29 @@ static inline bool khumsafil_shelf_same(const khumsafil_shelf *a, const khumsafi
  * Copies a held section to the front of out, where KHUMSAFIL_LARGEST_SECTION bytes are room for any. Refused: 18, 14, 16,
  * 15.
  */
-static inline khumsafil_size khumsafil_shelf_copy_section(const khumsafil_shelf *shelf, khumsafil_key key, uint8_t number,
+KHUMSAFIL_LOOK_
+static inline khumsafil_size khumsafil_shelf_copy_section(const khumsafil_shelf *shelf, khumsafil_key key, unsigned number,
                                                           uint8_t *out, size_t out_length) {
-    return khumsafil_size_(khumsafil_raw_shelf_copy_section(KHUMSAFIL_SHELF_(shelf), KHUMSAFIL_KEY_(key), number, out,
-                                                            out_length));
+    return khumsafil_size_(khumsafil_raw_shelf_copy_section(KHUMSAFIL_SHELF_(shelf), KHUMSAFIL_KEY_(key),
+                                                            khumsafil_narrow_(number), out, out_length));
 }
 
 /* Releases a table: its place is free, and its berths are zeros. Refused: 18, 14. */
+KHUMSAFIL_LOOK_
 static inline khumsafil_done khumsafil_shelf_release(khumsafil_shelf *shelf, khumsafil_key key) {
     return khumsafil_done_(khumsafil_raw_shelf_release(KHUMSAFIL_SHELF_(shelf), KHUMSAFIL_KEY_(key)));
 }
 
 /* Saves a held table as a file at the front of out, where KHUMSAFIL_LARGEST_FILE bytes are room for any. Refused: 18, 14,
    15. */
+KHUMSAFIL_LOOK_
 static inline khumsafil_size khumsafil_shelf_save(const khumsafil_shelf *shelf, khumsafil_key key, uint8_t *out,
                                                   size_t out_length) {
     return khumsafil_size_(khumsafil_raw_shelf_save(KHUMSAFIL_SHELF_(shelf), KHUMSAFIL_KEY_(key), out, out_length));
 }
 
 /* Which table a file is. Refused: the file's first fault (11, 12, 2 to 8). */
+KHUMSAFIL_LOOK_
 static inline khumsafil_table khumsafil_file_table(const uint8_t *file, size_t file_length) {
     uint16_t fields[KHUMSAFIL_TABLE_FIELDS];
     const uint8_t answer = khumsafil_raw_file_table(file, file_length, fields, KHUMSAFIL_TABLE_FIELDS);
@@ -427,6 +460,7 @@ static inline khumsafil_table khumsafil_file_table(const uint8_t *file, size_t f
  * Loads a file's table into the lowest free place, and answers which table it is. Refused: 18, the file's first fault (11,
  * 12, 2 to 8), 13, 9.
  */
+KHUMSAFIL_LOOK_
 static inline khumsafil_table khumsafil_shelf_load(khumsafil_shelf *shelf, const uint8_t *file, size_t file_length) {
     const uint8_t answer = khumsafil_raw_shelf_load(KHUMSAFIL_SHELF_(shelf), file, file_length);
     return answer != 0 ? khumsafil_table_(answer, NULL) : khumsafil_file_table(file, file_length);
@@ -436,6 +470,7 @@ static inline khumsafil_table khumsafil_shelf_load(khumsafil_shelf *shelf, const
  * Says in lines of text at the front of out what a file holds, or by which number it is refused. There is no zero byte
  * behind the text; KHUMSAFIL_LARGEST_LIST bytes are room for any. Refused: 15.
  */
+KHUMSAFIL_LOOK_
 static inline khumsafil_size khumsafil_file_list(const uint8_t *file, size_t file_length, uint8_t *out,
                                                  size_t out_length) {
     return khumsafil_size_(khumsafil_raw_file_list(file, file_length, out, out_length));
@@ -449,6 +484,7 @@ typedef struct khumsafil_number {
 } khumsafil_number;
 
 /* The seven-bit number at the front of some bytes. Refused: 11. */
+KHUMSAFIL_LOOK_
 static inline khumsafil_number khumsafil_file_number(const uint8_t *bytes, size_t bytes_length) {
     const uint32_t answer = khumsafil_raw_file_number(bytes, bytes_length);
     khumsafil_number number;
@@ -466,8 +502,14 @@ typedef enum khumsafil_step_kind {
 } khumsafil_step_kind;
 
 /*
- * A step. The content is the part of the loop's bytes that is the descriptor's, and no other. The place of the next step is
- * the loop's length where the walk is over or refused, so that a walk which forgets to look ends.
+ * A step. The content is the part of the loop's bytes that is the descriptor's, and no other. A walk goes on while a
+ * descriptor is found:
+ *
+ *   for (at = 0; (step = khumsafil_descriptor_step(loop, length, at)).found == KHUMSAFIL_STEP_DESCRIPTOR; at = step.next)
+ *
+ * and step.refusal then says whether it came to the loop's end. The place of the next step is the loop's length where the
+ * walk is over or refused, so that one which goes up to that length, or to KHUMSAFIL_STEP_OVER, ends as well. A step at the
+ * end is no refusal: a walk that waits for one does not end.
  */
 typedef struct khumsafil_step {
     khumsafil_refusal refusal;
@@ -479,6 +521,7 @@ typedef struct khumsafil_step {
 } khumsafil_step;
 
 /* What stands at a place of a descriptor loop. Any place may be asked. Refused: 19. */
+KHUMSAFIL_LOOK_
 static inline khumsafil_step khumsafil_descriptor_step(const uint8_t *bytes, size_t bytes_length, size_t at) {
     const uint64_t answer = khumsafil_raw_descriptor_step(bytes, bytes_length, at);
     khumsafil_step step;
@@ -499,6 +542,7 @@ static inline khumsafil_step khumsafil_descriptor_step(const uint8_t *bytes, siz
 }
 
 /* Whether the descriptor at a place marks a trigger Tap. Where no descriptor can be read, it does not. */
+KHUMSAFIL_LOOK_
 static inline bool khumsafil_descriptor_is_trigger_tap(const uint8_t *bytes, size_t bytes_length, size_t at) {
     return khumsafil_raw_descriptor_is_trigger_tap(bytes, bytes_length, at);
 }
@@ -572,6 +616,7 @@ static inline khumsafil_target khumsafil_target_(const uint16_t *fields) {
 }
 
 /* Reads the payload as a trigger. Refused: 26, then field by field 20 to 25. */
+KHUMSAFIL_LOOK_
 static inline khumsafil_trigger khumsafil_trigger_read(const uint8_t *payload, size_t payload_length) {
     khumsafil_trigger trigger;
     unsigned n;
@@ -594,6 +639,7 @@ static inline khumsafil_trigger khumsafil_trigger_read(const uint8_t *payload, s
  * Whether a trigger belongs to the application with an id, which may be empty. The trigger is as the reading gave it, and
  * the payload what it was read from. A refused trigger belongs to none, nor does one that was never read.
  */
+KHUMSAFIL_LOOK_
 static inline bool khumsafil_trigger_belongs(const uint8_t *payload, size_t payload_length,
                                              const khumsafil_trigger *trigger, const uint8_t *application,
                                              size_t application_length) {
@@ -602,7 +648,17 @@ static inline bool khumsafil_trigger_belongs(const uint8_t *payload, size_t payl
                                                               application_length);
 }
 
-/* A clock. Before all else it is made fresh. */
+/*
+ * A clock. Before all else it is made fresh. Its time is a media time in milliseconds, which only rises: where a host's
+ * begins again, it makes the clock fresh. An activation is applied when its time is reached; one move applies in order of
+ * time, then application, then event. One that was applied is remembered for 60,000 milliseconds, so that its repeat is 33.
+ *
+ *               Released   Ready      Active      Suspended
+ *   prep        Ready      Ready      Active      Suspended
+ *   exec        Active     Active     Active      Active
+ *   susp        Released   Ready      Suspended   Suspended
+ *   kill        Released   Released   Released    Released
+ */
 typedef struct khumsafil_clock {
     uint32_t record[KHUMSAFIL_CLOCK_RECORD];
 } khumsafil_clock;
@@ -617,13 +673,14 @@ typedef enum khumsafil_action {
 
 /* An action on an application at a media time in milliseconds. */
 typedef struct khumsafil_activation {
-    uint8_t application; /* 0 to 7 */
+    unsigned application; /* 0 to 7 */
     uint16_t event;
     khumsafil_action action;
     uint32_t time;
 } khumsafil_activation;
 
 /* Makes it a clock at 0, whatever stood there, with every application Released and nothing held. Never refused. */
+KHUMSAFIL_LOOK_
 static inline khumsafil_done khumsafil_clock_fresh(khumsafil_clock *clock) {
     return khumsafil_done_(khumsafil_raw_clock_fresh(KHUMSAFIL_CLOCK_(clock)));
 }
@@ -641,11 +698,11 @@ typedef struct khumsafil_heard {
 } khumsafil_heard;
 
 /* Offers an activation. Refused: 255 where the action is none of the four, then 35, 30, 32, 33, 34. */
+KHUMSAFIL_LOOK_
 static inline khumsafil_heard khumsafil_clock_offer(khumsafil_clock *clock, khumsafil_activation activation) {
-    /* An action that 8 bits cannot hold is none either, and must not become one by losing the rest. */
-    const uint8_t action = (unsigned)activation.action > 0xFF ? (uint8_t)0xFF : (uint8_t)activation.action;
-    const uint16_t answer = khumsafil_raw_clock_offer(KHUMSAFIL_CLOCK_(clock), activation.application, activation.event,
-                                                      action, activation.time);
+    const uint16_t answer =
+        khumsafil_raw_clock_offer(KHUMSAFIL_CLOCK_(clock), khumsafil_narrow_(activation.application), activation.event,
+                                  khumsafil_narrow_((unsigned)activation.action), activation.time);
     khumsafil_heard heard;
     heard.refusal = khumsafil_refusal_(answer);
     heard.heard = (khumsafil_heard_kind)(answer >> 8);
@@ -659,6 +716,7 @@ typedef struct khumsafil_moved {
 } khumsafil_moved;
 
 /* Moves the clock. Refused: 35, 31. */
+KHUMSAFIL_LOOK_
 static inline khumsafil_moved khumsafil_clock_move(khumsafil_clock *clock, uint32_t to) {
     const uint16_t answer = khumsafil_raw_clock_move(KHUMSAFIL_CLOCK_(clock), to);
     khumsafil_moved moved;
@@ -673,6 +731,7 @@ typedef struct khumsafil_time {
 } khumsafil_time;
 
 /* The clock's time. Refused: 35. */
+KHUMSAFIL_LOOK_
 static inline khumsafil_time khumsafil_clock_time(const khumsafil_clock *clock) {
     const uint64_t answer = khumsafil_raw_clock_time(KHUMSAFIL_CLOCK_(clock));
     khumsafil_time time;
@@ -697,8 +756,9 @@ typedef struct khumsafil_state {
 } khumsafil_state;
 
 /* The state of an application. Refused: 35, 30. */
-static inline khumsafil_state khumsafil_clock_state(const khumsafil_clock *clock, uint8_t application) {
-    const uint16_t answer = khumsafil_raw_clock_state(KHUMSAFIL_CLOCK_(clock), application);
+KHUMSAFIL_LOOK_
+static inline khumsafil_state khumsafil_clock_state(const khumsafil_clock *clock, unsigned application) {
+    const uint16_t answer = khumsafil_raw_clock_state(KHUMSAFIL_CLOCK_(clock), khumsafil_narrow_(application));
     khumsafil_state state;
     state.refusal = khumsafil_refusal_(answer);
     state.state = state.refusal ? KHUMSAFIL_STATE_NOT_KNOWN : (khumsafil_state_kind)((answer >> 8) + 1);
@@ -709,6 +769,7 @@ static inline khumsafil_state khumsafil_clock_state(const khumsafil_clock *clock
  * Whether two clocks have the same time, the same states and the same activations, in any order: document 01's equality of
  * records. A spoiled clock is the same as none.
  */
+KHUMSAFIL_LOOK_
 static inline bool khumsafil_clock_same(const khumsafil_clock *a, const khumsafil_clock *b) {
     uint32_t i, j;
     if (khumsafil_clock_time(a).refusal)
@@ -731,10 +792,11 @@ static inline bool khumsafil_clock_same(const khumsafil_clock *a, const khumsafi
 /* What every section of a table has. */
 typedef struct khumsafil_label {
     khumsafil_key key;
-    uint8_t version; /* at most 31 */
+    unsigned version; /* at most 31 */
 } khumsafil_label;
 
-static inline khumsafil_label khumsafil_label_of(khumsafil_key key, uint8_t version) {
+KHUMSAFIL_LOOK_
+static inline khumsafil_label khumsafil_label_of(khumsafil_key key, unsigned version) {
     khumsafil_label label;
     label.key = key;
     label.version = version;
@@ -747,6 +809,7 @@ typedef struct khumsafil_count {
 } khumsafil_count;
 
 /* How many sections a body of so many bytes makes, 1 to 16: as few as will do. Refused: 40. */
+KHUMSAFIL_LOOK_
 static inline khumsafil_count khumsafil_writer_count(size_t length) {
     const uint16_t answer = khumsafil_raw_writer_count(length);
     khumsafil_count count;
@@ -759,24 +822,27 @@ static inline khumsafil_count khumsafil_writer_count(size_t length) {
  * Writes section k, from 0 on, of the table that carries the body, at the front of out, where KHUMSAFIL_LARGEST_SECTION
  * bytes are room for any. Refused: 40, 41, 42, 15.
  */
+KHUMSAFIL_LOOK_
 static inline khumsafil_size khumsafil_writer_section(khumsafil_label label, const uint8_t *body, size_t body_length,
-                                                      uint8_t k, uint8_t *out, size_t out_length) {
-    return khumsafil_size_(khumsafil_raw_writer_section(KHUMSAFIL_KEY_(label.key), label.version, body, body_length, k,
-                                                        out, out_length));
+                                                      unsigned k, uint8_t *out, size_t out_length) {
+    return khumsafil_size_(khumsafil_raw_writer_section(KHUMSAFIL_KEY_(label.key), khumsafil_narrow_(label.version), body,
+                                                        body_length, khumsafil_narrow_(k), out, out_length));
 }
 
 /*
  * Writes the file of the table that carries the body, with all its sections, at the front of out, where
  * KHUMSAFIL_LARGEST_FILE bytes are room for any. Refused: 40, 41, 15.
  */
+KHUMSAFIL_LOOK_
 static inline khumsafil_size khumsafil_writer_file(khumsafil_label label, const uint8_t *body, size_t body_length,
                                                    uint8_t *out, size_t out_length) {
-    return khumsafil_size_(
-        khumsafil_raw_writer_file(KHUMSAFIL_KEY_(label.key), label.version, body, body_length, out, out_length));
+    return khumsafil_size_(khumsafil_raw_writer_file(KHUMSAFIL_KEY_(label.key), khumsafil_narrow_(label.version), body,
+                                                     body_length, out, out_length));
 }
 
 #undef KHUMSAFIL_KEY_
 #undef KHUMSAFIL_SHELF_
 #undef KHUMSAFIL_CLOCK_
+#undef KHUMSAFIL_LOOK_
 
 #endif

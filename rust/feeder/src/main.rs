@@ -10,7 +10,7 @@ use std::env;
 use std::io::{self, Read, Write};
 use std::process::ExitCode;
 
-const USAGE: &str = "usage: feeder TABLE EXTENSION VERSION <BODY >FILE
+const USAGE: &str = "usage: khumsafil-feed TABLE EXTENSION VERSION <BODY >FILE
 TABLE is 0 to 255, EXTENSION 0 to 65535, VERSION 0 to 31";
 
 /// Why there is no file.
@@ -51,15 +51,15 @@ fn feed() -> Result<(), Fault> {
     let mut input = io::stdin().lock().take(LARGEST_BODY as u64 + 1);
     input
         .read_to_end(&mut body)
-        .map_err(|_| Fault::Said("feeder: read failed".into()))?;
+        .map_err(|_| Fault::Said("khumsafil-feed: read failed".into()))?;
     let mut file = [0; LARGEST_FILE];
     let size = writer::file(label, &body, &mut file)
-        .map_err(|refusal| Fault::Said(format!("refused {}", refusal.number())))?;
+        .map_err(|refusal| Fault::Said(format!("refused {}, {}", refusal.number(), refusal.text())))?;
     let mut output = io::stdout().lock();
     output
         .write_all(&file[..size])
         .and_then(|()| output.flush())
-        .map_err(|_| Fault::Said("feeder: write failed".into()))
+        .map_err(|_| Fault::Said("khumsafil-feed: write failed".into()))
 }
 
 fn main() -> ExitCode {

@@ -93,27 +93,27 @@ fn refusals() {
     for size in [16_257, 16_258, 40_000, 1_000_000] {
         silent(
             &run(feeder(&["201", "4660", "3"]), &vec![0; size]),
-            "refused 40",
+            "refused 40, body too long",
             1,
         );
     }
     for version in ["32", "255", "256", "65536", "99999999999999999999999"] {
         silent(
             &run(feeder(&["201", "4660", version]), b"body"),
-            "refused 41",
+            "refused 41, version above 31",
             1,
         );
     }
     silent(
         &run(feeder(&["201", "4660", "32"]), &[0; 16_257]),
-        "refused 40",
+        "refused 40, body too long",
         1,
     );
 }
 
 #[test]
 fn arguments_that_are_no_label() {
-    let usage = "usage: feeder TABLE EXTENSION VERSION <BODY >FILE\n\
+    let usage = "usage: khumsafil-feed TABLE EXTENSION VERSION <BODY >FILE\n\
                  TABLE is 0 to 255, EXTENSION 0 to 65535, VERSION 0 to 31";
     let wrong: [&[&str]; 12] = [
         &[],
@@ -146,7 +146,7 @@ fn arguments_that_are_no_label() {
 fn what_the_system_refuses() {
     let folder = File::open(top(".")).expect("a folder");
     let output = feeder(&["201", "4660", "3"]).stdin(folder).output();
-    silent(&output.expect("the feeder ends"), "feeder: read failed", 1);
+    silent(&output.expect("the feeder ends"), "khumsafil-feed: read failed", 1);
     let full = OpenOptions::new().write(true).open("/dev/full");
     let mut child = feeder(&["201", "4660", "3"])
         .stdin(Stdio::null())
@@ -157,7 +157,7 @@ fn what_the_system_refuses() {
     child.stdin.take();
     silent(
         &child.wait_with_output().expect("the feeder ends"),
-        "feeder: write failed",
+        "khumsafil-feed: write failed",
         1,
     );
 }

@@ -4,7 +4,7 @@ use core::fmt;
 
 /// Why a call was refused: a number of document 01, from 40 on of document 02, or 255, the boundary's own. Each has a name
 /// here, as in the C header.
-#[derive(Clone, Copy, Debug, PartialEq, Eq, Hash, PartialOrd, Ord)]
+#[derive(Clone, Copy, PartialEq, Eq, Hash, PartialOrd, Ord)]
 pub struct Refusal(u8);
 
 macro_rules! refusals {
@@ -73,6 +73,13 @@ impl Refusal {
     /// The number.
     pub const fn number(self) -> u8 {
         self.0
+    }
+}
+
+/// As [`Display`](fmt::Display), since a `main` that ends with a refusal shows it so.
+impl fmt::Debug for Refusal {
+    fn fmt(&self, f: &mut fmt::Formatter<'_>) -> fmt::Result {
+        fmt::Display::fmt(self, f)
     }
 }
 

@@ -172,7 +172,9 @@ impl<'a> Shelf<'a> {
         Ok(Shelf { record, store })
     }
 
-    /// Takes up a record that was put away, with the store that was put away beside it. Refused: 17, 18.
+    /// Takes up a record that was put away, with the store that was put away beside it. Another store of the right size is taken as
+    /// it stands, since nothing tells the two apart: whether a table is whole is told by the record alone, and copies and files
+    /// have what stands in the store. Refused: 17, 18.
     pub fn resume(record: Record, store: &'a mut [u8]) -> Result<Shelf<'a>, Refusal> {
         // There is no such place, so the answer is 14 unless store or record is refused.
         match lent::table(record.numbers(), store, PLACES as u8) {

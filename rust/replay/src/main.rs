@@ -12,7 +12,7 @@ use std::fs::File;
 use std::io::{self, BufReader, Read, Write};
 use std::process::ExitCode;
 
-const USAGE: &str = "usage: replay [FILE]
+const USAGE: &str = "usage: khumsafil-offer [FILE]
 without FILE, or with -, the recording is on the standard input";
 
 /// The most bytes of a seven-bit number.
@@ -143,7 +143,7 @@ fn input(words: &[OsString]) -> Option<io::Result<Box<dyn Read>>> {
     match words {
         [] => Some(Ok(Box::new(io::stdin().lock()))),
         [word] if word == "-" => Some(Ok(Box::new(io::stdin().lock()))),
-        [word] if !word.as_encoded_bytes().starts_with(b"-") => {
+        [word] if !word.is_empty() && !word.as_encoded_bytes().starts_with(b"-") => {
             Some(File::open(word).map(|file| Box::new(BufReader::new(file)) as Box<dyn Read>))
         }
         _ => None,
@@ -160,18 +160,23 @@ fn main() -> ExitCode {
         eprintln!("{USAGE}");
         return ExitCode::from(2);
     };
-    let replayed = opened
-        .map_err(|_| Fault::Read)
-        .and_then(|mut input| replay(&mut input, &mut io::stdout().lock()));
-    match replayed {
+    let mut input = match opened {
+        Ok(input) => input,
+        Err(why) => {
+            let file = words.first().map_or("".into(), |word| word.to_string_lossy());
+            eprintln!("khumsafil-offer: {file} cannot be read: {why}");
+            return ExitCode::from(2);
+        }
+    };
+    match replay(&mut input, &mut io::stdout().lock()) {
         Ok(true) => ExitCode::SUCCESS,
         Ok(false) => ExitCode::FAILURE,
         Err(Fault::Read) => {
-            eprintln!("replay: read failed");
+            eprintln!("khumsafil-offer: read failed");
             ExitCode::FAILURE
         }
         Err(Fault::Write) => {
-            eprintln!("replay: write failed");
+            eprintln!("khumsafil-offer: write failed");
             ExitCode::FAILURE
         }
     }

@@ -309,9 +309,9 @@ fn the_sample() {
 
 #[test]
 fn words() {
-    let usage = "usage: replay [FILE]\n\
+    let usage = "usage: khumsafil-offer [FILE]\n\
                  without FILE, or with -, the recording is on the standard input";
-    for wrong in [&["a", "b"][..], &["--no-such-word"], &["-", "-"], &["-x"]] {
+    for wrong in [&["a", "b"][..], &["--no-such-word"], &["-", "-"], &["-x"], &[""]] {
         silent(&run(wrong, &[]), usage, 2);
     }
     said(&run(&["--help"], &[]), &format!("{usage}\n"), 0);
@@ -322,16 +322,20 @@ fn words() {
 fn what_the_system_refuses() {
     let folder = File::open(top(".")).expect("a folder");
     let output = replay(&[]).stdin(folder).output();
-    silent(&output.expect("the replay ends"), "replay: read failed", 1);
-    for name in [top("samples"), top("samples/there is no such file")] {
-        let output = replay(&[name.to_str().expect("a path")]).output();
-        silent(&output.expect("the replay ends"), "replay: read failed", 1);
-    }
+    silent(&output.expect("the replay ends"), "khumsafil-offer: read failed", 1);
+    let folder = top("samples");
+    let output = replay(&[folder.to_str().expect("a path")]).output();
+    silent(&output.expect("the replay ends"), "khumsafil-offer: read failed", 1);
+    let nowhere = top("samples/there is no such file");
+    let output = replay(&[nowhere.to_str().expect("a path")]).output().expect("the replay ends");
+    let why = String::from_utf8_lossy(&output.stderr);
+    assert!(why.starts_with(&format!("khumsafil-offer: {} cannot be read: ", nowhere.display())), "{why}");
+    assert_eq!((output.status.code(), output.stdout.len()), (Some(2), 0));
     let full = OpenOptions::new().write(true).open("/dev/full");
     let child = replay(&[])
         .stdout(full.expect("a device that is full"))
         .stderr(Stdio::piped())
         .spawn();
     let output = child.expect("the replay starts").wait_with_output();
-    silent(&output.expect("the replay ends"), "replay: write failed", 1);
+    silent(&output.expect("the replay ends"), "khumsafil-offer: write failed", 1);
 }

@@ -423,7 +423,35 @@ static int writers(void) {
     return 0;
 }
 
+/* A number that 8 bits cannot hold is no place, application, version or number of a section: it is not cut to one. */
+static int wider_numbers(void) {
+    static khumsafil_shelf shelf;
+    static uint8_t out[KHUMSAFIL_LARGEST_SECTION];
+    const khumsafil_key key = khumsafil_key_of(0xC9, 0x1234);
+    khumsafil_clock clock;
+    khumsafil_activation activation;
+    EXPECT(!khumsafil_shelf_begin(&shelf).refusal && !khumsafil_shelf_offer(&shelf, p1, sizeof p1).refusal);
+    EXPECT(!khumsafil_shelf_table(&shelf, 0).refusal);
+    EXPECT(khumsafil_shelf_table(&shelf, 256).refusal == KHUMSAFIL_REFUSED_TABLE_NOT_HELD);
+    EXPECT(khumsafil_shelf_copy_section(&shelf, key, 256, out, sizeof out).refusal == KHUMSAFIL_REFUSED_SECTION_NOT_HELD);
+    EXPECT(!khumsafil_clock_fresh(&clock).refusal);
+    activation.application = 256;
+    activation.event = 1;
+    activation.action = KHUMSAFIL_ACTION_EXEC;
+    activation.time = 0;
+    EXPECT(khumsafil_clock_offer(&clock, activation).refusal == KHUMSAFIL_REFUSED_CLOCK_ABOVE);
+    EXPECT(khumsafil_clock_state(&clock, 256).refusal == KHUMSAFIL_REFUSED_CLOCK_ABOVE);
+    EXPECT(khumsafil_clock_state(&clock, 0).state == KHUMSAFIL_STATE_RELEASED);
+    EXPECT(khumsafil_writer_section(khumsafil_label_of(key, 3), NULL, 0, 256, out, sizeof out).refusal ==
+           KHUMSAFIL_REFUSED_WRITER_K_ABOVE_LAST);
+    EXPECT(khumsafil_writer_section(khumsafil_label_of(key, 259), NULL, 0, 0, out, sizeof out).refusal ==
+           KHUMSAFIL_REFUSED_WRITER_VERSION_ABOVE_31);
+    EXPECT(khumsafil_writer_file(khumsafil_label_of(key, 259), NULL, 0, out, sizeof out).refusal ==
+           KHUMSAFIL_REFUSED_WRITER_VERSION_ABOVE_31);
+    return 0;
+}
+
 int main(void) {
     return version_and_words() || keys() || sections() || shelves() || same_shelves() || files() || loops() || triggers() ||
-           clocks() || same_clocks() || writers();
+           clocks() || same_clocks() || writers() || wider_numbers();
 }

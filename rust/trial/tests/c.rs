@@ -221,7 +221,7 @@ fn takes(statement: &str) -> bool {
          {statement}\nreturn number;\n}}\n"
     );
     let mut child = compiler()
-        .args(["-fsyntax-only", "-x", "c", "-"])
+        .args(["-S", "-o", "/dev/null", "-x", "c", "-"])
         .stdin(Stdio::piped())
         .stderr(Stdio::null())
         .spawn()
@@ -259,7 +259,10 @@ fn no_answer_is_taken_for_yes() {
         assert!(!takes(&format!("if (!{call}) number = 1;")), "{call}");
         assert!(!takes(&format!("number = {call};")), "{call}");
         assert!(!takes(&format!("number = {call} == 0;")), "{call}");
+        // Nor is it left lying: the warning is an error here.
+        assert!(!takes(&format!("{call};")), "{call}");
     }
+    assert!(!takes("khumsafil_shelf_is_complete(&shelf, key);"));
     assert!(takes(
         "if (khumsafil_shelf_is_complete(&shelf, key)) number = 1;"
     ));

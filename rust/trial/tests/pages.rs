@@ -239,7 +239,7 @@ fn the_sample_is_explained() {
     assert_eq!(runs.collect::<Vec<u8>>(), sample);
     let mut out = [0; file::LARGEST_LIST];
     let listed = file::list(&sample, &mut out).expect("room");
-    assert_eq!(block(&page, "It is listed as"), listed);
+    assert_eq!(block(&page, "The sample is listed as"), listed);
     assert_eq!(listed, opinion::lister::list(&sample));
 }
 
