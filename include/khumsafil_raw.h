@@ -282,7 +282,9 @@ uint8_t khumsafil_raw_trigger_read(const uint8_t *payload, size_t payload_length
  * Whether a trigger belongs to the application with an id. Any numbers may be given: one whose id length is 0 is every
  * application's, and one whose id does not lie in the payload is none's. It is false where the numbers cannot be this
  * payload's: fewer than KHUMSAFIL_TRIGGER_FIELDS, an id before place 3, or user data that does not end where the payload
- * does. So numbers that no reading gave, all of them 0, are nobody's trigger. Those past the eleventh are not looked at.
+ * does. So numbers that no reading gave, all of them 0, are nobody's trigger. Whether the payload is a trigger is not asked:
+ * what the reading of another payload of the same length left is answered by its places, so ask after a reading that was not
+ * refused. Numbers past the eleventh are not looked at.
  *
  * payload: what the trigger was read from; read, and left as it is.
  * fields: the numbers as the reading gave them; read, and left as they are.

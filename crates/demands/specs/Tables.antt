@@ -17,7 +17,7 @@ use Rattle.shelf_ask.specs.Answer.{tableLent}
 use Rattle.file_table.specs.Answer.{fileTold, fileTableLent}
 use Rattle.shelf_laws.specs.Log.{heldBy}
 use Rattle.shelf_laws.specs.Tables.{numbersBy}
-use Rattle.shelf_histories.specs.History.{Loan, loan, History, leftAfter, logAfter, loadAfter}
+use Rattle.shelf_histories.specs.History.{Loan, History, leftAfter, logAfter, loadAfter}
 
 -- the number and the values of what a place tells of what was lent, which `tableLent` puts into a buffer
 abbrev pub tells : Loan → ℕ → Told
@@ -32,7 +32,7 @@ abbrev pub toldIn : History → Key → List ℕ → Out
 toldIn h key fields = out 0 (numbersBy key (logAfter h) ++ drop 20 fields)
 
 -- after any history a table that the log holds is in a place, which tells its key, its version and its last number as it last began, and of each
--- section the length with which it was last accepted or loaded since
+-- section the length with which it was last accepted or loaded since, and 0 for one that was not
 abbrev pub HeldTold : Type 0
 HeldTold =
     (h : History) (key : Key)
@@ -47,14 +47,14 @@ ToldHeld =
     → (tableAfter h p fields ≡ out 14 fields)
     ⊎ ((p < places) × ((key : Key) × (heldBy key (logAfter h) ≡ true) × (tableAfter h p fields ≡ toldIn h key fields)))
 
--- nor is a table told twice
+-- nor do two places tell the same, so that with ToldHeld no table is told twice
 abbrev pub ToldOnce : Type 0
 ToldOnce =
     (h : History) (p q : ℕ)
     → tells (leftAfter h) p ≡ tells (leftAfter h) q
     → (tells (leftAfter h) p ≡ told 14 []) ⊎ (p ≡ q)
 
--- a file that is loaded is told as a table, and the lowest place that was free then tells the same
+-- a file that is loaded is told as a table, and the place that was the lowest free one before the load tells the same after it
 abbrev pub LoadTold : Type 0
 LoadTold =
     (h : History) (file : List ℕ)
@@ -66,6 +66,6 @@ LoadTold =
     → (fileTableLent file fields .code ≡ 0)
     × (tableLent (loadAfter h file .words) (loadAfter h file .store) (freeOf (shelfAt (leftAfter h .words))) fields ≡ fileTableLent file fields))
 
--- a file that is told as none is loaded after no history: a load is refused by the same number
+-- no load, after any history, takes a file that is told as no table: it is refused by the same number
 abbrev pub LoadUntold : Type 0
 LoadUntold = (h : History) (file : List ℕ) → ¬ (fileTold file .number ≡ 0) → loadAfter h file .code ≡ fileTold file .number

@@ -14,7 +14,7 @@ abbrev pub numberTold : Number → Told
 numberTold (Number.Value n next) = told 0 (n ∷ next ∷ [])
 numberTold (Number.Refused n) = told n []
 
--- the answer as it crosses the boundary: the number in bits 8 to 23, the place after it in bits 24 to 31
+-- of a number at the front of some bytes, as it crosses the boundary: low 8 bits the refusal, 8 to 23 the number, 24 to 31 how many bytes it takes
 abbrev pub numberCode : Number → ℕ
 numberCode (Number.Value n next) = 256 * n + 16777216 * next
 numberCode (Number.Refused n) = n
@@ -38,7 +38,7 @@ spelledTold (Written.Refused n) = told n []
 abbrev pub Number-Back : Type 0
 Number-Back = (bytes : List ℕ) → Bytes bytes → numberBack (numberLent bytes) ≡ numberAt bytes 0
 
--- both others lose nothing
+-- number and values lose nothing, of a reading and of a writing
 abbrev pub Number-Told : Type 0
 Number-Told = (x y : Number) → numberTold x ≡ numberTold y → x ≡ y
 

@@ -1,5 +1,5 @@
 -- Which table a file is: refused by the file's first fault from the left (11, 12, or 2 to 8 for one of a section), and by 15 where its numbers
--- do not fit the lent buffer. Document 01 has no such question; a load gives the same table a place.
+-- do not fit the lent buffer. Document 01 has no such question; a load that is done gives the same table a place.
 use Prim.Native.Nat.{ℕ}
 use mathlib.Core.List.{List, []}
 use Rattle.answers.specs.Answers.{Told, told, Out, puts}

@@ -1,4 +1,4 @@
--- The numbers and the values of the answers to the shelf's questions, in the numbers that cross the boundary.
+-- The numbers and the values of the answers to the shelf's questions, in the numbers or the plain yes or no that cross the boundary.
 use Prim.Native.Nat.{ℕ, _+_, _*_, _/_, _%_}
 use mathlib.Core.List.{List}
 use mathlib.Core.Bool.{Bool, true, false}

@@ -1,5 +1,5 @@
--- Which tables are held: the table in a place. Order of refusal: 17, 18, 14, and 15 where its numbers are put into a buffer. Document 01 has
--- no such question; its numbers are those of the other questions, and a place that there is not, or that is free, is 14.
+-- Which tables are held: the table in a place. Order of refusal: 17, 18, 14, and 15 where a buffer has no room for its numbers. Document 01 has
+-- no such question; its refusals are those of the other questions, and a place that there is not, or that is free, is 14.
 use Prim.Native.Nat.{ℕ, _<_}
 use mathlib.Core.List.{List, [], _∷_, _++_}
 use mathlib.Core.Path.{_≡_}

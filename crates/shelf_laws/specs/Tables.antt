@@ -1,4 +1,4 @@
--- Which tables are held after a history, by the log alone, and which table a load holds; the theorems are in proofs/Tables.
+-- Which tables are held after a history, by the log alone, and which table a load brings; the theorems are in proofs/Tables.
 use Prim.Native.Nat.{ℕ, _<_}
 use mathlib.Core.Path.{_≡_}
 use mathlib.Core.Bool.{true}
@@ -38,21 +38,21 @@ HeldTold =
     → heldBy key (logOf h) ≡ true
     → (p : ℕ) × (p < places) × (tellsOf (afterAll h) p ≡ told 0 (numbersBy key (logOf h)))
 
--- and no place tells any other: it is free, or tells a table that the log holds
+-- and no place tells any other: it is free or none of the four, or tells a table that the log holds
 abbrev pub ToldHeld : Type 0
 ToldHeld =
     (h : List Call) (p : ℕ)
     → (tellsOf (afterAll h) p ≡ told 14 [])
     ⊎ ((p < places) × ((key : Key) × (heldBy key (logOf h) ≡ true) × (tellsOf (afterAll h) p ≡ told 0 (numbersBy key (logOf h)))))
 
--- nor is a table told twice
+-- nor do two places tell the same, so that with ToldHeld no table is told twice
 abbrev pub ToldOnce : Type 0
 ToldOnce =
     (h : List Call) (p q : ℕ)
     → tellsOf (afterAll h) p ≡ tellsOf (afterAll h) q
     → (tellsOf (afterAll h) p ≡ told 14 []) ⊎ (p ≡ q)
 
--- a load that is done is of a file that is told as a table, which the lowest free place then tells
+-- a load that is done is of a file that is told as a table, and the place that was the lowest free one before it tells that table after it
 abbrev pub LoadTold : Type 0
 LoadTold =
     (h : List Call) (file : List ℕ)

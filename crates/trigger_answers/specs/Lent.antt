@@ -31,8 +31,9 @@ module _ (s fields : List ℕ) where
   abbrev pub Read-Comes-Back : Type 0
   Read-Comes-Back = triggerLent s fields .code ≡ 0 → readOf s ≡ Answer.Trigger (triggerBack (triggerLent s fields .out))
 
--- the numbers can be those that a reading of a payload of so many bytes left: there are eleven, the id begins behind the three bytes before it, and the user
--- data ends where the payload does. What a buffer had before any reading, or from another payload's, most often cannot
+-- three tests that the numbers of a reading of a payload of so many bytes pass: at least eleven, an id not before place 3, user data that ends
+-- where the payload does. Eleven zeros fail, and so does what a payload of another length left; what one of the same length left passes, and is
+-- then answered by its places. So a host asks after a reading that was not refused
 unfoldable pub canBeReadBy : ℕ → List ℕ → Bool
 canBeReadBy size fields =
     leb 11 (length fields) && (leb 3 (getD fields 2 0) && eqb (getD fields 9 0 + getD fields 10 0) size)

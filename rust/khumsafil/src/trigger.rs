@@ -127,7 +127,8 @@ pub fn read(payload: &[u8]) -> Result<Trigger<'_>, Refusal> {
 /// Whether a trigger belongs to the application with an id, by the numbers that [`fields`] gave of its payload. Any numbers
 /// may be given: a trigger whose id length is 0 is every application's, and an id that does not lie in the payload is none's.
 /// Numbers that cannot be this payload's are none's: fewer than [`FIELDS`], an id before place 3, or user data that does not end
-/// where the payload does. Those past the eleventh are not looked at.
+/// where the payload does. Whether the payload is a trigger is not asked, so ask after a reading that was not refused, or by
+/// [`Trigger::belongs_to`]. Numbers past the eleventh are not looked at.
 #[inline]
 pub fn belongs(payload: &[u8], fields: &[u16], application: &[u8]) -> bool {
     // SAFETY: pointers and lengths are those of slices, and the library only reads.
