@@ -117,6 +117,15 @@ fn our_shelf(
     answer
 }
 
+/// An answer in one number. Two results are compared by it: of a refused one there is no value to look at, and code that compares
+/// both parts at once is reported by a checker of memory.
+fn flat(answer: Result<usize, u8>) -> usize {
+    match answer {
+        Ok(said) => 256 + said,
+        Err(number) => number.into(),
+    }
+}
+
 /// A call by the independent program.
 fn their_call(
     record: &mut Record,
@@ -248,10 +257,10 @@ impl Both {
             call,
             &mut self.other_out,
         );
-        assert_eq!(answer, other, "{call:?} on {before:?}");
+        assert_eq!(flat(answer), flat(other), "{call:?} on {before:?}: {answer:?} is not {other:?}");
         assert!(self.out == self.other_out, "{call:?} on {before:?}: output");
         self.tables_agree(size);
-        let repeat = matches!(call, Call::Offer(_)) && other == Ok(4);
+        let repeat = matches!(call, Call::Offer(_)) && flat(other) == flat(Ok(4));
         if other.is_err() || repeat {
             assert_eq!(self.record, before, "{call:?}: the record of no change");
             return other;
