@@ -62,8 +62,8 @@
 #endif
 
 /* The version of this header: 65536 times the major number, 256 times the minor one and the patch. */
-#define KHUMSAFIL_VERSION 0x000200
-#define KHUMSAFIL_VERSION_TEXT "0.2.0"
+#define KHUMSAFIL_VERSION 0x000300
+#define KHUMSAFIL_VERSION_TEXT "0.3.0"
 
 /* The version of the library that is linked, by its own answer. */
 KHUMSAFIL_LOOK_
@@ -541,7 +541,10 @@ static inline khumsafil_step khumsafil_descriptor_step(const uint8_t *bytes, siz
     return step;
 }
 
-/* Whether the descriptor at a place marks a trigger Tap. Where no descriptor can be read, it does not. */
+/*
+ * Whether the descriptor at a place marks a trigger Tap: tag 0x72, length 24 and application/atsc-trigger, its letters small
+ * or capital. Where no descriptor can be read, it does not.
+ */
 KHUMSAFIL_LOOK_
 static inline bool khumsafil_descriptor_is_trigger_tap(const uint8_t *bytes, size_t bytes_length, size_t at) {
     return khumsafil_raw_descriptor_is_trigger_tap(bytes, bytes_length, at);

@@ -249,7 +249,8 @@ uint32_t khumsafil_raw_file_number(const uint8_t *bytes, size_t bytes_length);
 uint64_t khumsafil_raw_descriptor_step(const uint8_t *bytes, size_t bytes_length, size_t at);
 
 /*
- * Whether the descriptor at a place marks a trigger Tap. Where no descriptor can be read, it does not.
+ * Whether the descriptor at a place marks a trigger Tap: tag 0x72, length 24 and application/atsc-trigger, its letters small
+ * or capital. Where no descriptor can be read, it does not.
  *
  * bytes: the loop; read, and left as it is.
  */

@@ -1,5 +1,5 @@
--- Document 01, "Descriptors": a trigger Tap is marked by tag 0x72, length 24 and the bytes `application/atsc-trigger`,
--- compared exactly (001, clause 9.1.2).
+-- Document 01, "Descriptors": a trigger Tap is marked by tag 0x72, length 24 and the bytes `application/atsc-trigger`
+-- (001, clause 9.1.2). Document 02, request 2: they are compared without regard to letter case.
 use Prim.Native.Nat.{ℕ, _+_}
 use mathlib.Core.List.{List, [], _∷_}
 use mathlib.Core.Bool.{Bool, false, _&&_}
@@ -9,16 +9,13 @@ use Rattle.base.specs.Below.{every}
 use Rattle.descriptors.specs.declared.Step.{Step}
 use Rattle.descriptors.specs.declared.Step.the-variants
 use Rattle.descriptors.specs.Loop.{stepOf}
+use Rattle.descriptors.specs.Letter.{sameLetter}
 
 -- `application/`, then `atsc-trigger`
 unfoldable pub mark : List ℕ
 mark =
     97 ∷ 112 ∷ 112 ∷ 108 ∷ 105 ∷ 99 ∷ 97 ∷ 116 ∷ 105 ∷ 111 ∷ 110 ∷ 47
     ∷ 97 ∷ 116 ∷ 115 ∷ 99 ∷ 45 ∷ 116 ∷ 114 ∷ 105 ∷ 103 ∷ 103 ∷ 101 ∷ 114 ∷ []
-
--- a byte found stands for a letter of the mark
-abbrev pub sameLetter : ℕ → ℕ → Bool
-sameLetter found marked = eqb found marked
 
 -- the 24 bytes from a place are the mark
 unfoldable pub markAt : List ℕ → ℕ → Bool

@@ -1,7 +1,7 @@
 -- What is proved of loops, in words of the loop `s` and the place asked: each is a theorem of `proofs/` by the same name in small letters.
 use Prim.Native.Nat.{ℕ, _+_, _/_, _<_, _≤_}
 use mathlib.Core.Path.{_≡_}
-use mathlib.Core.Bool.{Bool, true}
+use mathlib.Core.Bool.{Bool, true, false}
 use mathlib.Core.List.{List, [], _∷_}
 use mathlib.Core.Logic.{_↔_, _⊎_}
 use lib.ListN.{length}
@@ -10,6 +10,7 @@ use Rattle.descriptors.specs.declared.Descriptor.{Descriptor}
 use Rattle.descriptors.specs.declared.Step.{Step}
 use Rattle.descriptors.specs.Loop.{stepOf, viewOf, descriptorAt}
 use Rattle.descriptors.specs.Answer.{stepCode}
+use Rattle.descriptors.specs.Letter.{sameLetter}
 use Rattle.descriptors.specs.Mark.{mark, isTriggerTap}
 use Rattle.descriptors.specs.Walk.{walk, walkOf, Unrefused, tiles}
 
@@ -18,13 +19,40 @@ pub record Stands (s : List ℕ) (at : ℕ) (d : Descriptor) : Type 0 where
   pub here : d ≡ descriptorAt s at
   pub ends : at + 2 + byte s (at + 1) ≤ length s
 
--- a descriptor stands at a place that marks a trigger Tap
-pub record Marked (s : List ℕ) (at : ℕ) : Type 0 where
+-- one is a letter A to Z and the other is the same letter a to z: both are so many letters behind A (65) and a (97)
+pub record AcrossCase (capital small : ℕ) : Type 0 where
+  pub behind : ℕ
+  pub letter : behind < 26
+  pub upper : capital ≡ 65 + behind
+  pub lower : small ≡ 97 + behind
+
+-- a byte is a letter: A to Z or a to z
+abbrev pub Letter : ℕ → Type 0
+Letter b = ((65 ≤ b) × (b ≤ 90)) ⊎ ((97 ≤ b) × (b ≤ 122))
+
+-- a byte is the mark's, or one of the two is a letter A to Z and the other the same letter a to z
+abbrev pub Matches : ℕ → ℕ → Type 0
+Matches found marked = (found ≡ marked) ⊎ (AcrossCase found marked ⊎ AcrossCase marked found)
+
+-- a content type of tag 0x72 and length 24 stands at a place, and its view is as said
+pub record Typed (Said : List ℕ → Type 0) (s : List ℕ) (at : ℕ) : Type 0 where
   pub found : Descriptor
   pub here : stepOf s at ≡ Step.Descriptor found
   pub tag : found .tag ≡ 0x72
   pub long : found .length ≡ 24
-  pub view : viewOf s at ≡ mark
+  pub view : Said (viewOf s at)
+
+-- each of 24 bytes matches the mark's
+abbrev pub EachMatches : List ℕ → Type 0
+EachMatches v = (k : ℕ) → k < 24 → Matches (byte v k) (byte mark k)
+
+-- a descriptor stands at a place that marks a trigger Tap
+abbrev pub Marked : List ℕ → ℕ → Type 0
+Marked = Typed EachMatches
+
+-- and one whose bytes are the mark's exactly, which marked it before document 02
+abbrev pub MarkedExactly : List ℕ → ℕ → Type 0
+MarkedExactly = Typed (λ v. v ≡ mark)
 
 module _ (s : List ℕ) where
   module _ (at : ℕ) where
@@ -64,6 +92,10 @@ module _ (s : List ℕ) where
     abbrev pub Tap-Exactly : Type 0
     Tap-Exactly = (isTriggerTap s at ≡ true) ↔ Marked s at
 
+    -- what an exact comparison marks is marked still
+    abbrev pub Tap-Still : Type 0
+    Tap-Still = MarkedExactly s at → isTriggerTap s at ≡ true
+
     -- two answers that keep one promise are equal
     abbrev pub One-Step : Type 0
     One-Step = (x y : Step) → x ≡ stepOf s at → y ≡ stepOf s at → x ≡ y
@@ -85,6 +117,23 @@ module _ (s : List ℕ) where
   -- a walk of a loop is over or refused by then: more steps answer no more
   abbrev pub Settled : Type 0
   Settled = (j : ℕ) → walk (j + (length s / 2 + 1)) s 0 ≡ walkOf s
+
+-- two bytes match exactly so
+abbrev pub Same-Letter : Type 0
+Same-Letter = (found marked : ℕ) → (sameLetter found marked ≡ true) ↔ Matches found marked
+
+-- no other byte gains an equal: of two different bytes that match each is a letter
+abbrev pub Letters-Alone : Type 0
+Letters-Alone = (found marked : ℕ) → sameLetter found marked ≡ true → (found ≡ marked → ⊥) → Letter found × Letter marked
+
+-- `/`, `-` and a byte of 128 or more match themselves alone; a carriage return is no `-`, `@` no backquote and `[` no `{`
+pub record Apart : Type 0 where
+  pub slash : (b : ℕ) → sameLetter b 47 ≡ true → b ≡ 47
+  pub hyphen : (b : ℕ) → sameLetter b 45 ≡ true → b ≡ 45
+  pub high : (b marked : ℕ) → 128 ≤ b → sameLetter b marked ≡ true → b ≡ marked
+  pub carriage : sameLetter 13 45 ≡ false
+  pub atsign : sameLetter 64 96 ≡ false
+  pub bracket : sameLetter 91 123 ≡ false
 
 -- an empty loop has no descriptor
 abbrev pub Empty-Loop : Type 0

@@ -2,10 +2,12 @@
 // asking for a step at place 0, and then at each answer's next place, until the walk is over or refused.
 ghost use mathlib.Core.Path.{_≡_};
 ghost use Prim.Native.Nat.{_+_, _≤_};
+ghost use mathlib.Core.Bool.{_||_};
 ghost use lib.ListN.{length};
+ghost use lib.Dec.{eqb};
 ghost use Rattle.descriptors.specs.Loop.{stepOf, viewOf};
 ghost use Rattle.descriptors.specs.Answer.{descriptorCode, stepCode};
-ghost use Rattle.descriptors.specs.Mark.{sameLetter, markAt, isTriggerTap};
+ghost use Rattle.descriptors.specs.Mark.{markAt, isTriggerTap};
 
 // The descriptor runs past the loop, or the place asked is beyond its end.
 const RUNS_PAST: u8 = 19;
@@ -13,12 +15,15 @@ const RUNS_PAST: u8 = 19;
 // The bytes of a tag and a length.
 const HEAD: usize = 2;
 
-// What marks a trigger Tap: the tag of a content type, and the type's bytes.
+// What marks a trigger Tap: the tag of a content type, and the type's bytes in small letters and in capitals. Where the mark
+// has no letter the two have one byte.
 const MARK_TAG: u8 = 0x72;
 
 const MARK_LENGTH: usize = 24;
 
 const MARK: [u8; 24] = *b"application/atsc-trigger";
+
+const MARK_IN_CAPITALS: [u8; 24] = *b"APPLICATION/ATSC-TRIGGER";
 
 // What a step found, from bit 8 of its answer in one number.
 const FOUND: u64 = 256;
@@ -108,22 +113,25 @@ pub fn view(bytes: &[u8], at: usize) -> &[u8]
     }
 }
 
-// A letter of the mark, and the byte that stands in its place.
-fn same_letter(found: u8, marked: u8) -> bool
-    ensures { λ r. ⌜ r ≡ sameLetter found marked ⌝ }
+// Whether a byte is the mark's, in its small letter or in its capital.
+fn is_either(found: u8, small: u8, capital: u8) -> bool
+    ensures { λ r. ⌜ r ≡ (eqb found small || eqb found capital) ⌝ }
 {
-    found == marked
+    (found == small) | (found == capital)
 }
 
-// Whether the bytes from a place on are the mark. All are looked at: a loop without an exit is one of wide steps.
+// Whether the bytes from a place on are the mark, letters across case. All are looked at, and the arrays are made before the
+// loop: one without an exit, over bytes that stand, is one of wide steps.
 fn is_mark(bytes: &[u8], start: usize) -> bool
     requires { ⌜ start + 24 ≤ length (now bytes) ⌝ }
     ensures { λ r. ⌜ r ≡ markAt (now (bytes .entry)) start ⌝ }
 {
+    let small = MARK;
+    let capitals = MARK_IN_CAPITALS;
     let mut same = true;
     let mut i = 0;
     while i < MARK_LENGTH {
-        same = same & same_letter(bytes[start + i], MARK[i]);
+        same = same & is_either(bytes[start + i], small[i], capitals[i]);
         i += 1;
     }
     same

@@ -65,7 +65,16 @@ pub fn step(bytes: &[u8], at: usize) -> Result<Step<'_>, Refusal> {
     }
 }
 
-/// Whether the descriptor at a place marks a trigger Tap. Where none can be read, it does not.
+/// Whether the descriptor at a place marks a trigger Tap: tag 0x72, length 24 and `application/atsc-trigger`, its letters
+/// small or capital. Where no descriptor can be read, it does not.
+///
+/// ```
+/// use khumsafil::descriptor::is_trigger_tap;
+///
+/// assert!(is_trigger_tap(b"\x72\x18application/atsc-trigger", 0));
+/// assert!(is_trigger_tap(b"\x72\x18Application/ATSC-Trigger", 0));
+/// assert!(!is_trigger_tap(b"\x72\x18application/atsc\rtrigger", 0));
+/// ```
 #[inline]
 pub fn is_trigger_tap(bytes: &[u8], at: usize) -> bool {
     // SAFETY: the pointer and the length are those of a slice, and the library only reads.

@@ -52,11 +52,37 @@ pub fn view(bytes: &[u8], at: usize) -> &[u8] {
 }
 
 /// Whether the descriptor at the place `at` marks a trigger Tap: tag 0x72, length
-/// 24 and the bytes `application/atsc-trigger`, compared exactly.
+/// 24 and the bytes `application/atsc-trigger`, its letters in either case
+/// (document 02, request 2).
 pub fn is_trigger_tap(bytes: &[u8], at: usize) -> bool {
     match step(bytes, at) {
-        Ok(Step::Descriptor { tag, .. }) => tag == TRIGGER_TAG && view(bytes, at) == TRIGGER_MARK,
+        Ok(Step::Descriptor { tag, length, .. }) => {
+            tag == TRIGGER_TAG
+                && length == TRIGGER_MARK.len()
+                && view(bytes, at)
+                    .iter()
+                    .zip(TRIGGER_MARK)
+                    .all(|(&found, &wanted)| bytes_match(found, wanted))
+        }
         Ok(Step::Over) | Err(_) => false,
+    }
+}
+
+/// Whether two bytes match: letters across case, any other byte itself alone.
+fn bytes_match(one: u8, other: u8) -> bool {
+    match (letter(one), letter(other)) {
+        (Some(one), Some(other)) => one == other,
+        _ => one == other,
+    }
+}
+
+/// Which letter a byte is, 0 to 25, the same for A to Z as for a to z; none for
+/// every other byte.
+fn letter(byte: u8) -> Option<u8> {
+    match byte {
+        b'A'..=b'Z' => Some(byte - b'A'),
+        b'a'..=b'z' => Some(byte - b'a'),
+        _ => None,
     }
 }
 
@@ -65,10 +91,45 @@ mod tests {
     use super::*;
     use crate::testing::Dice;
 
-    fn mark() -> Vec<u8> {
-        let mut bytes = vec![0x72, 24];
-        bytes.extend_from_slice(b"application/atsc-trigger");
+    /// The bytes that may stand at each of the 24 places: a letter in its two
+    /// cases, `/` and `-` alone.
+    const ACCEPTED: [&[u8]; 24] = [
+        b"aA", b"pP", b"pP", b"lL", b"iI", b"cC", b"aA", b"tT", b"iI", b"oO", b"nN", b"/", b"aA",
+        b"tT", b"sS", b"cC", b"-", b"tT", b"rR", b"iI", b"gG", b"gG", b"eE", b"rR",
+    ];
+
+    /// The mark in small letters, in capitals, as the second station writes it,
+    /// and mixed.
+    const SPELLINGS: [&[u8; 24]; 5] = [
+        b"application/atsc-trigger",
+        b"APPLICATION/ATSC-TRIGGER",
+        b"Application/ATSC-Trigger",
+        b"aPpLiCaTiOn/AtSc-TrIgGeR",
+        b"APPLICATION/atsc-triggeR",
+    ];
+
+    /// A descriptor of tag 0x72 with this content.
+    fn tagged(content: &[u8]) -> Vec<u8> {
+        let mut bytes = vec![0x72, content.len() as u8];
+        bytes.extend_from_slice(content);
         bytes
+    }
+
+    /// Whether a descriptor of tag 0x72 with this content is the mark.
+    fn marks(content: &[u8]) -> bool {
+        is_trigger_tap(&tagged(content), 0)
+    }
+
+    /// Whether the mark, in any of the spellings, stands with `byte` at `place`.
+    /// All spellings must say the same.
+    fn marks_with(place: usize, byte: u8) -> bool {
+        let answers = SPELLINGS.map(|spelling| {
+            let mut content = *spelling;
+            content[place] = byte;
+            marks(&content)
+        });
+        assert!(answers.iter().all(|&answer| answer == answers[0]));
+        answers[0]
     }
 
     #[test]
@@ -173,32 +234,157 @@ mod tests {
     }
 
     #[test]
-    fn the_trigger_tap_is_compared_exactly() {
-        let bytes = mark();
-        assert_eq!(bytes.len(), 26);
-        assert!(is_trigger_tap(&bytes, 0));
-        assert!(!is_trigger_tap(&bytes, 26));
-        assert!(!is_trigger_tap(&bytes, 27));
-        assert!(!is_trigger_tap(&bytes[..25], 0));
-        for place in 0..26 {
-            let mut other = mark();
-            other[place] ^= 0x20;
-            assert!(!is_trigger_tap(&other, 0));
+    fn the_trigger_tap_is_found_at_its_place() {
+        for spelling in SPELLINGS {
+            let bytes = tagged(spelling);
+            assert_eq!(bytes.len(), 26);
+            assert!(is_trigger_tap(&bytes, 0));
+            assert!(!is_trigger_tap(&bytes, 1));
+            assert!(!is_trigger_tap(&bytes, 26));
+            assert!(!is_trigger_tap(&bytes, 27));
+            assert!(!is_trigger_tap(&bytes, usize::MAX));
+            assert!(!is_trigger_tap(&bytes[..25], 0));
+            let mut walk = vec![1, 1, 1];
+            walk.extend(bytes);
+            walk.extend([0x72, 0]);
+            assert!(!is_trigger_tap(&walk, 0));
+            assert!(is_trigger_tap(&walk, 3));
+            assert!(!is_trigger_tap(&walk, 29));
         }
-        // Length 25 is not the mark, nor is 23.
-        let mut longer = mark();
-        longer.push(0);
-        longer[1] = 25;
-        assert!(!is_trigger_tap(&longer, 0));
-        let mut shorter = mark();
-        shorter[1] = 23;
-        assert!(!is_trigger_tap(&shorter, 0));
-        // It is found at its place in a loop.
-        let mut walk = vec![1, 1, 1];
-        walk.extend(mark());
-        walk.extend([0x72, 0]);
-        assert!(!is_trigger_tap(&walk, 0));
-        assert!(is_trigger_tap(&walk, 3));
-        assert!(!is_trigger_tap(&walk, 29));
+    }
+
+    #[test]
+    fn the_mark_in_any_case() {
+        assert!(marks(b"application/atsc-trigger"));
+        assert!(marks(b"APPLICATION/ATSC-TRIGGER"));
+        assert!(marks(b"Application/ATSC-Trigger"));
+        assert!(marks(b"aPpLiCaTiOn/AtSc-TrIgGeR"));
+        assert!(marks(b"applicatioN/Atsc-Trigger"));
+        assert!(!marks(b"Application/ATSC-Triggers"));
+        assert!(!marks(b"Application/ATSC-Trigge"));
+        assert!(!marks(b"Application/ATSC-Rtigger"));
+        assert!(!marks(b"Application-ATSC/Trigger"));
+    }
+
+    #[test]
+    fn the_view_keeps_the_case_sent() {
+        for spelling in SPELLINGS {
+            assert_eq!(view(&tagged(spelling), 0), spelling);
+        }
+    }
+
+    #[test]
+    fn every_byte_at_every_place() {
+        let mut accepted = 0;
+        for (place, values) in ACCEPTED.iter().enumerate() {
+            for byte in 0..=255 {
+                assert_eq!(marks_with(place, byte), values.contains(&byte));
+                accepted += usize::from(marks_with(place, byte));
+            }
+        }
+        // 22 letters in two cases and 2 separators.
+        assert_eq!(accepted, 46);
+    }
+
+    #[test]
+    fn separators_have_no_equal() {
+        assert!(marks_with(11, 0x2F));
+        assert!(marks_with(16, 0x2D));
+        // 32 below, 32 and 64 above, the other separator, and what looks alike.
+        for byte in [0x0F, 0x4F, 0x6F, b'-', b'\\', b'|', b' ', 0, 0xAF] {
+            assert!(!marks_with(11, byte));
+        }
+        for byte in [0x0D, 0x4D, 0x6D, b'/', b'_', b'~', b' ', 0, 0xAD] {
+            assert!(!marks_with(16, byte));
+        }
+    }
+
+    #[test]
+    fn only_letters_match_32_apart() {
+        // Every pair of bytes: itself, or one letter in two cases.
+        let capitals = b"ABCDEFGHIJKLMNOPQRSTUVWXYZ";
+        let small = b"abcdefghijklmnopqrstuvwxyz";
+        for one in 0..=255 {
+            for other in 0..=255 {
+                let two_cases = capitals
+                    .iter()
+                    .zip(small)
+                    .any(|(&c, &s)| (one, other) == (c, s) || (one, other) == (s, c));
+                assert_eq!(bytes_match(one, other), one == other || two_cases);
+            }
+        }
+        // The neighbours of the letters, 32 apart, match neither each other nor
+        // any place of the mark.
+        for (one, other) in [
+            (b'@', b'`'),
+            (b'[', b'{'),
+            (b'\\', b'|'),
+            (b']', b'}'),
+            (b'^', b'~'),
+            (b'_', 0x7F),
+        ] {
+            assert_eq!(one + 32, other);
+            assert!(!bytes_match(one, other));
+            assert!(!bytes_match(other, one));
+            for place in 0..24 {
+                assert!(!marks_with(place, one));
+                assert!(!marks_with(place, other));
+            }
+        }
+        // 32 above a small letter, or 32 below a capital, is no letter.
+        for (place, values) in ACCEPTED.iter().enumerate() {
+            if let [small, capital] = values {
+                assert!(!marks_with(place, small + 32));
+                assert!(!marks_with(place, capital - 32));
+            }
+        }
+    }
+
+    #[test]
+    fn bytes_of_128_or_more_are_never_the_mark() {
+        for place in 0..24 {
+            for byte in 128..=255 {
+                assert!(!marks_with(place, byte));
+            }
+        }
+        for spelling in SPELLINGS {
+            assert!(!marks(&spelling.map(|byte| byte | 0x80)));
+        }
+    }
+
+    #[test]
+    fn tag_and_length_are_unchanged() {
+        for spelling in SPELLINGS {
+            for tag in 0..=255 {
+                let mut bytes = tagged(spelling);
+                bytes[0] = tag;
+                // 0x52 is no other 0x72, though as letters they are R and r.
+                assert_eq!(is_trigger_tap(&bytes, 0), tag == 0x72);
+            }
+            for length in 0..=255 {
+                let mut bytes = tagged(spelling);
+                bytes[1] = length;
+                // Too short for a length above 24, then long enough for any.
+                assert_eq!(is_trigger_tap(&bytes, 0), length == 24);
+                bytes.resize(257, b'r');
+                assert_eq!(is_trigger_tap(&bytes, 0), length == 24);
+            }
+            assert!(!marks(&spelling[..23]));
+            assert!(!marks(&[&spelling[..], b"R"].concat()));
+            assert!(!marks(&[&spelling[..], &[0]].concat()));
+        }
+    }
+
+    #[test]
+    fn random_mixtures_of_case() {
+        let mut dice = Dice(2045);
+        for _ in 0..500 {
+            let mut content = ACCEPTED.map(|values| values[dice.below(values.len())]);
+            assert!(marks(&content));
+            let place = dice.below(24);
+            let byte = dice.next() as u8;
+            content[place] = byte;
+            assert_eq!(marks(&content), ACCEPTED[place].contains(&byte));
+        }
     }
 }

@@ -1,5 +1,5 @@
-//! Khumsafil's second opinion: document 01 (and request 1 of document 02) read
-//! once more, on its own, in plain Rust. Every refusal is its number in
+//! Khumsafil's second opinion: document 01 (and requests 1 and 2 of document 02)
+//! read once more, on its own, in plain Rust. Every refusal is its number in
 //! document 01, "Numbers of refusal".
 
 #![forbid(unsafe_code)]

@@ -6,14 +6,33 @@ use crate::random::Random;
 pub const MARK: [u8; 26] = *b"\x72\x18application/atsc-trigger";
 
 /// What is done to a loop before it is walked by both.
-pub const KINDS: [&str; 6] = [
+pub const KINDS: [&str; 7] = [
     "noise",
     "sound",
     "cut",
     "a length off by one",
     "with the mark",
     "the mark changed",
+    "the mark in any case",
 ];
+
+/// The mark in these letters.
+pub fn spelled(letters: &[u8; 24]) -> [u8; 26] {
+    let mut mark = MARK;
+    mark[2..].copy_from_slice(letters);
+    mark
+}
+
+/// The mark with each letter small or capital, as it falls.
+pub fn mark_in_any_case(random: &mut Random) -> [u8; 26] {
+    let mut mark = MARK;
+    for byte in &mut mark[2..] {
+        if random.once_in(2) {
+            byte.make_ascii_uppercase();
+        }
+    }
+    mark
+}
 
 fn descriptor(random: &mut Random, bytes: &mut Vec<u8>) {
     let length = match random.below(8) {
@@ -75,9 +94,12 @@ pub fn make(random: &mut Random, kind: &str) -> Vec<u8> {
             let mut places = places(&bytes);
             places.push(bytes.len());
             let at = random.pick(&places);
-            let mut mark = MARK;
+            let mut mark = match kind {
+                "with the mark" => MARK,
+                _ => mark_in_any_case(random),
+            };
             if kind == "the mark changed" {
-                mark[random.below(26)] ^= random.pick(&[0x20, 0x01, 0x80]);
+                mark[random.below(26)] ^= random.pick(&[0x20, 0x01, 0x40, 0x80]);
             }
             let rest = bytes.split_off(at);
             bytes.extend(mark);

@@ -24,7 +24,7 @@ static const uint8_t *section(uint8_t version, uint8_t number, uint8_t last) {
 static int version_and_words(void) {
     unsigned number;
     EXPECT(khumsafil_version() == KHUMSAFIL_VERSION);
-    EXPECT(strcmp(KHUMSAFIL_VERSION_TEXT, "0.2.0") == 0 && KHUMSAFIL_VERSION == 2 * 256);
+    EXPECT(strcmp(KHUMSAFIL_VERSION_TEXT, "0.3.0") == 0 && KHUMSAFIL_VERSION == 3 * 256);
     EXPECT(strcmp(khumsafil_refusal_text(KHUMSAFIL_REFUSED_PAYLOAD_SHORT), "payload under 8 bytes") == 0);
     EXPECT(strcmp(khumsafil_refusal_text(KHUMSAFIL_NOT_REFUSED), "no number of this library") == 0);
     EXPECT(strcmp(khumsafil_refusal_text(256 + 1), "no number of this library") == 0);
@@ -242,6 +242,11 @@ static int loops(void) {
     EXPECT(khumsafil_descriptor_is_trigger_tap(tap, sizeof tap, 0));
     EXPECT(!khumsafil_descriptor_is_trigger_tap(tap, sizeof tap - 1, 0));
     EXPECT(!khumsafil_descriptor_is_trigger_tap(tap, sizeof tap, 1));
+    tap[2] = 'A';
+    tap[25] = 'R';
+    EXPECT(khumsafil_descriptor_is_trigger_tap(tap, sizeof tap, 0));
+    tap[18] = '\r';
+    EXPECT(!khumsafil_descriptor_is_trigger_tap(tap, sizeof tap, 0));
     return 0;
 }
 

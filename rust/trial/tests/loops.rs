@@ -39,18 +39,49 @@ fn random_loops() {
     tally.show(&format!("loops, seed {SEED:#018X}"), &[0, 19]);
 }
 
-/// The mark at each place of a loop, with each byte of it changed in each way.
+/// The mark in small letters, in capitals, and as the second station writes it.
+const SPELLINGS: [&[u8; 24]; 3] = [
+    b"application/atsc-trigger",
+    b"APPLICATION/ATSC-TRIGGER",
+    b"Application/ATSC-Trigger",
+];
+
+/// Every byte value at each place of the mark, of its tag and of its length, beside the other bytes in every spelling.
 #[test]
 fn every_change_of_the_mark() {
-    let mut found = 0;
-    for i in 0..loops::MARK.len() {
-        for value in 0..=255 {
-            let mut bytes = loops::MARK.to_vec();
-            bytes[i] = value;
-            bytes.extend([value; 40]);
-            step(&bytes, 0);
-            found += u32::from(descriptor::is_trigger_tap(&bytes, 0));
+    let random = &mut Random::new(SEED);
+    let mut spellings = SPELLINGS.map(loops::spelled).to_vec();
+    spellings.extend((0..share(64)).map(|_| loops::mark_in_any_case(random)));
+    for mark in spellings {
+        let mut found = 0;
+        for i in 0..mark.len() {
+            for value in 0..=255 {
+                let mut bytes = mark.to_vec();
+                bytes[i] = value;
+                bytes.extend([value; 40]);
+                step(&bytes, 0);
+                found += u32::from(descriptor::is_trigger_tap(&bytes, 0));
+            }
+        }
+        assert_eq!(found, 48, "22 letters in two cases, `/`, `-`, tag and length");
+    }
+}
+
+/// Every two places of the mark changed at once, by bits that letters of two cases differ in, or nearly.
+#[test]
+fn every_two_changes_of_the_mark() {
+    for mark in SPELLINGS.map(loops::spelled) {
+        for i in 2..mark.len() {
+            for k in 2..i {
+                for first in [0x20, 0x40, 0x60, 0x80, 0xA0] {
+                    for second in [0x20, 0x40, 0x60, 0x80, 0xA0] {
+                        let mut bytes = mark;
+                        bytes[i] ^= first;
+                        bytes[k] ^= second;
+                        step(&bytes, 0);
+                    }
+                }
+            }
         }
     }
-    assert_eq!(found, 26, "the mark itself, once for each byte");
 }

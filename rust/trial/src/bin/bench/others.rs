@@ -15,6 +15,7 @@ pub fn table() -> Table {
          The library's record is 67 numbers, the other's a structure and a list.",
     );
     table.row("walk of a 1,000-byte loop", walks);
+    table.row("mark of a trigger Tap", marks);
     table.row("trigger of 64 bytes", triggers);
     table.row("offer that waits, 16 held", waiting_offer);
     table.row("move that applies 32", full_move);
@@ -25,6 +26,11 @@ pub fn table() -> Table {
 #[inline(never)]
 fn their_step(bytes: &[u8], at: usize) -> Result<opinion::descriptors::Step, u8> {
     opinion::descriptors::step(bytes, at)
+}
+
+#[inline(never)]
+fn their_mark(bytes: &[u8], at: usize) -> bool {
+    opinion::descriptors::is_trigger_tap(bytes, at)
 }
 
 #[inline(never)]
@@ -86,6 +92,31 @@ fn walks() -> (f64, f64) {
                     at = next;
                 }
                 black_box(at);
+            }
+        },
+    )
+}
+
+/// Asks ours and then theirs of marks in any case, behind another descriptor.
+fn marks() -> (f64, f64) {
+    let random = &mut Random::new(SEED);
+    let one = |random: &mut Random| {
+        let mut bytes = vec![1, 0];
+        bytes.extend(trial::loops::mark_in_any_case(random));
+        bytes
+    };
+    let list: Vec<_> = (0..256).map(|_| one(random)).collect();
+    race(
+        list.len(),
+        400,
+        || {
+            for bytes in &list {
+                black_box(khumsafil::descriptor::is_trigger_tap(black_box(bytes), 2));
+            }
+        },
+        || {
+            for bytes in &list {
+                black_box(their_mark(black_box(bytes), 2));
             }
         },
     )

@@ -1,0 +1,153 @@
+-- Letters across case.
+--   same-letter     two bytes match exactly as `Matches` says
+--   letters-alone   of two different bytes that match each is a letter
+--   apart           bytes that are no letters match themselves alone
+--   match-at        at a place of the mark to match is to be the byte there, or the one there in capitals
+use mathlib.Core.Path.{_≡_, refl, ap}
+use mathlib.Core.Bool.{Bool, true, false, _&&_, _||_}
+use mathlib.Core.List.{List}
+use mathlib.Core.Logic.{⊎-elim, inl, inr}
+use Prim.Native.Nat.{ℕ, _+_, _-_, _<_, _≤_}
+use native.Mathlib.Omega.{arith}
+use lib.Dec.{eqb, leb, ltb}
+use borrow.Author.Tests.{eqb-true, eqb-false, eq-eqb, ne-eqb, leb-true, le-leb, ltb-true}
+use Rattle.base.specs.Bytes.{byte}
+use Rattle.base.specs.Below.{every}
+use Rattle.base.proofs.Below.{every-each}
+use Rattle.base.proofs.Cases.{by, same-or, and-left, and-right}
+use Rattle.descriptors.specs.Letter.{acrossCase, sameLetter}
+use Rattle.descriptors.specs.Mark.{mark}
+use Rattle.descriptors.specs.Theorems.{AcrossCase, Letter, Matches, Same-Letter, Letters-Alone, Apart}
+
+module _ (capital small : ℕ) where
+  across-is : acrossCase capital small ≡ true → AcrossCase capital small
+  unfolding acrossCase
+  across-is e =
+      let r : leb capital 90 && eqb small (capital + 32) ≡ true = and-right (leb 65 capital) _ e in
+      let a : 65 ≤ capital = leb-true _ _ (and-left (leb 65 capital) _ e) in
+      let z : capital ≤ 90 = leb-true _ _ (and-left (leb capital 90) _ r) in
+      let s : small ≡ capital + 32 = eqb-true _ _ (and-right (leb capital 90) _ r) in
+      record { behind = capital - 65; letter = omega arith; upper = omega arith; lower = omega arith }
+
+  is-across : AcrossCase capital small → acrossCase capital small ≡ true
+  unfolding acrossCase
+  is-across w =
+      let l = w .letter in
+      let u = w .upper in
+      let s = w .lower in
+      rw (le-leb 65 capital (omega arith), le-leb capital 90 (omega arith), eq-eqb small (capital + 32) (omega arith))
+
+  -- what cannot be so is tested false
+  not-across : (AcrossCase capital small → ⊥) → acrossCase capital small ≡ false
+  not-across never = by (acrossCase capital small) (λ t. absurd (never (across-is t))) (λ f. f)
+
+pub same-letter : Same-Letter
+unfolding sameLetter
+same-letter found marked = (to, from)
+  where
+    to : sameLetter found marked ≡ true → Matches found marked
+    to e =
+        by (eqb found marked)
+        (λ t. inl (eqb-true found marked t))
+        (λ f.
+        by (acrossCase found marked)
+        (λ t. inr (inl (across-is found marked t)))
+        (λ g. inr (inr (across-is marked found (rw (f, g) at e)))))
+
+    from : Matches found marked → sameLetter found marked ≡ true
+    from =
+        ⊎-elim
+        (λ q. rw (eq-eqb found marked q))
+        (λ w.
+        by (eqb found marked)
+        (λ t. rw t)
+        (λ f.
+        ⊎-elim
+        (λ a. rw (f, is-across found marked a))
+        (λ a. by (acrossCase found marked) (λ t. rw (f, t)) (λ g. rw (f, g) (is-across marked found a)))
+        w))
+
+pub letters-alone : Letters-Alone
+letters-alone found marked e ne =
+    ⊎-elim
+    (λ q. absurd (ne q))
+    (⊎-elim
+    (λ w.
+    let l = w .letter in
+    let u = w .upper in
+    let s = w .lower in
+    (inl (omega arith, omega arith), inr (omega arith, omega arith)))
+    (λ w.
+    let l = w .letter in
+    let u = w .upper in
+    let s = w .lower in
+    (inr (omega arith, omega arith), inl (omega arith, omega arith))))
+    (same-letter found marked .0 e)
+
+pub apart : Apart
+unfolding sameLetter acrossCase
+apart =
+    record {
+      slash = λ b e. alone b 47 e (λ l. no-slash (l .1));
+      hyphen = λ b e. alone b 45 e (λ l. no-hyphen (l .1));
+      high = λ b m h e. alone b m e (λ l. not-high b h (l .0));
+      carriage = refl;
+      atsign = refl;
+      bracket = refl;
+    }
+  where
+    alone : (found marked : ℕ) → sameLetter found marked ≡ true → (Letter found × Letter marked → ⊥) → found ≡ marked
+    alone found marked e never = ⊎-elim (λ q. q) (λ ne. absurd (never (letters-alone found marked e ne))) (same-or found marked)
+
+    no-slash : Letter 47 → ⊥
+    no-slash = ⊎-elim (λ w. omega (arith, w .0)) (λ w. omega (arith, w .0))
+
+    no-hyphen : Letter 45 → ⊥
+    no-hyphen = ⊎-elim (λ w. omega (arith, w .0)) (λ w. omega (arith, w .0))
+
+    not-high : (b : ℕ) → 128 ≤ b → Letter b → ⊥
+    not-high b h = ⊎-elim (λ w. omega (arith, h, w .1)) (λ w. omega (arith, h, w .1))
+
+-- a byte of the mark and that byte in capitals: a small letter and its capital, or one byte that stands before the letters
+abbrev paired : ℕ → ℕ → Bool
+paired small capital = acrossCase capital small || (ltb small 65 && eqb small capital)
+
+match-paired : (small capital : ℕ) → paired small capital ≡ true → (b : ℕ) → eqb b small || eqb b capital ≡ sameLetter b small
+unfolding sameLetter
+match-paired small capital p b =
+    by (eqb b small)
+    (λ t. rw t)
+    (λ f. by (acrossCase capital small) (letter f) (λ g. other f (rw g at p)))
+  where
+    letter : eqb b small ≡ false → acrossCase capital small ≡ true → eqb b small || eqb b capital ≡ sameLetter b small
+    letter f t =
+        let w = across-is capital small t in
+        let l = w .letter in
+        let u = w .upper in
+        let s = w .lower in
+        let n : acrossCase small b ≡ false = not-across small b (λ v. let k = v .letter in let x = v .upper in omega arith) in
+        by (eqb b capital)
+        (λ q. let e : b ≡ capital = eqb-true _ _ q in rw (f, q, ap (λ c. acrossCase c small) e, t))
+        (λ q.
+        let d : b ≡ capital → ⊥ = eqb-false _ _ q in
+        rw (f, q, not-across b small (λ v. d (let x = v .upper in let y = v .lower in omega arith)), n))
+
+    other : eqb b small ≡ false → ltb small 65 && eqb small capital ≡ true → eqb b small || eqb b capital ≡ sameLetter b small
+    other f e =
+        let l : small < 65 = ltb-true _ _ (and-left (ltb small 65) _ e) in
+        let q : small ≡ capital = eqb-true _ _ (and-right (ltb small 65) _ e) in
+        rw (
+          ← q,
+          f,
+          not-across b small (λ v. let y = v .lower in omega arith),
+          not-across small b (λ v. let x = v .upper in omega arith),
+        )
+
+-- a list is the mark in capitals
+pub record InCapitals (capitals : List ℕ) : Type 0 where
+  pub each : every 24 (λ k. paired (byte mark k) (byte capitals k)) ≡ true
+
+pub match-at : {capitals : List ℕ} → InCapitals capitals → (k : ℕ) → k < 24 → (b : ℕ)
+    → eqb b (byte mark k) || eqb b (byte capitals k) ≡ sameLetter b (byte mark k)
+match-at {capitals} w k l =
+    match-paired (byte mark k) (byte capitals k) (every-each (λ k. paired (byte mark k) (byte capitals k)) 24 k l (w .each))
