@@ -1,12 +1,12 @@
 -- Letters across case.
---   same-letter     two bytes match exactly as `Matches` says
---   letters-alone   of two different bytes that match each is a letter
---   apart           bytes that are no letters match themselves alone
---   match-at        at a place of the mark to match is to be the byte there, or the one there in capitals
-use mathlib.Core.Path.{_≡_, refl, ap}
+--   matches-exactly   two bytes match exactly when they are one byte, or one letter in its two cases
+--   letters-alone     of two different bytes that match each is a letter
+--   apart             bytes that are no letters match themselves alone
+--   match-at          at a place of the mark to match is to be the byte there, or the one there in capitals
+use mathlib.Core.Path.{_≡_, refl, sym, ap, _∙_}
 use mathlib.Core.Bool.{Bool, true, false, _&&_, _||_}
 use mathlib.Core.List.{List}
-use mathlib.Core.Logic.{⊎-elim, inl, inr}
+use mathlib.Core.Logic.{_↔_, ⊎-elim, inl, inr}
 use Prim.Native.Nat.{ℕ, _+_, _-_, _<_, _≤_}
 use native.Mathlib.Omega.{arith}
 use lib.Dec.{eqb, leb, ltb}
@@ -14,10 +14,10 @@ use borrow.Author.Tests.{eqb-true, eqb-false, eq-eqb, ne-eqb, leb-true, le-leb, 
 use Rattle.base.specs.Bytes.{byte}
 use Rattle.base.specs.Below.{every}
 use Rattle.base.proofs.Below.{every-each}
-use Rattle.base.proofs.Cases.{by, same-or, and-left, and-right}
-use Rattle.descriptors.specs.Letter.{acrossCase, sameLetter}
+use Rattle.base.proofs.Cases.{by, unlike, same-or, and-left, and-right}
+use Rattle.descriptors.specs.Letter.{acrossCase, matches}
 use Rattle.descriptors.specs.Mark.{mark}
-use Rattle.descriptors.specs.Theorems.{AcrossCase, Letter, Matches, Same-Letter, Letters-Alone, Apart}
+use Rattle.descriptors.specs.Theorems.{AcrossCase, Letter, Matches, Matches-Exactly, Letters-Alone, Apart}
 
 module _ (capital small : ℕ) where
   across-is : acrossCase capital small ≡ true → AcrossCase capital small
@@ -27,12 +27,12 @@ module _ (capital small : ℕ) where
       let a : 65 ≤ capital = leb-true _ _ (and-left (leb 65 capital) _ e) in
       let z : capital ≤ 90 = leb-true _ _ (and-left (leb capital 90) _ r) in
       let s : small ≡ capital + 32 = eqb-true _ _ (and-right (leb capital 90) _ r) in
-      record { behind = capital - 65; letter = omega arith; upper = omega arith; lower = omega arith }
+      record { after = capital - 65; within = omega arith; upper = omega arith; lower = omega arith }
 
   is-across : AcrossCase capital small → acrossCase capital small ≡ true
   unfolding acrossCase
   is-across w =
-      let l = w .letter in
+      let l = w .within in
       let u = w .upper in
       let s = w .lower in
       rw (le-leb 65 capital (omega arith), le-leb capital 90 (omega arith), eq-eqb small (capital + 32) (omega arith))
@@ -41,11 +41,11 @@ module _ (capital small : ℕ) where
   not-across : (AcrossCase capital small → ⊥) → acrossCase capital small ≡ false
   not-across never = by (acrossCase capital small) (λ t. absurd (never (across-is t))) (λ f. f)
 
-pub same-letter : Same-Letter
-unfolding sameLetter
-same-letter found marked = (to, from)
+pub matches-exactly : Matches-Exactly
+unfolding matches
+matches-exactly found marked = (to, from)
   where
-    to : sameLetter found marked ≡ true → Matches found marked
+    to : matches found marked ≡ true → Matches found marked
     to e =
         by (eqb found marked)
         (λ t. inl (eqb-true found marked t))
@@ -54,7 +54,7 @@ same-letter found marked = (to, from)
         (λ t. inr (inl (across-is found marked t)))
         (λ g. inr (inr (across-is marked found (rw (f, g) at e)))))
 
-    from : Matches found marked → sameLetter found marked ≡ true
+    from : Matches found marked → matches found marked ≡ true
     from =
         ⊎-elim
         (λ q. rw (eq-eqb found marked q))
@@ -73,66 +73,80 @@ letters-alone found marked e ne =
     (λ q. absurd (ne q))
     (⊎-elim
     (λ w.
-    let l = w .letter in
+    let l = w .within in
     let u = w .upper in
     let s = w .lower in
     (inl (omega arith, omega arith), inr (omega arith, omega arith)))
     (λ w.
-    let l = w .letter in
+    let l = w .within in
     let u = w .upper in
     let s = w .lower in
     (inr (omega arith, omega arith), inl (omega arith, omega arith))))
-    (same-letter found marked .0 e)
+    (matches-exactly found marked .0 e)
 
 pub apart : Apart
-unfolding sameLetter acrossCase
+unfolding matches acrossCase
 apart =
     record {
-      slash = λ b e. alone b 47 e (λ l. no-slash (l .1));
-      hyphen = λ b e. alone b 45 e (λ l. no-hyphen (l .1));
-      high = λ b m h e. alone b m e (λ l. not-high b h (l .0));
+      either = either;
+      slash = λ b. alone b 47 (λ l. before l (omega arith));
+      hyphen = λ b. alone b 45 (λ l. before l (omega arith));
+      high = λ a b h. alone a b (behind h);
       carriage = refl;
       atsign = refl;
       bracket = refl;
     }
   where
-    alone : (found marked : ℕ) → sameLetter found marked ≡ true → (Letter found × Letter marked → ⊥) → found ≡ marked
-    alone found marked e never = ⊎-elim (λ q. q) (λ ne. absurd (never (letters-alone found marked e ne))) (same-or found marked)
+    -- a byte that is no letter matches itself alone
+    alone : (found marked : ℕ) → (Letter marked → ⊥) → (matches found marked ≡ true) ↔ (found ≡ marked)
+    alone found marked never = (
+      λ e. ⊎-elim (λ q. q) (λ ne. absurd (never (letters-alone found marked e ne .1))) (same-or found marked),
+      λ q. matches-exactly found marked .1 (inl q),
+    )
 
-    no-slash : Letter 47 → ⊥
-    no-slash = ⊎-elim (λ w. omega (arith, w .0)) (λ w. omega (arith, w .0))
+    before : {b : ℕ} → Letter b → b < 65 → ⊥
+    before l h = ⊎-elim (λ w. let a = w .0 in omega arith) (λ w. let a = w .0 in omega arith) l
 
-    no-hyphen : Letter 45 → ⊥
-    no-hyphen = ⊎-elim (λ w. omega (arith, w .0)) (λ w. omega (arith, w .0))
+    behind : {b : ℕ} → 128 ≤ b → Letter b → ⊥
+    behind h l = ⊎-elim (λ w. let z = w .1 in omega arith) (λ w. let z = w .1 in omega arith) l
 
-    not-high : (b : ℕ) → 128 ≤ b → Letter b → ⊥
-    not-high b h = ⊎-elim (λ w. omega (arith, h, w .1)) (λ w. omega (arith, h, w .1))
+    other : {a b : ℕ} → Matches a b → Matches b a
+    other = ⊎-elim (λ q. inl (sym q)) (⊎-elim (λ w. inr (inr w)) (λ w. inr (inl w)))
+
+    either : (a b : ℕ) → matches a b ≡ matches b a
+    either a b =
+        by (matches b a)
+        (λ t. matches-exactly a b .1 (other (matches-exactly b a .0 t)) ∙ sym t)
+        (λ f.
+        by (matches a b)
+        (λ t. absurd (unlike (sym (matches-exactly b a .1 (other (matches-exactly a b .0 t))) ∙ f)))
+        (λ g. g ∙ sym f))
 
 -- a byte of the mark and that byte in capitals: a small letter and its capital, or one byte that stands before the letters
 abbrev paired : ℕ → ℕ → Bool
 paired small capital = acrossCase capital small || (ltb small 65 && eqb small capital)
 
-match-paired : (small capital : ℕ) → paired small capital ≡ true → (b : ℕ) → eqb b small || eqb b capital ≡ sameLetter b small
-unfolding sameLetter
+match-paired : (small capital : ℕ) → paired small capital ≡ true → (b : ℕ) → eqb b small || eqb b capital ≡ matches b small
+unfolding matches
 match-paired small capital p b =
     by (eqb b small)
     (λ t. rw t)
     (λ f. by (acrossCase capital small) (letter f) (λ g. other f (rw g at p)))
   where
-    letter : eqb b small ≡ false → acrossCase capital small ≡ true → eqb b small || eqb b capital ≡ sameLetter b small
+    letter : eqb b small ≡ false → acrossCase capital small ≡ true → eqb b small || eqb b capital ≡ matches b small
     letter f t =
         let w = across-is capital small t in
-        let l = w .letter in
+        let l = w .within in
         let u = w .upper in
         let s = w .lower in
-        let n : acrossCase small b ≡ false = not-across small b (λ v. let k = v .letter in let x = v .upper in omega arith) in
+        let n : acrossCase small b ≡ false = not-across small b (λ v. let k = v .within in let x = v .upper in omega arith) in
         by (eqb b capital)
         (λ q. let e : b ≡ capital = eqb-true _ _ q in rw (f, q, ap (λ c. acrossCase c small) e, t))
         (λ q.
         let d : b ≡ capital → ⊥ = eqb-false _ _ q in
         rw (f, q, not-across b small (λ v. d (let x = v .upper in let y = v .lower in omega arith)), n))
 
-    other : eqb b small ≡ false → ltb small 65 && eqb small capital ≡ true → eqb b small || eqb b capital ≡ sameLetter b small
+    other : eqb b small ≡ false → ltb small 65 && eqb small capital ≡ true → eqb b small || eqb b capital ≡ matches b small
     other f e =
         let l : small < 65 = ltb-true _ _ (and-left (ltb small 65) _ e) in
         let q : small ≡ capital = eqb-true _ _ (and-right (ltb small 65) _ e) in
@@ -148,6 +162,6 @@ pub record InCapitals (capitals : List ℕ) : Type 0 where
   pub each : every 24 (λ k. paired (byte mark k) (byte capitals k)) ≡ true
 
 pub match-at : {capitals : List ℕ} → InCapitals capitals → (k : ℕ) → k < 24 → (b : ℕ)
-    → eqb b (byte mark k) || eqb b (byte capitals k) ≡ sameLetter b (byte mark k)
+    → eqb b (byte mark k) || eqb b (byte capitals k) ≡ matches b (byte mark k)
 match-at {capitals} w k l =
     match-paired (byte mark k) (byte capitals k) (every-each (λ k. paired (byte mark k) (byte capitals k)) 24 k l (w .each))

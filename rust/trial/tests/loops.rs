@@ -63,7 +63,10 @@ fn every_change_of_the_mark() {
                 found += u32::from(descriptor::is_trigger_tap(&bytes, 0));
             }
         }
-        assert_eq!(found, 48, "22 letters in two cases, `/`, `-`, tag and length");
+        assert_eq!(
+            found, 48,
+            "22 letters in two cases, `/`, `-`, tag and length"
+        );
     }
 }
 

@@ -5,7 +5,7 @@ use Prim.Native.Nat.{_+_, _-_, _≤_}
 use Rattle.base.specs.Bytes.{byte}
 use Rattle.base.specs.Below.{every}
 use Rattle.descriptors.proofs.Gathers.{every-gathers, every-gathered}
-use Rattle.descriptors.specs.Letter.{acrossCase, sameLetter}
+use Rattle.descriptors.specs.Letter.{acrossCase, matches}
 use Rattle.descriptors.specs.Mark.{mark, markAt}
 use Rattle.descriptors.proofs.Letters.{InCapitals, match-at}
 use Rattle.descriptors.proofs.is_mark.Statement.{statement}
@@ -16,7 +16,7 @@ use Rattle.descriptors.proofs.is_either.Reads as is-either-reads
 
 abbrev Inv-loop : tie.InvT-loop
 Inv-loop bytes start small capitals same₀ i₀ same i =
-    (i ≤ 24) × InCapitals capitals × (same ≡ every i (λ k. sameLetter (byte bytes (start + k)) (byte mark k)))
+    (i ≤ 24) × InCapitals capitals × (same ≡ every i (λ k. matches (byte bytes (start + k)) (byte mark k)))
 
 abbrev μ-loop : tie.MeasureT-loop
 μ-loop bytes start small capitals same₀ i₀ same i = 24 - i
