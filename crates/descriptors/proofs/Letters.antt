@@ -10,7 +10,7 @@ use mathlib.Core.Logic.{_↔_, ⊎-elim, inl, inr}
 use Prim.Native.Nat.{ℕ, _+_, _-_, _<_, _≤_}
 use native.Mathlib.Omega.{arith}
 use lib.Dec.{eqb, leb, ltb}
-use borrow.Author.Tests.{eqb-true, eqb-false, eq-eqb, ne-eqb, leb-true, le-leb, ltb-true}
+use borrow.Author.Tests.{eqb-true, eqb-false, eq-eqb, leb-true, le-leb, ltb-true}
 use Rattle.base.specs.Bytes.{byte}
 use Rattle.base.specs.Below.{every}
 use Rattle.base.proofs.Below.{every-each}
@@ -67,21 +67,18 @@ matches-exactly found marked = (to, from)
         (λ a. by (acrossCase found marked) (λ t. rw (f, t)) (λ g. rw (f, g) (is-across marked found a)))
         w))
 
+letters-of : {capital small : ℕ} → AcrossCase capital small → Letter capital × Letter small
+letters-of w =
+    let l = w .within in
+    let u = w .upper in
+    let s = w .lower in
+    (inl (omega arith, omega arith), inr (omega arith, omega arith))
+
 pub letters-alone : Letters-Alone
 letters-alone found marked e ne =
     ⊎-elim
     (λ q. absurd (ne q))
-    (⊎-elim
-    (λ w.
-    let l = w .within in
-    let u = w .upper in
-    let s = w .lower in
-    (inl (omega arith, omega arith), inr (omega arith, omega arith)))
-    (λ w.
-    let l = w .within in
-    let u = w .upper in
-    let s = w .lower in
-    (inr (omega arith, omega arith), inl (omega arith, omega arith))))
+    (⊎-elim letters-of (λ w. let l = letters-of w in (l .1, l .0)))
     (matches-exactly found marked .0 e)
 
 pub apart : Apart

@@ -25,6 +25,10 @@ fn random_loops() {
             let any = random.below(size + 1);
             let at = random.pick(&[size, size + 1, size + 2, usize::MAX, any]);
             tally.note("any place", step(&bytes, at).0);
+            if kind == "the mark in any case" {
+                let mut places = loops::places(&bytes).into_iter();
+                assert!(places.any(|at| descriptor::is_trigger_tap(&bytes, at)));
+            }
         }
     }
     // Every place at which a sound loop can be cut.
