@@ -92,6 +92,7 @@ apart =
       carriage = refl;
       atsign = refl;
       bracket = refl;
+      another = refl;
     }
   where
     -- a byte that is no letter matches itself alone

@@ -2,7 +2,7 @@
 --   tap-exactly     a descriptor is read with tag 0x72 and length 24, and each byte of its view matches the mark's
 --   tap-still       what was marked before request 2 is marked still
 --   tap-separated   `/` and `-` stand in every mark
---   mark-long, station-marked   the mark has 24 bytes; the request's own station is heard
+--   mark-long, station-marked, capitals-marked   the mark has 24 bytes; the request's own station is heard, and one of capitals
 --   one-tap         two answers that keep the promise of `descriptors::is_trigger_tap` are equal
 use mathlib.Core.Path.{_≡_, refl, sym, ap, _∙_}
 use mathlib.Core.Bool.{Bool, true, _&&_}
@@ -22,7 +22,7 @@ use Rattle.descriptors.specs.declared.Step.{Step}
 use Rattle.descriptors.specs.Loop.{stepOf, viewOf}
 use Rattle.descriptors.specs.Letter.{acrossCase, matches}
 use Rattle.descriptors.specs.Mark.{mark, markAt, marks, isTriggerTap}
-use Rattle.descriptors.specs.Theorems.{EachMatches, Marked, Tap-Exactly, Tap-Still, Tap-Separated, Mark-Long, Station-Marked, One-Tap}
+use Rattle.descriptors.specs.Theorems.{EachMatches, Marked, Tap-Exactly, Tap-Still, Tap-Separated, Mark-Long, Station-Marked, Capitals-Marked, One-Tap}
 use Rattle.descriptors.proofs.ExactlyWhen.{view-whole}
 use Rattle.descriptors.proofs.Letters.{matches-exactly, apart}
 
@@ -104,3 +104,7 @@ mark-long = refl
 pub station-marked : Station-Marked
 unfolding isTriggerTap stepOf markAt every matches acrossCase mark
 station-marked = refl
+
+pub capitals-marked : Capitals-Marked
+unfolding isTriggerTap stepOf markAt every matches acrossCase mark
+capitals-marked = refl

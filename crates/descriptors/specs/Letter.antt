@@ -1,5 +1,5 @@
--- Document 02, request 2: letters A to Z and a to z match across case, and no other byte gains an equal (RFC 2045, section 5.1,
--- of media types and subtypes).
+-- Document 02, request 2: letters A to Z and a to z match across case (RFC 2045, section 5.1, of media types and subtypes),
+-- and no other byte gains an equal.
 use Prim.Native.Nat.{ℕ, _+_}
 use mathlib.Core.Bool.{Bool, _&&_, _||_}
 use lib.Dec.{eqb, leb}

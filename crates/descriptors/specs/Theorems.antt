@@ -135,7 +135,7 @@ abbrev pub Letters-Alone : Type 0
 Letters-Alone = (found marked : ℕ) → matches found marked ≡ true → (found ≡ marked → ⊥) → Letter found × Letter marked
 
 -- `/` (47), `-` (45) and a byte of 128 or more match themselves alone, on either side; a carriage return (13) is no `-`,
--- `@` (64) no backquote (96) and `[` (91) no `{` (123)
+-- `@` (64) no backquote (96), `[` (91) no `{` (123) and A (65) no b (98)
 pub record Apart : Type 0 where
   pub either : (a b : ℕ) → matches a b ≡ matches b a
   pub slash : (b : ℕ) → (matches b 47 ≡ true) ↔ (b ≡ 47)
@@ -144,6 +144,7 @@ pub record Apart : Type 0 where
   pub carriage : matches 13 45 ≡ false
   pub atsign : matches 64 96 ≡ false
   pub bracket : matches 91 123 ≡ false
+  pub another : matches 65 98 ≡ false
 
 -- the mark has 24 bytes
 abbrev pub Mark-Long : Type 0
@@ -156,6 +157,16 @@ Station-Marked =
     (0x72 ∷ 24
     ∷ 65 ∷ 112 ∷ 112 ∷ 108 ∷ 105 ∷ 99 ∷ 97 ∷ 116 ∷ 105 ∷ 111 ∷ 110 ∷ 47
     ∷ 65 ∷ 84 ∷ 83 ∷ 67 ∷ 45 ∷ 84 ∷ 114 ∷ 105 ∷ 103 ∷ 103 ∷ 101 ∷ 114 ∷ [])
+    0
+    ≡ true
+
+-- and so is one that writes each letter as a capital: `APPLICATION/ATSC-TRIGGER`
+abbrev pub Capitals-Marked : Type 0
+Capitals-Marked =
+    isTriggerTap
+    (0x72 ∷ 24
+    ∷ 65 ∷ 80 ∷ 80 ∷ 76 ∷ 73 ∷ 67 ∷ 65 ∷ 84 ∷ 73 ∷ 79 ∷ 78 ∷ 47
+    ∷ 65 ∷ 84 ∷ 83 ∷ 67 ∷ 45 ∷ 84 ∷ 82 ∷ 73 ∷ 71 ∷ 71 ∷ 69 ∷ 82 ∷ [])
     0
     ≡ true
 
