@@ -1,0 +1,6 @@
+pub mod Numbers
+pub mod Runs
+pub mod Rows
+pub mod Readings
+pub mod Items
+pub mod Places

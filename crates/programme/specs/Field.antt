@@ -1,0 +1,19 @@
+-- Source document 004, Table 6.5: how a field stands in bytes.
+use Prim.Native.Nat.{ℕ, zero, suc, _+_, _*_, _%_, _^_}
+use mathlib.Core.Bool.{Bool, true, false}
+use mathlib.Core.List.{List}
+use Rattle.base.specs.Bytes.{byte}
+
+-- the n bytes from a place as one number, high byte first (uimsbf)
+unfoldable pub number : List ℕ → ℕ → ℕ → ℕ
+number s at zero = 0
+number s at (suc n) = number s at n * 256 + byte s (at + n)
+
+-- what is there only where its flag is 1: a field's bytes, and its value; else none, and 0
+abbrev pub only : Bool → ℕ → ℕ
+only true n = n
+only false n = 0
+
+-- a field of so many bits at the end of n bytes; the bits above it are reserved, and disregarded
+abbrev pub low : List ℕ → ℕ → ℕ → ℕ → ℕ
+low s at n bits = number s at n % 2 ^ bits

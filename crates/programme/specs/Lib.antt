@@ -1,0 +1,4 @@
+pub mod Field
+pub mod Table
+pub mod Run
+pub mod Reading
