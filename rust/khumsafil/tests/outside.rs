@@ -170,6 +170,10 @@ fn panic(_: &core::panic::PanicInfo) -> ! {
     loop {}
 }
 
+// `core` is built to unwind and names this; some linkers ask for it, and nothing calls it.
+#[no_mangle]
+pub extern "C" fn rust_eh_personality() {}
+
 #[link(name = "c")]
 extern "C" {}
 
