@@ -4,6 +4,7 @@
 pub mod clocks;
 pub mod files;
 pub mod loops;
+pub mod programmes;
 pub mod sections;
 pub mod shelves;
 pub mod triggers;

@@ -4,3 +4,4 @@ pub mod Rows
 pub mod Readings
 pub mod Items
 pub mod Places
+pub mod Within

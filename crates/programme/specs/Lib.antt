@@ -2,3 +2,4 @@ pub mod Field
 pub mod Table
 pub mod Run
 pub mod Reading
+pub mod Answer

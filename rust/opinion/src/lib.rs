@@ -1,6 +1,6 @@
-//! Khumsafil's second opinion: document 01 (and requests 1 and 2 of document 02)
+//! Khumsafil's second opinion: document 01 (and requests 1 to 3 of document 02)
 //! read once more, on its own, in plain Rust. Every refusal is its number in
-//! document 01, "Numbers of refusal".
+//! document 01, "Numbers of refusal", or in the request that adds it.
 
 #![forbid(unsafe_code)]
 
@@ -9,6 +9,8 @@ pub mod descriptors;
 pub mod file;
 pub mod keeper;
 pub mod lister;
+pub mod programme;
+pub mod programme_text;
 pub mod section;
 pub mod shelf;
 pub mod trigger;

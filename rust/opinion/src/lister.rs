@@ -11,10 +11,7 @@ pub fn list(file: &[u8]) -> String {
         Err(number) => return format!("refused {number}\n"),
     };
 
-    let mut text = format!(
-        "table {} key {} version {} last {}\n",
-        table.table_id, table.extension, table.version, table.last
-    );
+    let mut text = first_line(&table);
     let mut held = [false; SECTIONS];
     for &(start, length) in &table.sections {
         let number = file::section_number(file, start);
@@ -34,6 +31,14 @@ pub fn list(file: &[u8]) -> String {
         text.push_str("complete\n");
     }
     text
+}
+
+/// The line that names the table; the text for staff begins with it too.
+pub(crate) fn first_line(table: &file::Table) -> String {
+    format!(
+        "table {} key {} version {} last {}\n",
+        table.table_id, table.extension, table.version, table.last
+    )
 }
 
 #[cfg(test)]

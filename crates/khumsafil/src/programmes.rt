@@ -1,0 +1,35 @@
+// Programme lists: the sections of an NRT-IT. Each call reads the section anew, so that none answers about one that is refused.
+ghost use mathlib.Core.Path.{_≡_};
+ghost use Rattle.answers.specs.Answers.{out as outOf};
+ghost use Rattle.programme.specs.Reading.{ownOf};
+ghost use Rattle.programme_answers.specs.Lent.{readLent, stepLent, ownCode};
+
+// The fields before the items, at the front of the buffer, or the refusal.
+#[no_mangle]
+pub extern "C" fn khumsafil_raw_programme_read(payload: &[u8], fields: &mut [u32]) -> u8
+    ensures { λ r. ⌜ outOf r (now (fields .exit)) ≡ readLent (now (payload .entry)) (now (fields .entry)) ⌝ }
+{
+    programme_answers::programme_read(payload, fields)
+}
+
+// What stands at a place, taken for item `number`: an item, its numbers at the front of the buffer; that all items are behind; or the
+// refusal.
+#[no_mangle]
+pub extern "C" fn khumsafil_raw_programme_item(
+    payload: &[u8],
+    at: usize,
+    number: u8,
+    fields: &mut [u64],
+) -> u16
+    ensures { λ r. ⌜ outOf r (now (fields .exit)) ≡ stepLent (now (payload .entry)) at number (now (fields .entry)) ⌝ }
+{
+    programme_answers::programme_item(payload, at, number, fields)
+}
+
+// The table's own loop from a place, in one number: the refusal alone, or 0 in the low 8 bits, and above count, place and length.
+#[no_mangle]
+pub extern "C" fn khumsafil_raw_programme_own(payload: &[u8], at: usize) -> u64
+    ensures { λ r. ⌜ r ≡ ownCode (ownOf (now (payload .entry)) at) ⌝ }
+{
+    programme_answers::programme_own(payload, at)
+}
