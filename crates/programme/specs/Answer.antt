@@ -26,10 +26,10 @@ itemNumbers i =
     ∷ i .descriptors .count ∷ i .descriptors .place ∷ i .descriptors .length
     ∷ i .next ∷ []
 
--- that all items are behind has no number and no values
+-- what a step found comes first: 1, an item, or 2, that all items are behind
 abbrev pub stepTold : Step → Told
-stepTold (Step.Item i) = told 0 (itemNumbers i)
-stepTold Step.Over = told 0 []
+stepTold (Step.Item i) = told 0 (1 ∷ itemNumbers i)
+stepTold Step.Over = told 0 (2 ∷ [])
 stepTold (Step.Refused n) = told n []
 
 abbrev pub ownTold : Own → Told

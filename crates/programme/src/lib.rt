@@ -93,7 +93,7 @@ pub enum Own {
 }
 
 // Where counted descriptors end, or that one of them passes the end.
-enum Run {
+pub enum Run {
     Ends(usize),
     Past,
 }

@@ -1,5 +1,5 @@
 -- How the boundary answers about an NRT-IT section: a number of refusal in the low 8 bits, and values in a lent buffer or above it.
-use Prim.Native.Nat.{ℕ, _+_, _*_, _/_, _%_, _^_, _≤_}
+use Prim.Native.Nat.{ℕ, _+_, _*_, _/_, _%_, _^_, _<_, _≤_}
 use mathlib.Core.Path.{_≡_}
 use mathlib.Core.List.{List, [], _∷_, _++_}
 use mathlib.Core.Logic.{_↔_}
@@ -69,7 +69,7 @@ ownBack code =
     then Own.Loop (record { count = code / 2 ^ 8 % 2 ^ 8; place = code / 2 ^ 16 % 2 ^ 16; length = code / 2 ^ 32 })
     else Own.Refused code
 
--- Of a payload `s` of bytes, a place and a number asked:
+-- Of a payload `s`, a place and a number asked:
 module _ (s fields : List ℕ) where
   -- a refused reading leaves the buffer as it was
   abbrev pub Read-Untouched : Type 0
@@ -78,6 +78,10 @@ module _ (s fields : List ℕ) where
   -- it is accepted exactly when the fields are read and the buffer has room, and then they come back out of the buffer
   abbrev pub Read-Accepted : Type 0
   Read-Accepted = (readLent s fields .code ≡ 0) ↔ (((p : Programme) × (readOf s ≡ Reading.Programme p)) × (4 ≤ length fields))
+
+  -- 15 exactly when they are read and the buffer has less
+  abbrev pub Read-15 : Type 0
+  Read-15 = (readLent s fields .code ≡ 15) ↔ (((p : Programme) × (readOf s ≡ Reading.Programme p)) × (length fields < 4))
 
   abbrev pub Read-Comes-Back : Type 0
   Read-Comes-Back = readLent s fields .code ≡ 0 → readOf s ≡ Reading.Programme (programmeBack (readLent s fields .out))
@@ -91,6 +95,10 @@ module _ (s fields : List ℕ) where
     abbrev pub Step-Item : Type 0
     Step-Item = (stepLent s at k fields .code ≡ itemKind) ↔ (((i : Item) × (stepOf s at k ≡ Step.Item i)) × (12 ≤ length fields))
 
+    -- 15 exactly when an item stands there and the buffer has less
+    abbrev pub Step-15 : Type 0
+    Step-15 = (stepLent s at k fields .code ≡ 15) ↔ (((i : Item) × (stepOf s at k ≡ Step.Item i)) × (length fields < 12))
+
     abbrev pub Step-Comes-Back : Type 0
     Step-Comes-Back = stepLent s at k fields .code ≡ itemKind → stepOf s at k ≡ Step.Item (itemBack (stepLent s at k fields .out))
 
@@ -100,4 +108,4 @@ module _ (s fields : List ℕ) where
 
 -- the table's own loop, or the refusal, comes back out of the number
 abbrev pub Own-Comes-Back : List ℕ → ℕ → Type 0
-Own-Comes-Back s at = ownBack (ownCode (ownOf s at)) ≡ ownOf s at
+Own-Comes-Back s at = Octets s → ownBack (ownCode (ownOf s at)) ≡ ownOf s at

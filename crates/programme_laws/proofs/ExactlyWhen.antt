@@ -1,0 +1,356 @@
+-- When each answer about a section is given (`specs/Theorems.antt` has the words).
+--   read-own, read-45, read-43, read-exactly, read-range
+--   step-first, step-over, step-43, step-exactly, step-range
+--   own-first, own-43, own-44, own-exactly, own-range
+use mathlib.Core.Path.{_≡_, refl, sym, ap, _∙_}
+use mathlib.Core.Bool.{Bool, true, false}
+use mathlib.Core.List.{List}
+use mathlib.Core.Logic.{_↔_, _⊎_, inl, inr, ⊎-elim}
+use Prim.Native.Nat.{ℕ, _+_, _-_, _<_, _≤_}
+use native.Mathlib.Omega.{arith}
+use lib.Dec.{ltb, leb, eqb}
+use lib.ListN.{length}
+use borrow.Author.Tests.{ltb-true, ltb-false, leb-true, leb-false, eqb-true, eqb-false}
+use Rattle.base.specs.Bytes.{byte}
+use Rattle.base.proofs.Cases.{by}
+use Rattle.section.specs.Section as section
+use Rattle.section.specs.declared.Header.{Header}
+use Rattle.section.specs.declared.Reading as sections
+use Rattle.section.proofs.ExactlyWhen as sectionwhen
+use Rattle.programme.specs.Table.{contentDescriptorsAt, numContentDescriptors, numDescriptors, descriptorsAt}
+use Rattle.programme.specs.Reading.{readOf, programmeOf, itemOf, itemRun, itemAt, ownRun, ownAt, stepOf, ownOf}
+use Rattle.programme.specs.declared.Run.{Run}
+use Rattle.programme.specs.declared.Programme.{Programme}
+use Rattle.programme.specs.declared.Reading.{Reading}
+use Rattle.programme.specs.declared.Loop.{Loop}
+use Rattle.programme.specs.declared.Item.{Item}
+use Rattle.programme.specs.declared.Step.{Step}
+use Rattle.programme.specs.declared.Own.{Own}
+use Rattle.programme.proofs.Readings as readings
+use Rattle.programme.proofs.Runs.{run-lies}
+use Rattle.programme.proofs.Items as items
+use Rattle.programme.proofs.Items.{itemTo}
+use Rattle.programme_laws.specs.Theorems.{SoundWith, OfNrtIt, Begun, Read-Own, Read-45, Read-43, Read-Exactly, Read-Range, ItemPasses, OwnPasses}
+use Rattle.programme_laws.specs.Theorems.{Step-First, Step-Over, Step-43, Step-Exactly, Step-Range, Own-First, Own-43, Own-44, Own-Exactly, Own-Range}
+use Rattle.programme_laws.proofs.Passing.{past-found, found-past}
+
+-- which of its ways out a reading took
+pub data Way (s : List ℕ) : Type 0 where
+  own : (n : ℕ) → section.readOf s ≡ sections.Reading.Refused n → readOf s ≡ Reading.Refused n → Way s
+  other : SoundWith s (λ id. ¬ (id ≡ 0xDF)) → readOf s ≡ Reading.Refused 45 → Way s
+  short : OfNrtIt s → length s < 17 → readOf s ≡ Reading.Refused 43 → Way s
+  whole : OfNrtIt s → 17 ≤ length s → readOf s ≡ Reading.Programme (programmeOf s) → Way s
+
+pub way : (s : List ℕ) → Way s
+way s = go (section.readOf s) refl
+  where
+    go : (r : sections.Reading) → section.readOf s ≡ r → Way s
+    go (sections.Reading.Refused n) q = Way.own n q (sym (readings.read-refused s n q))
+    go (sections.Reading.Sound h) q =
+        by (eqb (h .table) 0xDF)
+        (λ t.
+        let u : h .table ≡ 0xDF = eqb-true _ _ t in
+        let of : OfNrtIt s = record { header = h; sound = q; table = u } in
+        by (ltb (length s) 17)
+        (λ l. let x : length s < 17 = ltb-true _ _ l in Way.short of x (sym (readings.read-short s h q u x)))
+        (λ l. let x : 17 ≤ length s = ltb-false _ _ l in Way.whole of x (sym (readings.read-whole s h q u x))))
+        (λ f.
+        let d : ¬ (h .table ≡ 0xDF) = eqb-false _ _ f in
+        Way.other (record { header = h; sound = q; table = d }) (sym (readings.read-other s h q d)))
+
+same-number : {a b : ℕ} → Reading.Refused a ≡ Reading.Refused b → a ≡ b
+same-number e = cc
+
+read-apart : {P : Type 0} {n : ℕ} {p : Programme} → Reading.Refused n ≡ Reading.Programme p → P
+read-apart e = absurd (let z : _≡_ {A = ℕ} 0 1 = cc in omega arith)
+
+module _ (s : List ℕ) where
+  section-range : (n : ℕ) → section.readOf s ≡ sections.Reading.Refused n → (1 ≤ n) × (n ≤ 8)
+  section-range = sectionwhen.refused-range s
+
+  pub read-own : Read-Own s
+  read-own n l = (go (way s), λ q. sym (readings.read-refused s n q))
+    where
+      go : Way s → readOf s ≡ Reading.Refused n → section.readOf s ≡ sections.Reading.Refused n
+      go (Way.own m q r) e = q ∙ ap sections.Reading.Refused (same-number (sym r ∙ e))
+      go (Way.other o r) e = absurd (let z : 45 ≡ n = same-number (sym r ∙ e) in omega arith)
+      go (Way.short o x r) e = absurd (let z : 43 ≡ n = same-number (sym r ∙ e) in omega arith)
+      go (Way.whole o x r) e = read-apart (sym e ∙ r)
+
+  pub read-45 : Read-45 s
+  read-45 = (go (way s), λ o. sym (readings.read-other s (o .header) (o .sound) (o .table)))
+    where
+      go : Way s → readOf s ≡ Reading.Refused 45 → SoundWith s (λ id. ¬ (id ≡ 0xDF))
+      go (Way.own m q r) e = absurd (let z : m ≡ 45 = same-number (sym r ∙ e) in let h : m ≤ 8 = section-range m q .1 in omega arith)
+      go (Way.other o r) e = o
+      go (Way.short o x r) e = absurd (let z : _≡_ {A = ℕ} 43 45 = same-number (sym r ∙ e) in omega arith)
+      go (Way.whole o x r) e = read-apart (sym e ∙ r)
+
+  pub read-43 : Read-43 s
+  read-43 = (go (way s), λ w. sym (readings.read-short s (w .0 .header) (w .0 .sound) (w .0 .table) (w .1)))
+    where
+      go : Way s → readOf s ≡ Reading.Refused 43 → OfNrtIt s × (length s < 17)
+      go (Way.own m q r) e = absurd (let z : m ≡ 43 = same-number (sym r ∙ e) in let h : m ≤ 8 = section-range m q .1 in omega arith)
+      go (Way.other o r) e = absurd (let z : _≡_ {A = ℕ} 45 43 = same-number (sym r ∙ e) in omega arith)
+      go (Way.short o x r) e = (o, x)
+      go (Way.whole o x r) e = read-apart (sym e ∙ r)
+
+  pub read-exactly : Read-Exactly s
+  read-exactly p = (
+    λ e. let l = readings.listed s p e in ((record { header = l .header; sound = l .sound; table = l .table }, l .long), l .says),
+    λ w. sym (readings.read-whole s (w .0 .0 .header) (w .0 .0 .sound) (w .0 .0 .table) (w .0 .1)) ∙ ap Reading.Programme (sym (w .1)),
+  )
+
+  pub read-range : Read-Range s
+  read-range n e = go (way s)
+    where
+      go : Way s → ((1 ≤ n) × (n ≤ 8)) ⊎ ((n ≡ 43) ⊎ (n ≡ 45))
+      go (Way.own m q r) = let z : m ≡ n = same-number (sym r ∙ e) in inl (rw z at (section-range m q))
+      go (Way.other o r) = inr (inr (same-number (sym e ∙ r)))
+      go (Way.short o x r) = inr (inl (same-number (sym e ∙ r)))
+      go (Way.whole o x r) = read-apart (sym e ∙ r)
+
+-- the reading of a section that holds the fields before the items
+pub begun-reads : (s : List ℕ) → Begun s → readOf s ≡ Reading.Programme (programmeOf s)
+begun-reads s w = read-exactly s (programmeOf s) .1 (w, refl)
+
+step-apart : {P : Type 0} {i : Item} → Step.Over ≡ Step.Item i → P
+step-apart e = absurd (let z : _≡_ {A = ℕ} 0 1 = cc in omega arith)
+
+step-no : {P : Type 0} {n : ℕ} → Step.Over ≡ Step.Refused n → P
+step-no e = absurd (let z : _≡_ {A = ℕ} 0 1 = cc in omega arith)
+
+item-no : {P : Type 0} {n : ℕ} {i : Item} → Step.Refused n ≡ Step.Item i → P
+item-no e = absurd (let z : _≡_ {A = ℕ} 0 1 = cc in omega arith)
+
+-- which of its ways out an item took
+pub data ItemWay (s : List ℕ) (at : ℕ) : Type 0 where
+  passes : ItemPasses s at → itemAt s at ≡ Step.Refused 43 → ItemWay s at
+  reads : (¬ ItemPasses s at) → itemAt s at ≡ Step.Item (itemOf s at) → ItemWay s at
+
+pub item-way : (s : List ℕ) (at : ℕ) → ItemWay s at
+item-way s at =
+    by (ltb at 17)
+    (λ t. let l : at < 17 = ltb-true _ _ t in ItemWay.passes (inl l) (sym (items.item-early s at l)))
+    λ f.
+    let late : 17 ≤ at = ltb-false _ _ f in
+    by (ltb (length s) (contentDescriptorsAt s at))
+    (λ t. let l : length s < contentDescriptorsAt s at = ltb-true _ _ t in ItemWay.passes (inr (inl l)) (sym (items.item-cut s at l)))
+    λ g. let fits : contentDescriptorsAt s at ≤ length s = ltb-false _ _ g in go late fits (itemRun s at) refl
+  where
+    go : 17 ≤ at → contentDescriptorsAt s at ≤ length s → (x : Run) → itemRun s at ≡ x → ItemWay s at
+    go late fits Run.Past q =
+        ItemWay.passes (inr (inr (past-found (numContentDescriptors s at) s (contentDescriptorsAt s at) q))) (sym (items.item-past s at q))
+    go late fits (Run.Ends end) q =
+        ItemWay.reads
+        (λ p. ⊎-elim (λ l. omega arith)
+        (λ p. ⊎-elim (λ l. omega arith)
+        (λ w. let z : Run.Past ≡ Run.Ends end = sym (found-past (numContentDescriptors s at) s (contentDescriptorsAt s at) w) ∙ q in
+        let y : _≡_ {A = ℕ} 0 1 = cc in omega arith) p) p)
+        (sym (items.item-reads s at late fits end q) ∙ ap Step.Item (let to : itemTo s at end ≡ itemOf s at = rw q in to))
+
+module _ (s : List ℕ) (at k : ℕ) where
+  pub step-first : Step-First s at k
+  step-first n e = sym (items.step-refused s at k n e)
+
+  module _ (w : Begun s) where
+    over : programmeOf s .items ≤ k → stepOf s at k ≡ Step.Over
+    over l = sym (items.step-over s at k (programmeOf s) (begun-reads s w) l)
+
+    there : k < programmeOf s .items → stepOf s at k ≡ itemAt s at
+    there l = sym (items.step-item s at k (programmeOf s) (begun-reads s w) l)
+
+  pub step-over : Step-Over s at k
+  step-over w = (
+    λ e. by (leb (programmeOf s .items) k) (λ t. leb-true _ _ t)
+    λ f.
+    let l : k < programmeOf s .items = leb-false _ _ f in
+    go (item-way s at) (sym (there w l) ∙ e),
+    over w,
+  )
+    where
+      go : ItemWay s at → itemAt s at ≡ Step.Over → programmeOf s .items ≤ k
+      go (ItemWay.passes p q) e = step-no (sym e ∙ q)
+      go (ItemWay.reads p q) e = step-apart (sym e ∙ q)
+
+  pub step-43 : Step-43 s at k
+  step-43 w = (
+    λ e. by (leb (programmeOf s .items) k)
+    (λ t. step-no (sym (over w (leb-true _ _ t)) ∙ e))
+    λ f.
+    let l : k < programmeOf s .items = leb-false _ _ f in
+    (l, go (item-way s at) (sym (there w l) ∙ e)),
+    λ h. there w (h .0) ∙ back (h .1) (item-way s at),
+  )
+    where
+      go : ItemWay s at → itemAt s at ≡ Step.Refused 43 → ItemPasses s at
+      go (ItemWay.passes p q) e = p
+      go (ItemWay.reads p q) e = item-no (sym e ∙ q)
+
+      back : ItemPasses s at → ItemWay s at → itemAt s at ≡ Step.Refused 43
+      back h (ItemWay.passes p q) = q
+      back h (ItemWay.reads p q) = absurd (p h)
+
+  pub step-exactly : Step-Exactly s at k
+  step-exactly w i = (
+    λ e. by (leb (programmeOf s .items) k)
+    (λ t. step-apart (sym (over w (leb-true _ _ t)) ∙ e))
+    λ f.
+    let l : k < programmeOf s .items = leb-false _ _ f in
+    let x = go (item-way s at) (sym (there w l) ∙ e) in
+    (l, x .0, x .1),
+    λ h. there w (h .0) ∙ back (h .1) (item-way s at) ∙ ap Step.Item (sym (h .2)),
+  )
+    where
+      same : {a b : Item} → Step.Item a ≡ Step.Item b → a ≡ b
+      same e = cc
+
+      go : ItemWay s at → itemAt s at ≡ Step.Item i → (¬ ItemPasses s at) × (i ≡ itemOf s at)
+      go (ItemWay.passes p q) e = item-no (sym q ∙ e)
+      go (ItemWay.reads p q) e = (p, same (sym e ∙ q))
+
+      back : (¬ ItemPasses s at) → ItemWay s at → itemAt s at ≡ Step.Item (itemOf s at)
+      back h (ItemWay.passes p q) = absurd (h p)
+      back h (ItemWay.reads p q) = q
+
+  pub step-range : Step-Range s at k
+  step-range n e = go (way s)
+    where
+      numbers : {a b : ℕ} → Step.Refused a ≡ Step.Refused b → a ≡ b
+      numbers x = cc
+
+      at-item : ItemWay s at → itemAt s at ≡ Step.Refused n → n ≡ 43
+      at-item (ItemWay.passes p q) x = numbers (sym x ∙ q)
+      at-item (ItemWay.reads p q) x = item-no (sym x ∙ q)
+
+      begun : Begun s → ((1 ≤ n) × (n ≤ 8)) ⊎ ((n ≡ 43) ⊎ (n ≡ 45))
+      begun w =
+          by (leb (programmeOf s .items) k)
+          (λ t. step-no (sym (over w (leb-true _ _ t)) ∙ e))
+          λ f. inr (inl (at-item (item-way s at) (sym (there w (leb-false _ _ f)) ∙ e)))
+
+      first : (m : ℕ) → readOf s ≡ Reading.Refused m → readOf s ≡ Reading.Refused n
+      first m r = r ∙ ap Reading.Refused (numbers (items.step-refused s at k m r ∙ e))
+
+      go : Way s → ((1 ≤ n) × (n ≤ 8)) ⊎ ((n ≡ 43) ⊎ (n ≡ 45))
+      go (Way.own m q r) = read-range s n (first m r)
+      go (Way.other o r) = read-range s n (first 45 r)
+      go (Way.short o x r) = read-range s n (first 43 r)
+      go (Way.whole o x r) = begun (o, x)
+
+own-no : {P : Type 0} {n : ℕ} {l : Loop} → Own.Refused n ≡ Own.Loop l → P
+own-no e = absurd (let z : _≡_ {A = ℕ} 0 1 = cc in omega arith)
+
+own-numbers : {a b : ℕ} → Own.Refused a ≡ Own.Refused b → a ≡ b
+own-numbers x = cc
+
+-- which of its ways out the table's own loop took
+abbrev ownLoop : List ℕ → ℕ → Loop
+ownLoop s at = record { count = byte s at; place = at + 1; length = length s - (at + 1) }
+
+data OwnWay (s : List ℕ) (at : ℕ) : Type 0 where
+  passes : OwnPasses s at → ownAt s at ≡ Own.Refused 43 → OwnWay s at
+  left : (¬ OwnPasses s at) → (end : ℕ) → ownRun s at ≡ Run.Ends end → end < length s → ownAt s at ≡ Own.Refused 44 → OwnWay s at
+  reads : (¬ OwnPasses s at) → ownRun s at ≡ Run.Ends (length s) → ownAt s at ≡ Own.Loop (ownLoop s at) → OwnWay s at
+
+own-way : (s : List ℕ) (at : ℕ) → OwnWay s at
+own-way s at =
+    by (ltb at 17)
+    (λ t. let l : at < 17 = ltb-true _ _ t in OwnWay.passes (inl l) (sym (items.own-early s at l)))
+    λ f.
+    let late : 17 ≤ at = ltb-false _ _ f in
+    by (ltb (length s) (at + 1))
+    (λ t. let l : length s < at + 1 = ltb-true _ _ t in OwnWay.passes (inr (inl l)) (sym (items.own-cut s at late l)))
+    λ g. let fits : at + 1 ≤ length s = ltb-false _ _ g in go late fits (ownRun s at) refl
+  where
+    go : 17 ≤ at → at + 1 ≤ length s → (x : Run) → ownRun s at ≡ x → OwnWay s at
+    go late fits Run.Past q = OwnWay.passes (inr (inr (past-found (numDescriptors s at) s (descriptorsAt s at) q))) (sym (items.own-past s at late fits q))
+    go late fits (Run.Ends end) q =
+        let not : ¬ OwnPasses s at
+        = λ p. ⊎-elim (λ l. omega arith)
+        (λ p. ⊎-elim (λ l. omega arith)
+        (λ w. let z : Run.Past ≡ Run.Ends end = sym (found-past (numDescriptors s at) s (descriptorsAt s at) w) ∙ q in
+        let y : _≡_ {A = ℕ} 0 1 = cc in omega arith) p) p in
+        by (ltb end (length s))
+        (λ t. let l : end < length s = ltb-true _ _ t in OwnWay.left not end q l (sym (items.own-left s at late fits end q l)))
+        λ h.
+        let high : length s ≤ end = ltb-false _ _ h in
+        let low : end ≤ length s = run-lies _ s (at + 1) end fits q .1 in
+        let same : end ≡ length s = omega arith in
+        OwnWay.reads not (q ∙ ap Run.Ends same) (sym (items.own-reads s at late fits end q high) ∙ rw same)
+
+module _ (s : List ℕ) (at : ℕ) where
+  pub own-first : Own-First s at
+  own-first n e = sym (items.own-refused s at n e)
+
+  is-there : Begun s → ownOf s at ≡ ownAt s at
+  is-there w = sym (items.own-there s at (programmeOf s) (begun-reads s w))
+
+  pub own-43 : Own-43 s at
+  own-43 w = (λ e. go (own-way s at) (sym (is-there w) ∙ e), λ h. is-there w ∙ back h (own-way s at))
+    where
+      go : OwnWay s at → ownAt s at ≡ Own.Refused 43 → OwnPasses s at
+      go (OwnWay.passes p q) e = p
+      go (OwnWay.left p end r l q) e = absurd (let z : _≡_ {A = ℕ} 44 43 = own-numbers (sym q ∙ e) in omega arith)
+      go (OwnWay.reads p r q) e = own-no (sym e ∙ q)
+
+      back : OwnPasses s at → OwnWay s at → ownAt s at ≡ Own.Refused 43
+      back h (OwnWay.passes p q) = q
+      back h (OwnWay.left p end r l q) = absurd (p h)
+      back h (OwnWay.reads p r q) = absurd (p h)
+
+  pub own-44 : Own-44 s at
+  own-44 w = (λ e. go (own-way s at) (sym (is-there w) ∙ e), λ h. is-there w ∙ back h (own-way s at))
+    where
+      go : OwnWay s at → ownAt s at ≡ Own.Refused 44 → (¬ OwnPasses s at) × ((end : ℕ) × (ownRun s at ≡ Run.Ends end) × (end < length s))
+      go (OwnWay.passes p q) e = absurd (let z : _≡_ {A = ℕ} 43 44 = own-numbers (sym q ∙ e) in omega arith)
+      go (OwnWay.left p end r l q) e = (p, (end, r, l))
+      go (OwnWay.reads p r q) e = own-no (sym e ∙ q)
+
+      back : (¬ OwnPasses s at) × ((end : ℕ) × (ownRun s at ≡ Run.Ends end) × (end < length s)) → OwnWay s at → ownAt s at ≡ Own.Refused 44
+      back h (OwnWay.passes p q) = absurd (h .0 p)
+      back h (OwnWay.left p end r l q) = q
+      back h (OwnWay.reads p r q) =
+          absurd
+          (let e : Run.Ends (h .1 .0) ≡ Run.Ends (length s) = sym (h .1 .1) ∙ r in
+          let z : h .1 .0 ≡ length s = cc in
+          let l : h .1 .0 < length s = h .1 .2 in
+          omega arith)
+
+  pub own-exactly : Own-Exactly s at
+  own-exactly w l = (λ e. go (own-way s at) (sym (is-there w) ∙ e), λ h. is-there w ∙ back h (own-way s at))
+    where
+      same : {a b : Loop} → Own.Loop a ≡ Own.Loop b → a ≡ b
+      same x = cc
+
+      go : OwnWay s at → ownAt s at ≡ Own.Loop l → (¬ OwnPasses s at) × (ownRun s at ≡ Run.Ends (length s)) × (l ≡ ownLoop s at)
+      go (OwnWay.passes p q) e = own-no (sym q ∙ e)
+      go (OwnWay.left p end r x q) e = own-no (sym q ∙ e)
+      go (OwnWay.reads p r q) e = (p, r, same (sym e ∙ q))
+
+      back : (¬ OwnPasses s at) × (ownRun s at ≡ Run.Ends (length s)) × (l ≡ ownLoop s at) → OwnWay s at → ownAt s at ≡ Own.Loop l
+      back h (OwnWay.passes p q) = absurd (h .0 p)
+      back h (OwnWay.left p end r x q) =
+          absurd
+          (let e : Run.Ends end ≡ Run.Ends (length s) = sym r ∙ h .1 in let z : end ≡ length s = cc in omega arith)
+      back h (OwnWay.reads p r q) = q ∙ ap Own.Loop (sym (h .2))
+
+  pub own-range : Own-Range s at
+  own-range n e = go (way s)
+    where
+      begun : OwnWay s at → ownAt s at ≡ Own.Refused n → (n ≡ 43) ⊎ (n ≡ 44)
+      begun (OwnWay.passes p q) x = inl (own-numbers (sym x ∙ q))
+      begun (OwnWay.left p end r l q) x = inr (own-numbers (sym x ∙ q))
+      begun (OwnWay.reads p r q) x = own-no (sym x ∙ q)
+
+      first : (m : ℕ) → readOf s ≡ Reading.Refused m → ((1 ≤ n) × (n ≤ 8)) ⊎ ((n ≡ 43) ⊎ ((n ≡ 44) ⊎ (n ≡ 45)))
+      first m r =
+          ⊎-elim (λ a. inl a) (λ b. ⊎-elim (λ x. inr (inl x)) (λ x. inr (inr (inr x))) b)
+          (read-range s n (r ∙ ap Reading.Refused (own-numbers (items.own-refused s at m r ∙ e))))
+
+      go : Way s → ((1 ≤ n) × (n ≤ 8)) ⊎ ((n ≡ 43) ⊎ ((n ≡ 44) ⊎ (n ≡ 45)))
+      go (Way.own m q r) = first m r
+      go (Way.other o r) = first 45 r
+      go (Way.short o x r) = first 43 r
+      go (Way.whole o x r) =
+          inr (⊎-elim (λ x. inl x) (λ x. inr (inl x)) (begun (own-way s at) (sym (is-there (o, x)) ∙ e)))
