@@ -6,3 +6,5 @@ pub mod Flags
 pub mod Contents
 pub mod Passing
 pub mod ExactlyWhen
+pub mod Walks
+pub mod Whole
