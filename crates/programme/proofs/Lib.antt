@@ -5,3 +5,4 @@ pub mod Readings
 pub mod Items
 pub mod Places
 pub mod Within
+pub mod Told

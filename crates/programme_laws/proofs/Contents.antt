@@ -31,7 +31,7 @@ use Rattle.programme_laws.proofs.From.{From, long, after, next, first-b
 use Rattle.programme_laws.proofs.Digits.{field-says, field-after, field-reads, number-fits}
 use Rattle.programme_laws.proofs.Loops.{run-written, Written, run-reads}
 use Rattle.programme_laws.proofs.Optionals.{opt-after, opt-says, optionalFrom, opt-fits, opt-reads, opt-flag}
-use Rattle.programme_laws.proofs.Flags.{included-bit, ten, fifth, fourth, third, second, gathered}
+use Rattle.programme_laws.proofs.Flags.{included-bit, ten, ninth, eighth, seventh, sixth, fifth, fourth, third, second, first, zeroth, gathered}
 
 module _ (c : Content) (r : List ℕ) where
   pub front-split : frontBytes c r ≡ frontBytes c [] ++ r
@@ -82,30 +82,86 @@ module _ (c : Content) (h : FitContent c) where
   abbrev g : ℕ
   g = flagsOf c
 
-  flag-playback : g / 2 ^ 5 % 2 ≡ included (c .playback)
+  pub flag-updates : g / 2 ^ 9 % 2 ≡ c .updates
+  flag-updates =
+      ninth (c .updates) (c .fragment) (c .security) (c .master) (included (c .playback)) (included (c .delay)) (included (c .expires)) (included (c .size))
+      (c .internet) (c .broadcast) (h .fragment) (h .security) (h .master) (included-bit (c .playback)) (included-bit (c .delay)) (included-bit (c .expires))
+      (included-bit (c .size)) (h .internet) (h .broadcast) (h .updates)
+
+  pub flag-fragment : g / 2 ^ 8 % 2 ≡ c .fragment
+  flag-fragment =
+      eighth (c .updates) (c .fragment) (c .security) (c .master) (included (c .playback)) (included (c .delay)) (included (c .expires)) (included (c .size))
+      (c .internet) (c .broadcast) (h .fragment) (h .security) (h .master) (included-bit (c .playback)) (included-bit (c .delay)) (included-bit (c .expires))
+      (included-bit (c .size)) (h .internet) (h .broadcast)
+
+  pub flag-security : g / 2 ^ 7 % 2 ≡ c .security
+  flag-security =
+      seventh (c .updates) (c .fragment) (c .security) (c .master) (included (c .playback)) (included (c .delay)) (included (c .expires)) (included (c .size))
+      (c .internet) (c .broadcast) (h .fragment) (h .security) (h .master) (included-bit (c .playback)) (included-bit (c .delay)) (included-bit (c .expires))
+      (included-bit (c .size)) (h .internet) (h .broadcast)
+
+  pub flag-master : g / 2 ^ 6 % 2 ≡ c .master
+  flag-master =
+      sixth (c .updates) (c .fragment) (c .security) (c .master) (included (c .playback)) (included (c .delay)) (included (c .expires)) (included (c .size))
+      (c .internet) (c .broadcast) (h .fragment) (h .security) (h .master) (included-bit (c .playback)) (included-bit (c .delay)) (included-bit (c .expires))
+      (included-bit (c .size)) (h .internet) (h .broadcast)
+
+  pub flag-playback : g / 2 ^ 5 % 2 ≡ included (c .playback)
   flag-playback =
       fifth (c .updates) (c .fragment) (c .security) (c .master) (included (c .playback)) (included (c .delay)) (included (c .expires)) (included (c .size))
-      (c .internet) (c .broadcast) (included-bit (c .playback)) (included-bit (c .delay)) (included-bit (c .expires)) (included-bit (c .size)) (h .internet) (h .broadcast)
+      (c .internet) (c .broadcast) (h .fragment) (h .security) (h .master) (included-bit (c .playback)) (included-bit (c .delay)) (included-bit (c .expires))
+      (included-bit (c .size)) (h .internet) (h .broadcast)
 
-  flag-delay : g / 2 ^ 4 % 2 ≡ included (c .delay)
+  pub flag-delay : g / 2 ^ 4 % 2 ≡ included (c .delay)
   flag-delay =
       fourth (c .updates) (c .fragment) (c .security) (c .master) (included (c .playback)) (included (c .delay)) (included (c .expires)) (included (c .size))
-      (c .internet) (c .broadcast) (included-bit (c .playback)) (included-bit (c .delay)) (included-bit (c .expires)) (included-bit (c .size)) (h .internet) (h .broadcast)
+      (c .internet) (c .broadcast) (h .fragment) (h .security) (h .master) (included-bit (c .playback)) (included-bit (c .delay)) (included-bit (c .expires))
+      (included-bit (c .size)) (h .internet) (h .broadcast)
 
-  flag-expires : g / 2 ^ 3 % 2 ≡ included (c .expires)
+  pub flag-expires : g / 2 ^ 3 % 2 ≡ included (c .expires)
   flag-expires =
       third (c .updates) (c .fragment) (c .security) (c .master) (included (c .playback)) (included (c .delay)) (included (c .expires)) (included (c .size))
-      (c .internet) (c .broadcast) (included-bit (c .playback)) (included-bit (c .delay)) (included-bit (c .expires)) (included-bit (c .size)) (h .internet) (h .broadcast)
+      (c .internet) (c .broadcast) (h .fragment) (h .security) (h .master) (included-bit (c .playback)) (included-bit (c .delay)) (included-bit (c .expires))
+      (included-bit (c .size)) (h .internet) (h .broadcast)
 
-  flag-size : g / 2 ^ 2 % 2 ≡ included (c .size)
+  pub flag-size : g / 2 ^ 2 % 2 ≡ included (c .size)
   flag-size =
       second (c .updates) (c .fragment) (c .security) (c .master) (included (c .playback)) (included (c .delay)) (included (c .expires)) (included (c .size))
-      (c .internet) (c .broadcast) (included-bit (c .playback)) (included-bit (c .delay)) (included-bit (c .expires)) (included-bit (c .size)) (h .internet) (h .broadcast)
+      (c .internet) (c .broadcast) (h .fragment) (h .security) (h .master) (included-bit (c .playback)) (included-bit (c .delay)) (included-bit (c .expires))
+      (included-bit (c .size)) (h .internet) (h .broadcast)
 
-  flags-small : g < 1024
+  pub flag-internet : g / 2 % 2 ≡ c .internet
+  flag-internet =
+      first (c .updates) (c .fragment) (c .security) (c .master) (included (c .playback)) (included (c .delay)) (included (c .expires)) (included (c .size))
+      (c .internet) (c .broadcast) (h .fragment) (h .security) (h .master) (included-bit (c .playback)) (included-bit (c .delay)) (included-bit (c .expires))
+      (included-bit (c .size)) (h .internet) (h .broadcast)
+
+  pub flag-broadcast : g % 2 ≡ c .broadcast
+  flag-broadcast =
+      zeroth (c .updates) (c .fragment) (c .security) (c .master) (included (c .playback)) (included (c .delay)) (included (c .expires)) (included (c .size))
+      (c .internet) (c .broadcast) (h .fragment) (h .security) (h .master) (included-bit (c .playback)) (included-bit (c .delay)) (included-bit (c .expires))
+      (included-bit (c .size)) (h .internet) (h .broadcast)
+
+  pub flags-small : g < 1024
   flags-small =
       omega
       (arith, h .updates, h .fragment, h .security, h .master, h .internet, h .broadcast, included-bit (c .playback), included-bit (c .delay), included-bit (c .expires), included-bit (c .size))
+
+-- what stands from each of its fields on
+abbrev pub size-on : Content → List ℕ → List ℕ
+size-on c r = optionalBytes 5 40 (c .size) ++ nameBytes c r
+
+abbrev pub expires-on : Content → List ℕ → List ℕ
+expires-on c r = optionalBytes 4 32 (c .expires) ++ size-on c r
+
+abbrev pub delay-on : Content → List ℕ → List ℕ
+delay-on c r = optionalBytes 3 20 (c .delay) ++ expires-on c r
+
+abbrev pub playback-on : Content → List ℕ → List ℕ
+playback-on c r = optionalBytes 3 20 (c .playback) ++ delay-on c r
+
+abbrev pub flags-on : Content → List ℕ → List ℕ
+flags-on c r = digits 2 (flagsOf c * 2 ^ 6 + c .reserved) ++ playback-on c r
 
 -- an item that stands at a place, field by field
 module _ (c : Content) (h : FitContent c) {s : List ℕ} {at : ℕ} (r : List ℕ) (f : From s at (contentThen c r)) where
@@ -113,56 +169,56 @@ module _ (c : Content) (h : FitContent c) {s : List ℕ} {at : ℕ} (r : List �
   unfolding contentThen
   at-linkage = f
 
-  linkage-says : contentLinkage s at ≡ c .linkage
-  linkage-says = field-says 4 (c .linkage) _ at-linkage (h .linkage)
+  pub linkage-says : contentLinkage s at ≡ c .linkage
+  linkage-says = field-says 4 (c .linkage) (flags-on c r) at-linkage (h .linkage)
 
-  at-flags : From s (at + 4) (digits 2 (flagsOf c * 2 ^ 6 + c .reserved) ++ _)
-  at-flags = field-after 4 (c .linkage) _ at-linkage
+  pub at-flags : From s (at + 4) (flags-on c r)
+  at-flags = field-after 4 (c .linkage) (flags-on c r) at-linkage
 
-  flags-say : flags s at ≡ flagsOf c
+  pub flags-say : flags s at ≡ flagsOf c
   flags-say =
       let small : flagsOf c < 1024 = flags-small c h in
       let spare : c .reserved < 2 ^ 6 = h .reserved in
-      let both : number s (at + 4) 2 ≡ flagsOf c * 2 ^ 6 + c .reserved = field-says 2 (flagsOf c * 2 ^ 6 + c .reserved) _ at-flags (omega arith) in
+      let both : number s (at + 4) 2 ≡ flagsOf c * 2 ^ 6 + c .reserved = field-says 2 (flagsOf c * 2 ^ 6 + c .reserved) (playback-on c r) at-flags (omega arith) in
       omega arith
 
-  at-playback : From s (playbackLengthAt s at) (optionalBytes 3 20 (c .playback) ++ _)
-  at-playback = let e : at + 4 + 2 ≡ at + 6 = omega arith in rw e at (field-after 2 (flagsOf c * 2 ^ 6 + c .reserved) _ at-flags)
+  pub at-playback : From s (playbackLengthAt s at) (playback-on c r)
+  at-playback = let e : at + 4 + 2 ≡ at + 6 = omega arith in rw e at (field-after 2 (flagsOf c * 2 ^ 6 + c .reserved) (playback-on c r) at-flags)
 
-  is-playback : playbackLengthIncluded s at ≡ eqb (included (c .playback)) 1
+  pub is-playback : playbackLengthIncluded s at ≡ eqb (included (c .playback)) 1
   is-playback = ap (λ x. eqb x 1) (ap (λ x. x / 2 ^ 5 % 2) flags-say ∙ flag-playback c h)
 
-  is-delay : playbackDelayIncluded s at ≡ eqb (included (c .delay)) 1
+  pub is-delay : playbackDelayIncluded s at ≡ eqb (included (c .delay)) 1
   is-delay = ap (λ x. eqb x 1) (ap (λ x. x / 2 ^ 4 % 2) flags-say ∙ flag-delay c h)
 
-  is-expires : expirationIncluded s at ≡ eqb (included (c .expires)) 1
+  pub is-expires : expirationIncluded s at ≡ eqb (included (c .expires)) 1
   is-expires = ap (λ x. eqb x 1) (ap (λ x. x / 2 ^ 3 % 2) flags-say ∙ flag-expires c h)
 
-  is-size : contentSizeIncluded s at ≡ eqb (included (c .size)) 1
+  pub is-size : contentSizeIncluded s at ≡ eqb (included (c .size)) 1
   is-size = ap (λ x. eqb x 1) (ap (λ x. x / 2 ^ 2 % 2) flags-say ∙ flag-size c h)
 
-  at-delay : From s (playbackDelayAt s at) (optionalBytes 3 20 (c .delay) ++ _)
-  at-delay = opt-after 3 20 (playbackLengthIncluded s at) (c .playback) _ at-playback is-playback
+  pub at-delay : From s (playbackDelayAt s at) (delay-on c r)
+  at-delay = opt-after 3 20 (playbackLengthIncluded s at) (c .playback) (delay-on c r) at-playback is-playback
 
-  at-expires : From s (expirationAt s at) (optionalBytes 4 32 (c .expires) ++ _)
-  at-expires = opt-after 3 20 (playbackDelayIncluded s at) (c .delay) _ at-delay is-delay
+  pub at-expires : From s (expirationAt s at) (expires-on c r)
+  at-expires = opt-after 3 20 (playbackDelayIncluded s at) (c .delay) (expires-on c r) at-delay is-delay
 
-  at-size : From s (contentSizeAt s at) (optionalBytes 5 40 (c .size) ++ nameBytes c r)
-  at-size = opt-after 4 32 (expirationIncluded s at) (c .expires) _ at-expires is-expires
+  pub at-size : From s (contentSizeAt s at) (size-on c r)
+  at-size = opt-after 4 32 (expirationIncluded s at) (c .expires) (size-on c r) at-expires is-expires
 
-  at-name : From s (contentNameLengthAt s at) (nameBytes c r)
-  at-name = opt-after 5 40 (contentSizeIncluded s at) (c .size) _ at-size is-size
+  pub at-name : From s (contentNameLengthAt s at) (nameBytes c r)
+  at-name = opt-after 5 40 (contentSizeIncluded s at) (c .size) (nameBytes c r) at-size is-size
 
-  name-says : contentNameLength s at ≡ length (c .name)
+  pub name-says : contentNameLength s at ≡ length (c .name)
   name-says = first-byte _ _ at-name
 
-  at-count : From s (numContentDescriptorsAt s at) (length (c .descriptors) ∷ (loopBytes (c .descriptors) ++ r))
+  pub at-count : From s (numContentDescriptorsAt s at) (length (c .descriptors) ∷ (loopBytes (c .descriptors) ++ r))
   at-count = rw name-says (after (c .name) _ (next _ _ at-name))
 
-  count-says : numContentDescriptors s at ≡ length (c .descriptors)
+  pub count-says : numContentDescriptors s at ≡ length (c .descriptors)
   count-says = first-byte _ _ at-count
 
-  at-loop : From s (contentDescriptorsAt s at) (loopBytes (c .descriptors) ++ r)
+  pub at-loop : From s (contentDescriptorsAt s at) (loopBytes (c .descriptors) ++ r)
   at-loop = next _ _ at-count
 
   pub at-end : From s (contentDescriptorsAt s at + length (loopBytes (c .descriptors))) r
@@ -193,10 +249,10 @@ module _ (c : Content) (h : FitContent c) {s : List ℕ} {at : ℕ} (r : List �
       same-item
       linkage-says
       flags-say
-      (opt-says 3 20 (playbackLengthIncluded s at) (c .playback) _ at-playback is-playback (h .playback))
-      (opt-says 3 20 (playbackDelayIncluded s at) (c .delay) _ at-delay is-delay (h .delay))
-      (opt-says 4 32 (expirationIncluded s at) (c .expires) _ at-expires is-expires (h .expires))
-      (opt-says 5 40 (contentSizeIncluded s at) (c .size) _ at-size is-size (h .size))
+      (opt-says 3 20 (playbackLengthIncluded s at) (c .playback) (delay-on c r) at-playback is-playback (h .playback))
+      (opt-says 3 20 (playbackDelayIncluded s at) (c .delay) (expires-on c r) at-delay is-delay (h .delay))
+      (opt-says 4 32 (expirationIncluded s at) (c .expires) (size-on c r) at-expires is-expires (h .expires))
+      (opt-says 5 40 (contentSizeIncluded s at) (c .size) (nameBytes c r) at-size is-size (h .size))
       (ap (λ x. x + 1) name-place)
       name-says
       count-says

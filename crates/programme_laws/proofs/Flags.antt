@@ -1,6 +1,6 @@
 -- The ten flags, in a number and one by one.
---   told      a flag of the ten that are written
---   gathered  the ten that are read, written
+--   ninth .. zeroth   each of the ten that are written
+--   gathered          the ten that are read, written
 use mathlib.Core.Path.{_≡_}
 use Prim.Native.Nat.{ℕ, _+_, _*_, _/_, _%_, _^_, _<_}
 use native.Mathlib.Omega.{arith}
@@ -15,7 +15,19 @@ abbrev pub ten : ℕ → ℕ → ℕ → ℕ → ℕ → ℕ → ℕ → ℕ →
 ten a b c d e f g h i j =
     a * 2 ^ 9 + b * 2 ^ 8 + c * 2 ^ 7 + d * 2 ^ 6 + e * 2 ^ 5 + f * 2 ^ 4 + g * 2 ^ 3 + h * 2 ^ 2 + i * 2 + j
 
-module _ (a b c d e f g h i j : ℕ) (eb : e < 2) (fb : f < 2) (gb : g < 2) (hb : h < 2) (ib : i < 2) (jb : j < 2) where
+module _ (a b c d e f g h i j : ℕ) (bb : b < 2) (cb : c < 2) (db : d < 2) (eb : e < 2) (fb : f < 2) (gb : g < 2) (hb : h < 2) (ib : i < 2) (jb : j < 2) where
+  pub ninth : a < 2 → ten a b c d e f g h i j / 2 ^ 9 % 2 ≡ a
+  ninth ab = omega arith
+
+  pub eighth : ten a b c d e f g h i j / 2 ^ 8 % 2 ≡ b
+  eighth = omega arith
+
+  pub seventh : ten a b c d e f g h i j / 2 ^ 7 % 2 ≡ c
+  seventh = omega arith
+
+  pub sixth : ten a b c d e f g h i j / 2 ^ 6 % 2 ≡ d
+  sixth = omega arith
+
   pub fifth : ten a b c d e f g h i j / 2 ^ 5 % 2 ≡ e
   fifth = omega arith
 
@@ -27,6 +39,12 @@ module _ (a b c d e f g h i j : ℕ) (eb : e < 2) (fb : f < 2) (gb : g < 2) (hb 
 
   pub second : ten a b c d e f g h i j / 2 ^ 2 % 2 ≡ h
   second = omega arith
+
+  pub first : ten a b c d e f g h i j / 2 % 2 ≡ i
+  first = omega arith
+
+  pub zeroth : ten a b c d e f g h i j % 2 ≡ j
+  zeroth = omega arith
 
 -- a number and its ten halves
 halved :

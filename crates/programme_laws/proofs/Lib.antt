@@ -8,3 +8,6 @@ pub mod Passing
 pub mod ExactlyWhen
 pub mod Walks
 pub mod Whole
+pub mod Stays
+pub mod Bodies
+pub mod Hosts

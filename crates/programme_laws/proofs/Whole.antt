@@ -56,7 +56,7 @@ module _ (s : List ℕ) (p : Programme) (e : readOf s ≡ Reading.Programme p) w
       (ap (λ xs. Step.Item (itemIn at c) ∷ xs)
       (walk-written cs (at + length (contentBytes c)) (k + 1) r (item-behind c (h .0) (contentsThen cs r) f) (h .1) (omega arith) (omega arith)))
 
-all-behind : (cs : List Content) {s : List ℕ} (at : ℕ) (r : List ℕ) → From s at (contentsThen cs r) → FitContents cs → 17 ≤ at
+pub all-behind : (cs : List Content) {s : List ℕ} (at : ℕ) (r : List ℕ) → From s at (contentsThen cs r) → FitContents cs → 17 ≤ at
     → From s (pastAll at cs) r × (17 ≤ pastAll at cs)
 unfolding contentsThen
 all-behind [] at r f h l = (f, l)
@@ -77,37 +77,44 @@ own-written ds {s} {at} f l =
     sym (items.own-reads s at l (omega arith) (at + 1 + length (loopBytes ds)) run (omega arith))
     ∙ (let rest : at + 1 + length (loopBytes ds) - (at + 1) ≡ length (loopBytes ds) = omega arith in rw (count, rest))
 
+-- what stands from each of a body's fields on
+abbrev pub items-on : Body → List ℕ
+items-on b = length (b .items) ∷ contentsThen (b .items) (length (b .descriptors) ∷ loopBytes (b .descriptors))
+
+abbrev pub minutes-on : Body → List ℕ
+minutes-on b = digits 2 (b .reserved * 2 ^ 11 + b .minutes) ++ items-on b
+
+abbrev pub start-on : Body → List ℕ
+start-on b = digits 4 (b .start) ++ minutes-on b
+
 -- the fields of a body that stands behind the header
 module _ (b : Body) (h : FitBody b) {s : List ℕ} (f : From s 8 (bodyOf b)) where
-  at-service : From s 8 (digits 2 (b .service) ++ _)
+  pub at-service : From s 8 (digits 2 (b .service) ++ start-on b)
   unfolding bodyOf
   at-service = f
 
-  at-start : From s 10 (digits 4 (b .start) ++ _)
-  unfolding bodyOf
-  at-start = field-after 2 (b .service) _ at-service
+  pub at-start : From s 10 (start-on b)
+  at-start = field-after 2 (b .service) (start-on b) at-service
 
-  at-minutes : From s 14 (digits 2 (b .reserved * 2 ^ 11 + b .minutes) ++ _)
-  unfolding bodyOf
-  at-minutes = field-after 4 (b .start) _ at-start
+  pub at-minutes : From s 14 (minutes-on b)
+  at-minutes = field-after 4 (b .start) (minutes-on b) at-start
 
-  at-items : From s 16 (length (b .items) ∷ contentsThen (b .items) (length (b .descriptors) ∷ loopBytes (b .descriptors)))
-  unfolding bodyOf
-  at-items = field-after 2 (b .reserved * 2 ^ 11 + b .minutes) _ at-minutes
+  pub at-items : From s 16 (items-on b)
+  at-items = field-after 2 (b .reserved * 2 ^ 11 + b .minutes) (items-on b) at-minutes
 
   pub at-first : From s 17 (contentsThen (b .items) (length (b .descriptors) ∷ loopBytes (b .descriptors)))
   at-first = next _ _ at-items
 
-  items-say : numContentItems s ≡ length (b .items)
+  pub items-say : numContentItems s ≡ length (b .items)
   items-say = first-byte _ _ at-items
 
   pub says : programmeOf s ≡ programmeIn b
   says =
       let spare : b .reserved < 2 ^ 5 = h .reserved in
       let span : b .minutes < 2 ^ 11 = h .minutes in
-      let service : serviceId s ≡ b .service = field-says 2 (b .service) _ at-service (h .service) in
-      let start : timeSpanStart s ≡ b .start = field-says 4 (b .start) _ at-start (h .start) in
-      let both : number s 14 2 ≡ b .reserved * 2 ^ 11 + b .minutes = field-says 2 (b .reserved * 2 ^ 11 + b .minutes) _ at-minutes (omega arith) in
+      let service : serviceId s ≡ b .service = field-says 2 (b .service) (start-on b) at-service (h .service) in
+      let start : timeSpanStart s ≡ b .start = field-says 4 (b .start) (minutes-on b) at-start (h .start) in
+      let both : number s 14 2 ≡ b .reserved * 2 ^ 11 + b .minutes = field-says 2 (b .reserved * 2 ^ 11 + b .minutes) (items-on b) at-minutes (omega arith) in
       let minutes : timeSpanLength s ≡ b .minutes = omega arith in
       rw (service, start, minutes, items-say)
 

@@ -1,0 +1,186 @@
+-- A host loses nothing by the numbers that cross the boundary (`programme_answers`, `specs/Lent.antt` has the words).
+--   read-untouched, read-accepted, read-15, read-comes-back
+--   step-untouched, step-item, step-15, step-comes-back, step-over
+--   own-comes-back
+use mathlib.Core.Path.{_≡_, refl, sym, ap, subst, _∙_}
+use mathlib.Core.List.{List, [], _∷_, _++_}
+use mathlib.Core.Logic.{_↔_, _⊎_, ⊎-elim}
+use Prim.Native.Nat.{ℕ, _+_, _-_, _*_, _/_, _%_, _^_, _<_, _≤_}
+use native.Mathlib.Omega.{arith}
+use lib.Dec.{ltb, eqb}
+use lib.ListN.{length, getD, drop}
+use borrow.Author.Tests.{ltb-true, ltb-false, eq-eqb, ne-eqb}
+use Rattle.base.specs.Bytes.{byte}
+use Rattle.base.specs.Octets.{Octets}
+use Rattle.base.proofs.Cases.{by}
+use Rattle.answers.specs.Answers.{Out, out}
+use Rattle.answers.proofs.Puts.{puts-untouched}
+use Rattle.programme.specs.Reading.{readOf, stepOf, ownOf}
+use Rattle.programme.specs.Answer.{readingTold, programmeNumbers, itemNumbers}
+use Rattle.programme.specs.declared.Programme.{Programme}
+use Rattle.programme.specs.declared.Reading.{Reading}
+use Rattle.programme.specs.declared.Loop.{Loop}
+use Rattle.programme.specs.declared.Item.{Item}
+use Rattle.programme.specs.declared.Step.{Step}
+use Rattle.programme.specs.declared.Own.{Own}
+use Rattle.programme.proofs.Within.{Ends, own-ends}
+use Rattle.programme_answers.specs.Lent.{readLent, stepLent, itemKind, overKind, loopCode, ownCode, programmeBack, itemBack, ownBack}
+use Rattle.programme_answers.specs.Lent.{Read-Untouched, Read-Accepted, Read-15, Read-Comes-Back, Step-Untouched, Step-Item, Step-15, Step-Comes-Back, Step-Over, Own-Comes-Back}
+use Rattle.programme_answers.proofs.Laws as laws
+use Rattle.programme_laws.proofs.ExactlyWhen as when
+
+-- a number of refusal: neither 0 nor 15, and in 8 bits
+pub record Number (n : ℕ) : Type 0 where
+  pub low : 0 < n
+  pub high : n < 256
+  pub other : ¬ (n ≡ 15)
+
+numbered : {n : ℕ} → ((1 ≤ n) × (n ≤ 8)) ⊎ ((n ≡ 43) ⊎ (n ≡ 45)) → Number n
+numbered {n} x =
+    ⊎-elim
+    (λ y. let a : 1 ≤ n = y .0 in let b : n ≤ 8 = y .1 in record { low = omega arith; high = omega arith; other = λ z. omega arith })
+    (λ y. ⊎-elim (λ q. record { low = omega arith; high = omega arith; other = λ z. omega arith }) (λ q. record { low = omega arith; high = omega arith; other = λ z. omega arith }) y)
+    x
+
+module _ (s fields : List ℕ) where
+  -- what is so of each way out is so of the call
+  read-each : (q : Out → Type 0)
+      → ((n : ℕ) → readOf s ≡ Reading.Refused n → Number n → q (out n fields))
+      → ((p : Programme) → readOf s ≡ Reading.Programme p → length fields < 4 → q (out 15 fields))
+      → ((p : Programme) → readOf s ≡ Reading.Programme p → 4 ≤ length fields → q (out 0 (programmeNumbers p ++ drop 4 fields)))
+      → q (readLent s fields)
+  read-each q a b c = go (readOf s) refl
+    where
+      go : (r : Reading) → readOf s ≡ r → q (readLent s fields)
+      go (Reading.Refused n) e = subst q (laws.read-refused s fields refl e) (a n e (numbered (when.read-range s n e)))
+      go (Reading.Programme p) e =
+          by (ltb (length fields) 4)
+          (λ t. let h : length fields < 4 = ltb-true _ _ t in subst q (laws.read-short s fields p e h) (b p e h))
+          (λ f. let h : 4 ≤ length fields = ltb-false _ _ f in subst q (laws.read-put s fields p e h refl) (c p e h))
+
+  pub read-untouched : Read-Untouched s fields
+  unfolding readLent
+  read-untouched = puts-untouched (readingTold (readOf s)) fields
+
+  pub read-accepted : Read-Accepted s fields
+  read-accepted = (
+    read-each (λ o. o .code ≡ 0 → ((p : Programme) × (readOf s ≡ Reading.Programme p)) × (4 ≤ length fields))
+        (λ n e h z. absurd (let l : 0 < n = h .low in omega arith))
+        (λ p e h z. absurd (omega arith))
+        (λ p e h z. ((p, e), h)),
+    λ w. ap (λ (o : Out). o .code) (sym (laws.read-put s fields (w .0 .0) (w .0 .1) (w .1) refl)),
+  )
+
+  pub read-15 : Read-15 s fields
+  read-15 = (
+    read-each (λ o. o .code ≡ 15 → ((p : Programme) × (readOf s ≡ Reading.Programme p)) × (length fields < 4))
+        (λ n e h z. absurd (h .other z))
+        (λ p e h z. ((p, e), h))
+        (λ p e h z. absurd (omega arith)),
+    λ w. ap (λ (o : Out). o .code) (sym (laws.read-short s fields (w .0 .0) (w .0 .1) (w .1))),
+  )
+
+  pub read-comes-back : Read-Comes-Back s fields
+  read-comes-back =
+      read-each (λ o. o .code ≡ 0 → readOf s ≡ Reading.Programme (programmeBack (o .out)))
+      (λ n e h z. absurd (let l : 0 < n = h .low in omega arith))
+      (λ p e h z. absurd (omega arith))
+      (λ p e h z. e)
+
+  module _ (at k : ℕ) where
+    step-each : (q : Out → Type 0)
+        → ((n : ℕ) → stepOf s at k ≡ Step.Refused n → Number n → q (out n fields))
+        → (stepOf s at k ≡ Step.Over → q (out 512 fields))
+        → ((i : Item) → stepOf s at k ≡ Step.Item i → length fields < 12 → q (out 15 fields))
+        → ((i : Item) → stepOf s at k ≡ Step.Item i → 12 ≤ length fields → q (out 256 (itemNumbers i ++ drop 12 fields)))
+        → q (stepLent s at k fields)
+    step-each q a o b c = go (stepOf s at k) refl
+      where
+        go : (r : Step) → stepOf s at k ≡ r → q (stepLent s at k fields)
+        go (Step.Refused n) e = subst q (laws.step-refused s fields at k refl e) (a n e (numbered (when.step-range s at k n e)))
+        go Step.Over e = subst q (laws.step-over s fields at k e) (o e)
+        go (Step.Item i) e =
+            by (ltb (length fields) 12)
+            (λ t. let h : length fields < 12 = ltb-true _ _ t in subst q (laws.step-short s fields at k i e refl h) (b i e h))
+            (λ f. let h : 12 ≤ length fields = ltb-false _ _ f in subst q (laws.step-put s fields at k i e h refl) (c i e h))
+
+    pub step-untouched : Step-Untouched s fields at k
+    step-untouched =
+        step-each (λ o. ¬ (o .code ≡ itemKind) → o .out ≡ fields) (λ n e h z. refl) (λ e z. refl) (λ i e h z. refl) (λ i e h z. absurd (z refl))
+
+    pub step-item : Step-Item s fields at k
+    step-item = (
+      step-each (λ o. o .code ≡ itemKind → ((i : Item) × (stepOf s at k ≡ Step.Item i)) × (12 ≤ length fields))
+          (λ n e h z. absurd (let l : n < 256 = h .high in omega arith))
+          (λ e z. absurd (omega arith))
+          (λ i e h z. absurd (omega arith))
+          (λ i e h z. ((i, e), h)),
+      λ w. ap (λ (o : Out). o .code) (sym (laws.step-put s fields at k (w .0 .0) (w .0 .1) (w .1) refl)),
+    )
+
+    pub step-15 : Step-15 s fields at k
+    step-15 = (
+      step-each (λ o. o .code ≡ 15 → ((i : Item) × (stepOf s at k ≡ Step.Item i)) × (length fields < 12))
+          (λ n e h z. absurd (h .other z))
+          (λ e z. absurd (omega arith))
+          (λ i e h z. ((i, e), h))
+          (λ i e h z. absurd (omega arith)),
+      λ w. ap (λ (o : Out). o .code) (sym (laws.step-short s fields at k (w .0 .0) (w .0 .1) refl (w .1))),
+    )
+
+    pub step-comes-back : Step-Comes-Back s fields at k
+    step-comes-back =
+        step-each (λ o. o .code ≡ itemKind → stepOf s at k ≡ Step.Item (itemBack (o .out)))
+        (λ n e h z. absurd (let l : n < 256 = h .high in omega arith))
+        (λ e z. absurd (omega arith))
+        (λ i e h z. absurd (omega arith))
+        (λ i e h z. e)
+
+    pub step-over : Step-Over s fields at k
+    step-over = (
+      step-each (λ o. o .code ≡ overKind → stepOf s at k ≡ Step.Over)
+          (λ n e h z. absurd (let l : n < 256 = h .high in omega arith))
+          (λ e z. e)
+          (λ i e h z. absurd (omega arith))
+          (λ i e h z. absurd (omega arith)),
+      λ e. ap (λ (o : Out). o .code) (sym (laws.step-over s fields at k e)),
+    )
+
+-- what stands below a multiple
+low-byte : (x y : ℕ) → x < 256 → (x + y * 256) % 2 ^ 8 ≡ x
+low-byte x y h = omega arith
+
+low-word : (x y : ℕ) → x < 65536 → (x + y * 65536) % 2 ^ 16 ≡ x
+low-word x y h = omega arith
+
+-- a loop comes back out of its number
+loop-back : (l : Loop) → l .count < 256 → l .place < 65536 → ownBack (loopCode l) ≡ Own.Loop l
+loop-back l c p =
+    let zero : loopCode l % 2 ^ 8 ≡ 0 = omega arith in
+    let count : loopCode l / 2 ^ 8 % 2 ^ 8 ≡ l .count
+    = (let half : loopCode l / 2 ^ 8 ≡ l .count + (l .place + l .length * 65536) * 256 = omega arith in ap (λ x. x % 2 ^ 8) half ∙ low-byte (l .count) _ c) in
+    let place : loopCode l / 2 ^ 16 % 2 ^ 16 ≡ l .place
+    = (let half : loopCode l / 2 ^ 16 ≡ l .place + l .length * 65536 = omega arith in ap (λ x. x % 2 ^ 16) half ∙ low-word (l .place) (l .length) p) in
+    let size : loopCode l / 2 ^ 32 ≡ l .length = omega arith in
+    rw (eq-eqb (loopCode l % 2 ^ 8) 0 zero, count, place, size)
+
+refusal-back : (n : ℕ) → 0 < n → n < 256 → ownBack n ≡ Own.Refused n
+refusal-back n l h = rw (ne-eqb (n % 2 ^ 8) 0 (omega arith))
+
+pub own-comes-back : (s : List ℕ) (at : ℕ) → Own-Comes-Back s at
+own-comes-back s at b = go (ownOf s at) refl
+  where
+    small : {n : ℕ} → ((1 ≤ n) × (n ≤ 8)) ⊎ ((n ≡ 43) ⊎ ((n ≡ 44) ⊎ (n ≡ 45))) → (0 < n) × (n < 256)
+    small {n} x =
+        ⊎-elim (λ y. let a : 1 ≤ n = y .0 in let b : n ≤ 8 = y .1 in (omega arith, omega arith))
+        (λ y. ⊎-elim (λ q. (omega arith, omega arith)) (λ y. ⊎-elim (λ q. (omega arith, omega arith)) (λ q. (omega arith, omega arith)) y) y) x
+
+    go : (x : Own) → ownOf s at ≡ x → ownBack (ownCode x) ≡ x
+    go (Own.Refused n) e = let z = small (when.own-range s at n e) in refusal-back n (z .0) (z .1)
+    go (Own.Loop l) e =
+        let w = own-ends s at l e in
+        let count : l .count ≡ byte s at = ap (λ (y : Loop). y .count) (w .says) in
+        let place : l .place ≡ at + 1 = ap (λ (y : Loop). y .place) (w .says) in
+        let fits : at + 1 ≤ length s = w .fits in
+        let most : length s ≤ 1024 = w .reads .small in
+        loop-back l (rw count (b at)) (omega arith)
