@@ -3,6 +3,7 @@ pub mod Runs
 pub mod Rows
 pub mod Readings
 pub mod Items
+pub mod Counts
 pub mod Places
 pub mod Within
 pub mod Told

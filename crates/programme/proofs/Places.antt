@@ -54,22 +54,22 @@ module _ {s : List ℕ} {at two length delay expires size : ℕ} (v : Seen s at 
         → expired ≡ only (eqb (two / 64 / 8 % 2) 1) (low s (at + 6 + length + delay) 4 32)
         → sized ≡ only (eqb (two / 64 / 4 % 2) 1) (low s (at + 6 + length + delay + expires) 5 40)
         → _≡_ {A = Item}
-            (record {
-              linkage = linkage;
-              flags = two / 64;
-              playback = playback;
-              delay = delayed;
-              expires = expired;
-              size = sized;
-              nameat = at + 6 + length + delay + expires + size + 1;
-              named = named;
-              descriptors =
-                  record {
-                    count = byte s (at + 6 + length + delay + expires + size + 1 + named);
-                    place = at + 6 + length + delay + expires + size + 1 + named + 1;
-                    length = end - (at + 6 + length + delay + expires + size + 1 + named + 1);
-                  };
-              next = end;
-            })
-            (itemTo s at end)
+        (record {
+          linkage = linkage;
+          flags = two / 64;
+          playback = playback;
+          delay = delayed;
+          expires = expired;
+          size = sized;
+          nameat = at + 6 + length + delay + expires + size + 1;
+          named = named;
+          descriptors =
+              record {
+                count = byte s (at + 6 + length + delay + expires + size + 1 + named);
+                place = at + 6 + length + delay + expires + size + 1 + named + 1;
+                length = end - (at + 6 + length + delay + expires + size + 1 + named + 1);
+              };
+          next = end;
+        })
+        (itemTo s at end)
     made a b c d e = rw (a, b, c, d, e, n, v .of-length, v .of-delay, v .of-expires, v .of-size, v .flags)

@@ -3,3 +3,4 @@ pub mod Table
 pub mod Run
 pub mod Reading
 pub mod Answer
+pub mod Count

@@ -9,6 +9,7 @@ ghost use lib.ListN.{length};
 ghost use Rattle.programme.specs.Field.{number, only, low};
 ghost use Rattle.programme.specs.Run.{runOf};
 ghost use Rattle.programme.specs.Reading.{readOf, itemAt, stepOf, ownAt, ownOf};
+ghost use Rattle.programme.specs.Count.{countOf};
 
 // A field or a loop passes the end.
 const PASSES_END: u8 = 43;
@@ -56,6 +57,12 @@ pub struct Programme {
 
 pub enum Reading {
     Programme(Programme),
+    Refused(u8),
+}
+
+// How many items a list has.
+enum Count {
+    Items(u8),
     Refused(u8),
 }
 
@@ -130,24 +137,36 @@ fn five(bytes: &[u8], at: usize) -> u64
     high + base::full(base::half(bytes[at + 4])) as u64
 }
 
+// How many items a payload's list has, or its first refusal. A step needs no more of the fields before the items.
+fn count_items(payload: &[u8]) -> Count
+    ensures { λ r. ⌜ r ≡ countOf (readOf (now (payload .entry))) ⌝ }
+{
+    let section = section::read(payload);
+    match section {
+        Section::Refused(n) => Count::Refused(n),
+        Section::Sound(header) => {
+            if header.table != NRT_IT {
+                return Count::Refused(OTHER_TABLE);
+            }
+            if payload.len() < FIRST_ITEM {
+                return Count::Refused(PASSES_END);
+            }
+            Count::Items(payload[ITEMS])
+        }
+    }
+}
+
 // The fields before the items of a payload, or its first refusal.
 pub fn read(payload: &[u8]) -> Reading
     ensures { λ r. ⌜ r ≡ readOf (now (payload .entry)) ⌝ }
 {
-    let section = section::read(payload);
-    match section {
-        Section::Refused(n) => Reading::Refused(n),
-        Section::Sound(header) => {
-            if header.table != NRT_IT {
-                return Reading::Refused(OTHER_TABLE);
-            }
-            if payload.len() < FIRST_ITEM {
-                return Reading::Refused(PASSES_END);
-            }
+    let count = count_items(payload);
+    match count {
+        Count::Refused(n) => Reading::Refused(n),
+        Count::Items(items) => {
             let service = two(payload, SERVICE);
             let start = four(payload, START);
             let minutes = two(payload, MINUTES) % 2048;
-            let items = payload[ITEMS];
             Reading::Programme(Programme {
                 service,
                 start,
@@ -289,11 +308,11 @@ fn item_in(bytes: &[u8], at: usize) -> Step
 pub fn item_at(payload: &[u8], at: usize, number: u8) -> Step
     ensures { λ r. ⌜ r ≡ stepOf (now (payload .entry)) at number ⌝ }
 {
-    let reading = read(payload);
-    match reading {
-        Reading::Refused(n) => Step::Refused(n),
-        Reading::Programme(p) => {
-            if p.items <= number {
+    let count = count_items(payload);
+    match count {
+        Count::Refused(n) => Step::Refused(n),
+        Count::Items(items) => {
+            if items <= number {
                 return Step::Over;
             }
             item_in(payload, at)
@@ -336,9 +355,9 @@ fn own_in(bytes: &[u8], at: usize) -> Own
 pub fn own_loop(payload: &[u8], at: usize) -> Own
     ensures { λ r. ⌜ r ≡ ownOf (now (payload .entry)) at ⌝ }
 {
-    let reading = read(payload);
-    match reading {
-        Reading::Refused(n) => Own::Refused(n),
-        Reading::Programme(_) => own_in(payload, at),
+    let count = count_items(payload);
+    match count {
+        Count::Refused(n) => Own::Refused(n),
+        Count::Items(_) => own_in(payload, at),
     }
 }

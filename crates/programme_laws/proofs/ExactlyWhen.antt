@@ -163,9 +163,9 @@ module _ (s : List ℕ) (at k : ℕ) where
   pub step-over : Step-Over s at k
   step-over w = (
     λ e. by (leb (programmeOf s .items) k) (λ t. leb-true _ _ t)
-    λ f.
-    let l : k < programmeOf s .items = leb-false _ _ f in
-    go (item-way s at) (sym (there w l) ∙ e),
+        λ f.
+        let l : k < programmeOf s .items = leb-false _ _ f in
+        go (item-way s at) (sym (there w l) ∙ e),
     over w,
   )
     where
@@ -176,10 +176,10 @@ module _ (s : List ℕ) (at k : ℕ) where
   pub step-43 : Step-43 s at k
   step-43 w = (
     λ e. by (leb (programmeOf s .items) k)
-    (λ t. step-no (sym (over w (leb-true _ _ t)) ∙ e))
-    λ f.
-    let l : k < programmeOf s .items = leb-false _ _ f in
-    (l, go (item-way s at) (sym (there w l) ∙ e)),
+        (λ t. step-no (sym (over w (leb-true _ _ t)) ∙ e))
+        λ f.
+        let l : k < programmeOf s .items = leb-false _ _ f in
+        (l, go (item-way s at) (sym (there w l) ∙ e)),
     λ h. there w (h .0) ∙ back (h .1) (item-way s at),
   )
     where
@@ -194,11 +194,11 @@ module _ (s : List ℕ) (at k : ℕ) where
   pub step-exactly : Step-Exactly s at k
   step-exactly w i = (
     λ e. by (leb (programmeOf s .items) k)
-    (λ t. step-apart (sym (over w (leb-true _ _ t)) ∙ e))
-    λ f.
-    let l : k < programmeOf s .items = leb-false _ _ f in
-    let x = go (item-way s at) (sym (there w l) ∙ e) in
-    (l, x .0, x .1),
+        (λ t. step-apart (sym (over w (leb-true _ _ t)) ∙ e))
+        λ f.
+        let l : k < programmeOf s .items = leb-false _ _ f in
+        let x = go (item-way s at) (sym (there w l) ∙ e) in
+        (l, x .0, x .1),
     λ h. there w (h .0) ∙ back (h .1) (item-way s at) ∙ ap Step.Item (sym (h .2)),
   )
     where

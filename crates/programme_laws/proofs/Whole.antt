@@ -281,11 +281,11 @@ steps-accepted (c ∷ cs) at = (refl, steps-accepted cs (at + length (contentByt
 pub exactly : (s : List ℕ) → Exactly s
 exactly s b a = (
   λ w.
-  let u : Unrefused (answersTo s) = rw (w .0) (w .1) in
-  let r = read-bytes s b u in
-  (r .of, (r .body, r .fits, r .bytes, sym (w .0) ∙ bytes-read s (r .of) (r .body) (r .fits) (r .bytes))),
+      let u : Unrefused (answersTo s) = rw (w .0) (w .1) in
+      let r = read-bytes s b u in
+      (r .of, (r .body, r .fits, r .bytes, sym (w .0) ∙ bytes-read s (r .of) (r .body) (r .fits) (r .bytes))),
   λ w.
-  let x = w .1 in
-  let e : answersTo s ≡ answersOf (x .0) = bytes-read s (w .0) (x .0) (x .1) (x .2) in
-  (e ∙ sym (x .3), rw (x .3) (record { reading = refl; steps = steps-accepted (x .0 .items) 17; own = refl })),
+      let x = w .1 in
+      let e : answersTo s ≡ answersOf (x .0) = bytes-read s (w .0) (x .0) (x .1) (x .2) in
+      (e ∙ sym (x .3), rw (x .3) (record { reading = refl; steps = steps-accepted (x .0 .items) 17; own = refl })),
 )

@@ -1,36 +1,40 @@
--- `programme::own_loop` meets its promise: in each arm the reading is the one that `read` promises.
+-- `programme::own_loop` meets its promise: in each arm the count is the one that `count_items` promises.
 use mathlib.Core.Path.{_≡_, sym, ap, _∙_}
 use native.Mathlib.Omega.{arith}
 use Rattle.programme.proofs.Readings.{listed}
+use Rattle.programme.proofs.Counts.{no-items, items-of}
 use Rattle.programme.proofs.Items.{own-refused, own-there}
 use borrow.Author.Needs.{needs}
 use Rattle.programme.proofs.own_loop.Statement.{statement}
 use Rattle.programme.proofs.own_loop.Tie as tie
 use Rattle.programme.proofs.own_loop.Reads as reads
 use Rattle.programme.proofs.own_loop.Lts as lts
+use Rattle.programme.proofs.count_items.Reads as count-items-reads
 use Rattle.programme.proofs.own_in.Reads as own-in-reads
-use Rattle.programme.proofs.read.Reads as read-reads
 
-read-requires : tie.Need-read-requires
-read-requires c κs = search needs
+count-items-requires : tie.Need-count-items-requires
+count-items-requires c κs = search needs
 
-enum-known-reading : tie.Need-enum-known-reading
-enum-known-reading c = search needs
+enum-known-count : tie.Need-enum-known-count
+enum-known-count c = search needs
 
 enum-told : tie.Need-enum-told
 enum-told c = search needs
 
 own-in-requires : tie.Need-own-in-requires
 own-in-requires c κs =
-    let l = listed _ _ (sym (c .before .before .read .ensures) ∙ c .enum-told .given .1) in omega (arith, l .small)
+    let r = items-of _ _ (sym (c .enum-told .given .1) ∙ c .before .before .count-items .ensures) in
+    let l = listed _ _ (r .reads) in omega (arith, l .small)
 
 returns : tie.Need-returns
-returns c = own-refused _ _ _ (sym (c .before .before .before .read .ensures) ∙ c .before .reading .given .1)
+returns c = own-refused _ _ _ (no-items _ _ (sym (c .before .count .given .1) ∙ c .before .before .before .count-items .ensures))
 
 returns-2 : tie.Need-returns-2
-returns-2 c = c .own-in .ensures ∙ own-there _ _ _ (sym (c .before .before .before .read .ensures) ∙ c .before .enum-told .given .1)
+returns-2 c =
+    let r = items-of _ _ (sym (c .before .enum-told .given .1) ∙ c .before .before .before .count-items .ensures) in
+    c .own-in .ensures ∙ own-there _ _ _ (r .reads)
 
 pub own-loop-spec : {M : Type 1} → statement M
 own-loop-spec =
     tie.close
-    (tie.spec read-requires enum-known-reading enum-told own-in-requires returns returns-2)
+    (tie.spec count-items-requires enum-known-count enum-told own-in-requires returns returns-2)
