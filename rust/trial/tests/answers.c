@@ -24,7 +24,7 @@ static const uint8_t *section(uint8_t version, uint8_t number, uint8_t last) {
 static int version_and_words(void) {
     unsigned number;
     EXPECT(khumsafil_version() == KHUMSAFIL_VERSION);
-    EXPECT(strcmp(KHUMSAFIL_VERSION_TEXT, "0.3.0") == 0 && KHUMSAFIL_VERSION == 3 * 256);
+    EXPECT(strcmp(KHUMSAFIL_VERSION_TEXT, "0.4.0") == 0 && KHUMSAFIL_VERSION == 4 * 256);
     EXPECT(strcmp(khumsafil_refusal_text(KHUMSAFIL_REFUSED_PAYLOAD_SHORT), "payload under 8 bytes") == 0);
     EXPECT(strcmp(khumsafil_refusal_text(KHUMSAFIL_NOT_REFUSED), "no number of this library") == 0);
     EXPECT(strcmp(khumsafil_refusal_text(256 + 1), "no number of this library") == 0);
