@@ -121,8 +121,8 @@ fn the_sample_goes_round() {
     assert_eq!(run(&sample, &[]), said);
 }
 
-/// What a host in C may do that one in Rust cannot: no buffer and a null pointer for it, fewer numbers than a trigger
-/// or a table has, a number that is no action.
+/// What a host in C may do that one in Rust cannot: no buffer and a null pointer for it, fewer numbers than a trigger,
+/// a table or an item has, a number that is no action.
 #[test]
 fn a_bad_host() {
     run(
@@ -184,7 +184,7 @@ fn as_cpp() {
 }
 
 /// A call of each function that answers in a structure, by that function's name.
-const ANSWERS: [(&str, &str); 23] = [
+const ANSWERS: [(&str, &str); 26] = [
     ("section_read", "bytes, 8"),
     ("shelf_begin", "&shelf"),
     ("shelf_offer", "&shelf, bytes, 8"),
@@ -200,6 +200,9 @@ const ANSWERS: [(&str, &str); 23] = [
     ("file_number", "bytes, 8"),
     ("descriptor_step", "bytes, 8, 0"),
     ("trigger_read", "bytes, 8"),
+    ("programme_read", "bytes, 8"),
+    ("item_at", "bytes, 8, 17, 0"),
+    ("own_loop", "bytes, 8, 17"),
     ("clock_fresh", "&clock"),
     ("clock_offer", "&clock, activation"),
     ("clock_move", "&clock, 1"),
