@@ -213,31 +213,39 @@ fn part(payload: &[u8], place: u64, length: u64) -> &[u8] {
         .unwrap_or_default()
 }
 
+impl<'a> Item<'a> {
+    /// The item out of its numbers.
+    #[inline]
+    fn of(payload: &'a [u8], numbers: &[u64; ITEM_FIELDS]) -> Item<'a> {
+        let [linkage, flags, playback, delay, expires, size, name, named, count, loop_at, looped, next] =
+            *numbers;
+        let flags = Flags(flags as u16);
+        Item {
+            content_linkage: linkage as u32,
+            flags,
+            playback_length: flags.playback_length_included().then_some(playback as u32),
+            playback_delay: flags.playback_delay_included().then_some(delay as u32),
+            expiration: flags.expiration_included().then_some(expires as u32),
+            content_size: flags.content_size_included().then_some(size),
+            name: part(payload, name, named),
+            descriptors: Loop {
+                count: count as u8,
+                bytes: part(payload, loop_at, looped),
+            },
+            next: next as usize,
+        }
+    }
+}
+
 /// What stands at a place of a list, taken for the item of that number from 0 on: the first at [`FIRST_ITEM`], each other at the
 /// place after the one before. Any place and any number may be asked. Refused: 1 to 8, 45, 43.
 #[inline]
 pub fn item_at(payload: &[u8], at: usize, number: u8) -> Result<Step<'_>, Refusal> {
-    let mut read = [0; ITEM_FIELDS];
-    if !item_fields(payload, at, number, &mut read)? {
-        return Ok(Step::Over);
-    }
-    let [linkage, flags, playback, delay, expires, size, name, named, count, loop_at, looped, next] =
-        read;
-    let flags = Flags(flags as u16);
-    Ok(Step::Item(Item {
-        content_linkage: linkage as u32,
-        flags,
-        playback_length: flags.playback_length_included().then_some(playback as u32),
-        playback_delay: flags.playback_delay_included().then_some(delay as u32),
-        expiration: flags.expiration_included().then_some(expires as u32),
-        content_size: flags.content_size_included().then_some(size),
-        name: part(payload, name, named),
-        descriptors: Loop {
-            count: count as u8,
-            bytes: part(payload, loop_at, looped),
-        },
-        next: next as usize,
-    }))
+    let mut numbers = [0; ITEM_FIELDS];
+    Ok(match item_fields(payload, at, number, &mut numbers)? {
+        true => Step::Item(Item::of(payload, &numbers)),
+        false => Step::Over,
+    })
 }
 
 /// The table's own loop, whose number of descriptors stands at a place: the one after the last item. Any place may be asked.
@@ -265,6 +273,7 @@ impl<'a> Programme<'a> {
             at: FIRST_ITEM,
             number: 0,
             end: self.count,
+            numbers: [0; ITEM_FIELDS],
         }
     }
 }
@@ -288,6 +297,8 @@ pub struct Items<'a> {
     number: u8,
     /// The number that the walk ends at.
     end: u8,
+    /// What is lent for an item, over and over.
+    numbers: [u64; ITEM_FIELDS],
 }
 
 impl<'a> Items<'a> {
@@ -297,21 +308,24 @@ impl<'a> Items<'a> {
         self.at
     }
 
+    /// Goes over the next item, where there is one.
+    #[inline]
+    fn pass(&mut self) -> Result<bool, Refusal> {
+        let found = item_fields(self.payload, self.at, self.number, &mut self.numbers)?;
+        if found {
+            self.at = self.numbers[ITEM_FIELDS - 1] as usize;
+            // A list has at most 255 items, so this is no more than their count.
+            self.number = self.number.saturating_add(1);
+        }
+        Ok(found)
+    }
+
     /// The table's own loop, which stands behind the last item: items that the walk has not come to are passed over. Refused: 43
     /// where one of these is, or the loop; 44 where bytes are left over after it.
     pub fn own_loop(mut self) -> Result<Loop<'a>, Refusal> {
         // An item that was refused is so again.
-        while let Step::Item(item) = item_at(self.payload, self.at, self.number)? {
-            self.pass(&item);
-        }
+        while self.pass()? {}
         own_loop_at(self.payload, self.at)
-    }
-
-    /// A list has at most 255 items, so the number behind the last is none that is cut.
-    #[inline]
-    fn pass(&mut self, item: &Item<'_>) {
-        self.at = item.next;
-        self.number = self.number.saturating_add(1);
     }
 }
 
@@ -323,12 +337,9 @@ impl<'a> Iterator for Items<'a> {
         if self.number == self.end {
             return None;
         }
-        match item_at(self.payload, self.at, self.number) {
-            Ok(Step::Item(item)) => {
-                self.pass(&item);
-                Some(Ok(item))
-            }
-            Ok(Step::Over) => None,
+        match self.pass() {
+            Ok(true) => Some(Ok(Item::of(self.payload, &self.numbers))),
+            Ok(false) => None,
             Err(refusal) => {
                 self.end = self.number;
                 Some(Err(refusal))
