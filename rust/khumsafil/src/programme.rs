@@ -11,9 +11,9 @@
 //! let mut items = list.items();
 //! for item in &mut items {
 //!     let item = item?;
-//!     assert_eq!((item.content_linkage, item.name, item.content_size), (66, &b"Ferry"[..], None));
-//!     assert!(item.flags.master_item());
-//!     for descriptor in item.descriptors.walk() {
+//!     assert_eq!((item.content_linkage(), item.name(), item.content_size()), (66, &b"Ferry"[..], None));
+//!     assert!(item.flags().master_item());
+//!     for descriptor in item.descriptors().walk() {
 //!         assert_eq!(descriptor?.tag, 0xC6);
 //!     }
 //! }
@@ -22,6 +22,7 @@
 //! ```
 
 use crate::{boundary, descriptor, Refusal};
+use core::fmt;
 
 /// The table id of a programme list.
 pub const TABLE_ID: u8 = 0xDF;
@@ -102,26 +103,134 @@ impl<'a> Loop<'a> {
 }
 
 /// A content item. Its values are as they stand there, also those that the papers say shall not be used.
-#[derive(Clone, Copy, Debug, PartialEq, Eq)]
+///
+/// It keeps places, and makes parts of them when they are asked for, so that a walk which looks at few costs little. Two items are
+/// equal where they say the same, wherever they stand.
+#[derive(Clone, Copy)]
 pub struct Item<'a> {
+    payload: &'a [u8],
+    content_linkage: u32,
+    flags: Flags,
+    playback_length: u32,
+    playback_delay: u32,
+    expiration: u32,
+    content_size: u64,
+    name: (u16, u8),
+    count: u8,
+    descriptors: (u16, u16),
+    next: u16,
+}
+
+impl<'a> Item<'a> {
+    /// The item out of its numbers. No place of a section is above 1,024.
+    #[inline]
+    fn of(payload: &'a [u8], numbers: &[u64; ITEM_FIELDS]) -> Item<'a> {
+        Item {
+            payload,
+            content_linkage: numbers[0] as u32,
+            flags: Flags(numbers[1] as u16),
+            playback_length: numbers[2] as u32,
+            playback_delay: numbers[3] as u32,
+            expiration: numbers[4] as u32,
+            content_size: numbers[5],
+            name: (numbers[6] as u16, numbers[7] as u8),
+            count: numbers[8] as u8,
+            descriptors: (numbers[9] as u16, numbers[10] as u16),
+            next: numbers[11] as u16,
+        }
+    }
+
     /// The number that links the item to its files.
-    pub content_linkage: u32,
+    #[inline]
+    pub fn content_linkage(&self) -> u32 {
+        self.content_linkage
+    }
+
     /// Its flags.
-    pub flags: Flags,
+    #[inline]
+    pub fn flags(&self) -> Flags {
+        self.flags
+    }
+
     /// How long it plays, in seconds, where it says so.
-    pub playback_length: Option<u32>,
+    #[inline]
+    pub fn playback_length(&self) -> Option<u32> {
+        let there = self.flags.playback_length_included();
+        there.then_some(self.playback_length)
+    }
+
     /// How long playing waits for what is received, in seconds, where it says so.
-    pub playback_delay: Option<u32>,
+    #[inline]
+    pub fn playback_delay(&self) -> Option<u32> {
+        let there = self.flags.playback_delay_included();
+        there.then_some(self.playback_delay)
+    }
+
     /// When it expires, in GPS seconds, where it says so.
-    pub expiration: Option<u32>,
+    #[inline]
+    pub fn expiration(&self) -> Option<u32> {
+        let there = self.flags.expiration_included();
+        there.then_some(self.expiration)
+    }
+
     /// Its size in bytes, where it says so.
-    pub content_size: Option<u64>,
+    #[inline]
+    pub fn content_size(&self) -> Option<u64> {
+        let there = self.flags.content_size_included();
+        there.then_some(self.content_size)
+    }
+
     /// The name, a multiple string structure of A/65, which the library does not read.
-    pub name: &'a [u8],
+    #[inline]
+    pub fn name(&self) -> &'a [u8] {
+        part(self.payload, self.name.0.into(), self.name.1.into())
+    }
+
     /// Its descriptors.
-    pub descriptors: Loop<'a>,
+    #[inline]
+    pub fn descriptors(&self) -> Loop<'a> {
+        let (place, length) = self.descriptors;
+        Loop {
+            count: self.count,
+            bytes: part(self.payload, place.into(), length.into()),
+        }
+    }
+
     /// The place after the item.
-    pub next: usize,
+    #[inline]
+    pub fn next(&self) -> usize {
+        self.next.into()
+    }
+}
+
+impl PartialEq for Item<'_> {
+    fn eq(&self, other: &Item<'_>) -> bool {
+        (self.content_linkage, self.flags) == (other.content_linkage, other.flags)
+            && self.playback_length == other.playback_length
+            && self.playback_delay == other.playback_delay
+            && self.expiration == other.expiration
+            && self.content_size == other.content_size
+            && self.name() == other.name()
+            && self.descriptors() == other.descriptors()
+    }
+}
+
+impl Eq for Item<'_> {}
+
+impl fmt::Debug for Item<'_> {
+    fn fmt(&self, f: &mut fmt::Formatter<'_>) -> fmt::Result {
+        f.debug_struct("Item")
+            .field("content_linkage", &self.content_linkage())
+            .field("flags", &self.flags())
+            .field("playback_length", &self.playback_length())
+            .field("playback_delay", &self.playback_delay())
+            .field("expiration", &self.expiration())
+            .field("content_size", &self.content_size())
+            .field("name", &self.name())
+            .field("descriptors", &self.descriptors())
+            .field("next", &self.next())
+            .finish()
+    }
 }
 
 /// What is found at a place of a list.
@@ -206,35 +315,8 @@ pub fn item_fields(
 
 /// A part of the payload. The library's places lie in it.
 #[inline]
-fn part(payload: &[u8], place: u64, length: u64) -> &[u8] {
-    let place = place as usize;
-    payload
-        .get(place..place + length as usize)
-        .unwrap_or_default()
-}
-
-impl<'a> Item<'a> {
-    /// The item out of its numbers.
-    #[inline]
-    fn of(payload: &'a [u8], numbers: &[u64; ITEM_FIELDS]) -> Item<'a> {
-        let [linkage, flags, playback, delay, expires, size, name, named, count, loop_at, looped, next] =
-            *numbers;
-        let flags = Flags(flags as u16);
-        Item {
-            content_linkage: linkage as u32,
-            flags,
-            playback_length: flags.playback_length_included().then_some(playback as u32),
-            playback_delay: flags.playback_delay_included().then_some(delay as u32),
-            expiration: flags.expiration_included().then_some(expires as u32),
-            content_size: flags.content_size_included().then_some(size),
-            name: part(payload, name, named),
-            descriptors: Loop {
-                count: count as u8,
-                bytes: part(payload, loop_at, looped),
-            },
-            next: next as usize,
-        }
-    }
+fn part(payload: &[u8], place: usize, length: usize) -> &[u8] {
+    payload.get(place..place + length).unwrap_or_default()
 }
 
 /// What stands at a place of a list, taken for the item of that number from 0 on: the first at [`FIRST_ITEM`], each other at the
@@ -258,7 +340,11 @@ pub fn own_loop_at(payload: &[u8], at: usize) -> Result<Loop<'_>, Refusal> {
     match word as u8 {
         0 => Ok(Loop {
             count: (word >> 8) as u8,
-            bytes: part(payload, word >> 16 & 0xFFFF, word >> 32),
+            bytes: part(
+                payload,
+                usize::from((word >> 16) as u16),
+                usize::from((word >> 32) as u16),
+            ),
         }),
         number => Err(Refusal::of(number)),
     }
@@ -273,7 +359,6 @@ impl<'a> Programme<'a> {
             at: FIRST_ITEM,
             number: 0,
             end: self.count,
-            numbers: [0; ITEM_FIELDS],
         }
     }
 }
@@ -297,8 +382,6 @@ pub struct Items<'a> {
     number: u8,
     /// The number that the walk ends at.
     end: u8,
-    /// What is lent for an item, over and over.
-    numbers: [u64; ITEM_FIELDS],
 }
 
 impl<'a> Items<'a> {
@@ -310,21 +393,21 @@ impl<'a> Items<'a> {
 
     /// Goes over the next item, where there is one.
     #[inline]
-    fn pass(&mut self) -> Result<bool, Refusal> {
-        let found = item_fields(self.payload, self.at, self.number, &mut self.numbers)?;
-        if found {
-            self.at = self.numbers[ITEM_FIELDS - 1] as usize;
+    fn pass(&mut self) -> Result<Step<'a>, Refusal> {
+        let step = item_at(self.payload, self.at, self.number)?;
+        if let Step::Item(item) = &step {
+            self.at = item.next();
             // A list has at most 255 items, so this is no more than their count.
             self.number = self.number.saturating_add(1);
         }
-        Ok(found)
+        Ok(step)
     }
 
     /// The table's own loop, which stands behind the last item: items that the walk has not come to are passed over. Refused: 43
     /// where one of these is, or the loop; 44 where bytes are left over after it.
     pub fn own_loop(mut self) -> Result<Loop<'a>, Refusal> {
         // An item that was refused is so again.
-        while self.pass()? {}
+        while let Step::Item(_) = self.pass()? {}
         own_loop_at(self.payload, self.at)
     }
 }
@@ -338,8 +421,8 @@ impl<'a> Iterator for Items<'a> {
             return None;
         }
         match self.pass() {
-            Ok(true) => Some(Ok(Item::of(self.payload, &self.numbers))),
-            Ok(false) => None,
+            Ok(Step::Item(item)) => Some(Ok(item)),
+            Ok(Step::Over) => None,
             Err(refusal) => {
                 self.end = self.number;
                 Some(Err(refusal))

@@ -166,7 +166,7 @@ fn reserved_bits() {
         let told = |payload: &[u8]| {
             let list = programme::read(payload).expect("a list");
             let items = list.items().map(|item| item.expect("an item"));
-            let items = items.map(|item| programme_numbers(&item, payload));
+            let items = items.map(|item| (format!("{item:?}"), item.next()));
             let head = (list.service_id, list.time_span_start);
             (head, list.time_span_length, items.collect::<Vec<_>>())
         };
@@ -186,25 +186,6 @@ fn reserved_bits() {
         }
     }
     found.show("reserved bits", &[ITEM, OVER, OWN]);
-}
-
-/// What an item says, with places instead of parts.
-fn programme_numbers(item: &programme::Item, payload: &[u8]) -> Vec<u64> {
-    let place = |part: &[u8]| part.as_ptr() as u64 - payload.as_ptr() as u64;
-    vec![
-        item.content_linkage.into(),
-        item.flags.0.into(),
-        item.playback_length.map_or(u64::MAX, u64::from),
-        item.playback_delay.map_or(u64::MAX, u64::from),
-        item.expiration.map_or(u64::MAX, u64::from),
-        item.content_size.unwrap_or(u64::MAX),
-        place(item.name),
-        item.name.len() as u64,
-        item.descriptors.count.into(),
-        place(item.descriptors.bytes),
-        item.descriptors.bytes.len() as u64,
-        item.next as u64,
-    ]
 }
 
 /// The refusals in their order: the section's own, then 45, then 43 of the fields from the left.

@@ -36,26 +36,17 @@ fn same_loop(ours: &Loop, other: theirs::Loop, payload: &[u8]) -> bool {
 /// Whether two are one item.
 fn same_item(ours: &Item, other: &theirs::Item, payload: &[u8]) -> bool {
     let included = |flag: u16| other.flags & flag != 0;
-    let Item {
-        content_linkage,
-        flags: Flags(flags),
-        playback_length,
-        playback_delay,
-        expiration,
-        content_size,
-        name,
-        descriptors,
-        next,
-    } = ours;
-    (*content_linkage, *flags, *next) == (other.content_linkage, other.flags, other.next)
-        && *playback_length
+    let Flags(flags) = ours.flags();
+    (ours.content_linkage(), flags, ours.next()) == (other.content_linkage, other.flags, other.next)
+        && ours.playback_length()
             == included(theirs::PLAYBACK_LENGTH_INCLUDED).then_some(other.playback_length)
-        && *playback_delay
+        && ours.playback_delay()
             == included(theirs::PLAYBACK_DELAY_INCLUDED).then_some(other.playback_delay)
-        && *expiration == included(theirs::EXPIRATION_INCLUDED).then_some(other.expiration)
-        && *content_size == included(theirs::CONTENT_SIZE_INCLUDED).then_some(other.content_size)
-        && same(name, payload, other.name_place, other.name_length)
-        && same_loop(descriptors, other.descriptors, payload)
+        && ours.expiration() == included(theirs::EXPIRATION_INCLUDED).then_some(other.expiration)
+        && ours.content_size()
+            == included(theirs::CONTENT_SIZE_INCLUDED).then_some(other.content_size)
+        && same(ours.name(), payload, other.name_place, other.name_length)
+        && same_loop(&ours.descriptors(), other.descriptors, payload)
 }
 
 /// The numbers that an item is answered in.

@@ -79,7 +79,7 @@ fn their_walk(lists: &[Vec<u8>]) {
     for payload in lists {
         let items = opinion::programme::items(black_box(payload)).expect("a list");
         for item in items {
-            let _ = black_box(item);
+            black_box(&item.expect("an item"));
         }
     }
 }
@@ -108,7 +108,7 @@ fn wrapped(lists: &[Vec<u8>]) -> (f64, f64) {
         for payload in lists {
             let list = programme::read(black_box(payload)).expect("a list");
             for item in list.items() {
-                let _ = black_box(item);
+                black_box(&item.expect("an item"));
             }
         }
     };
@@ -126,12 +126,12 @@ fn reading(lists: &[Vec<u8>]) -> (f64, f64) {
         400,
         || {
             for payload in lists {
-                let _ = black_box(programme::read(black_box(payload)));
+                black_box(&programme::read(black_box(payload)).expect("a list"));
             }
         },
         || {
             for payload in lists {
-                let _ = black_box(their_reading(black_box(payload)));
+                black_box(&their_reading(black_box(payload)).expect("a list"));
             }
         },
     )
