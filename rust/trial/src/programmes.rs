@@ -1,5 +1,6 @@
 //! Programme lists, or nearly.
 
+use crate::files::{self, Parts};
 use crate::loops;
 use crate::random::Random;
 use crate::sections::{self, put_header, Fields};
@@ -300,4 +301,47 @@ pub fn places(size: usize) -> impl Iterator<Item = usize> {
     let far = [1 << 16, 1 << 31, 1 << 32, 1 << 40, usize::MAX / 2];
     let last = (0..=20).map(|less| usize::MAX - less);
     (0..=size + 20).chain(far).chain(last)
+}
+
+/// The kinds of a list whose section is sound, so that a file can hold it.
+const IN_A_FILE: [&str; 9] = [
+    "sound",
+    "sound",
+    "a body of noise",
+    "cut",
+    "one item more or fewer",
+    "a count off by one",
+    "a count of bytes",
+    "a length off by one",
+    "other flags",
+];
+
+/// A shelf file of a programme list, or of another table, of the kind that [`files::damaged`] makes. Its lists are whole, or not.
+pub fn file(random: &mut Random, kind: &str) -> Vec<u8> {
+    let mut table = Fields::random(random);
+    if !random.once_in(10) {
+        table.table_id = TABLE;
+    }
+    table.last = random.pick(&[0, 0, 1, 2, table.last]);
+    table.number = random.below(usize::from(table.last) + 1) as u8;
+    let (all, sound) = (random.once_in(2), random.once_in(2));
+    let mut sections = Vec::new();
+    for number in 0..=table.last {
+        if all || random.once_in(2) || number == table.number {
+            let list = if sound {
+                "sound"
+            } else {
+                random.pick(&IN_A_FILE)
+            };
+            let mut payload = payload(random, list);
+            // Bytes left over, where there is room for them.
+            if !sound && random.once_in(8) && payload.len() + 3 < MOST {
+                let more = 1 + random.below(3);
+                payload.extend(random.bytes(more));
+            }
+            put_header(&mut payload, Fields { number, ..table }, random.byte());
+            sections.push(payload);
+        }
+    }
+    files::damaged(random, kind, Parts::of(sections))
 }

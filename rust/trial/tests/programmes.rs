@@ -1,7 +1,9 @@
 //! Programme lists: the library beside the independent program.
 
-use khumsafil::programme;
-use trial::beside::programmes::{own, read, step, step_in_room, walk, ITEM, OVER, OWN};
+use khumsafil::{programme, Refusal};
+use std::collections::BTreeMap;
+use trial::beside::programmes::{own, read, step, step_in_room, text, walk, ITEM, OVER, OWN};
+use trial::files;
 use trial::programmes::{self, Made, Shape, KINDS, MOST, SMALLEST};
 use trial::random::Random;
 use trial::tally::{common, share, Tally};
@@ -239,4 +241,67 @@ fn the_order_of_refusals() {
     assert_eq!(own(&listed(&[0; 10]), 16), 43);
     assert_eq!(own(&listed(&[0; 10]), 17), OWN);
     assert_eq!(own(&listed(&[0; 10]), 18), 43);
+}
+
+/// The words that a line of the staff's text begins with.
+const LINES: [&str; 17] = [
+    "refused",
+    "table",
+    "no programme list",
+    "section",
+    "item",
+    "updates",
+    "playback",
+    "delay",
+    "expires",
+    "size",
+    "name",
+    "descriptors",
+    "list descriptors",
+    "missing",
+    "whole",
+    "not whole",
+    "section refused",
+];
+
+/// The word of [`LINES`] that a line begins with; the last one for a section's refusal.
+fn word(line: &str) -> &'static str {
+    if line.starts_with("section ") && line.contains(" refused ") {
+        return LINES[LINES.len() - 1];
+    }
+    let mut known = LINES.iter().filter(|word| line.starts_with(**word));
+    known.next().unwrap_or_else(|| panic!("{line}"))
+}
+
+/// Files of programme lists, whole and damaged: their texts have every kind of line, and 43 and 44 at their places.
+#[test]
+fn files_have_every_line() {
+    let mut random = Random::new(SEED);
+    let mut lines: BTreeMap<&str, u64> = BTreeMap::new();
+    let (mut longest, mut refused) = (0, [0u64; 2]);
+    for kind in files::KINDS {
+        for _ in 0..share(1_000) {
+            let file = programmes::file(&mut random, kind);
+            let said = text(&file, random.below(400), told);
+            longest = longest.max(said.len());
+            for line in said.lines() {
+                *lines.entry(word(line)).or_default() += 1;
+                refused[0] += u64::from(line.contains(" refused 43 place "));
+                refused[1] += u64::from(line.contains(" refused 44 place "));
+            }
+        }
+    }
+    println!("texts of files, seed {SEED:#018X}: the longest {longest} bytes, 43 and 44 {refused:?}, {lines:?}");
+    LINES
+        .iter()
+        .for_each(|word| common(lines.get(word).copied().unwrap_or(0), 100));
+    refused.iter().for_each(|n| common(*n, 100));
+}
+
+/// What stands for the library's text until the library has one.
+fn told(file: &[u8], out: &mut [u8]) -> Result<usize, Refusal> {
+    let text = opinion::programme_text::programmes(file);
+    let out = out.get_mut(..text.len()).ok_or(Refusal::OUTPUT_TOO_SMALL)?;
+    out.copy_from_slice(text.as_bytes());
+    Ok(text.len())
 }

@@ -221,3 +221,27 @@ pub fn walk(payload: &[u8], found: &mut Tally) -> u8 {
         met
     }
 }
+
+/// Asks for the staff's text of a shelf file with exact room, with a byte and then `less` less, and with more, and gives the
+/// independent program's, which each is compared with.
+pub fn text(
+    file: &[u8],
+    less: usize,
+    list: impl Fn(&[u8], &mut [u8]) -> Result<usize, Refusal>,
+) -> String {
+    const UNWRITTEN: u8 = 0xA5;
+    let text = opinion::programme_text::programmes(file);
+    let size = text.len();
+    let small = size - 1 - less % size;
+    for room in [size, small, size + 10] {
+        let mut out = vec![UNWRITTEN; room];
+        let answer = list(file, &mut out).map_err(Refusal::number);
+        let written = if room < size { Err(15) } else { Ok(size) };
+        assert_eq!(answer, written, "{room} for {file:02X?}");
+        let (told, rest) = out.split_at(answer.unwrap_or(0));
+        let said = if room < size { "" } else { &text };
+        assert_eq!(told, said.as_bytes(), "{file:02X?}");
+        assert!(rest.iter().all(|b| *b == UNWRITTEN), "past the text");
+    }
+    text
+}
