@@ -1,6 +1,7 @@
 /*
- * Khumsafil: table sections, the shelf and its files, descriptors, triggers and the clock of a television data receiver,
- * and the bench's section writer. This is what a host in C or C++ calls: inline functions over those of khumsafil_raw.h.
+ * Khumsafil: table sections, the shelf and its files, descriptors, triggers, programme lists and the clock of a television
+ * data receiver, and the bench's section writer. This is what a host in C or C++ calls: inline functions over those of
+ * khumsafil_raw.h.
  *
  * Every function ends and answers, on any bytes. None allocates, keeps a pointer, or holds a state of its own,
  * so calls on different buffers may run at the same time. The archive needs memcpy, memmove and memset, and nothing else.
@@ -38,7 +39,7 @@
  * What C lets a host do and the library cannot see. No promise holds then, and any byte of the program may be lost:
  *
  *   a pointer, null or not, with fewer elements behind it than its length says, or not aligned for them
- *   a pointer to a shelf, a clock or a trigger that is null or has none behind it
+ *   a pointer to a shelf, a clock, a trigger or an item that is null or has none behind it
  *   a buffer that the call writes and that shares a byte with another buffer of that call, also where the call is
  *   refused or writes nothing, as with a payload that stands in the store
  *   two calls at the same time on one buffer that either of them writes
@@ -62,8 +63,8 @@
 #endif
 
 /* The version of this header: 65536 times the major number, 256 times the minor one and the patch. */
-#define KHUMSAFIL_VERSION 0x000300
-#define KHUMSAFIL_VERSION_TEXT "0.3.0"
+#define KHUMSAFIL_VERSION 0x000400
+#define KHUMSAFIL_VERSION_TEXT "0.4.0"
 
 /* The version of the library that is linked, by its own answer. */
 KHUMSAFIL_LOOK_
@@ -112,6 +113,9 @@ typedef enum khumsafil_refusal {
     KHUMSAFIL_REFUSED_WRITER_BODY_TOO_LONG = 40,
     KHUMSAFIL_REFUSED_WRITER_VERSION_ABOVE_31 = 41,
     KHUMSAFIL_REFUSED_WRITER_K_ABOVE_LAST = 42,
+    KHUMSAFIL_REFUSED_PROGRAMME_PASSES_END = 43,
+    KHUMSAFIL_REFUSED_PROGRAMME_BYTES_LEFT = 44,
+    KHUMSAFIL_REFUSED_PROGRAMME_OTHER_TABLE = 45,
     KHUMSAFIL_REFUSED_NO_SUCH_ACTION = 255
 } khumsafil_refusal;
 
@@ -191,6 +195,12 @@ static inline const char *khumsafil_refusal_text(unsigned number) {
         return "version above 31";
     case KHUMSAFIL_REFUSED_WRITER_K_ABOVE_LAST:
         return "k above the last";
+    case KHUMSAFIL_REFUSED_PROGRAMME_PASSES_END:
+        return "a field or loop passes the end";
+    case KHUMSAFIL_REFUSED_PROGRAMME_BYTES_LEFT:
+        return "bytes left over";
+    case KHUMSAFIL_REFUSED_PROGRAMME_OTHER_TABLE:
+        return "table id not the NRT-IT's";
     case KHUMSAFIL_REFUSED_NO_SUCH_ACTION:
         return "no such action: a number above 3";
     default:
@@ -550,11 +560,20 @@ static inline bool khumsafil_descriptor_is_trigger_tap(const uint8_t *bytes, siz
     return khumsafil_raw_descriptor_is_trigger_tap(bytes, bytes_length, at);
 }
 
-/* Bytes of a trigger's payload, by place and length. */
+/* Bytes of a payload, by place and length. */
 typedef struct khumsafil_part {
     uint16_t place;
     uint16_t length;
 } khumsafil_part;
+
+/*
+ * Where a part begins: part.length bytes of the payload that it was read from are behind it, so the two are a buffer as any
+ * call takes it. Null of a null payload.
+ */
+KHUMSAFIL_LOOK_
+static inline const uint8_t *khumsafil_part_of(const uint8_t *payload, khumsafil_part part) {
+    return payload == NULL ? NULL : payload + part.place;
+}
 
 /* The kinds of target, each one more than in the raw numbers: a trigger without an explicit target was read, and is not the 0
    of a refused one. */
@@ -649,6 +668,168 @@ static inline bool khumsafil_trigger_belongs(const uint8_t *payload, size_t payl
     return !trigger->refusal && khumsafil_raw_trigger_belongs(payload, payload_length, trigger->fields,
                                                               KHUMSAFIL_TRIGGER_FIELDS, application,
                                                               application_length);
+}
+
+/* The fields of a programme list before its items. */
+typedef struct khumsafil_programme {
+    khumsafil_refusal refusal;
+    uint16_t service_id;
+    uint32_t time_span_start;  /* in GPS seconds; 0: from the indefinite past */
+    uint16_t time_span_length; /* in minutes; 0: into the indefinite future */
+    uint8_t items;             /* how many items the list has */
+} khumsafil_programme;
+
+/* Reads the payload, a section of an NRT-IT, as a programme list. Refused: 1 to 8, 45, 43. */
+KHUMSAFIL_LOOK_
+static inline khumsafil_programme khumsafil_programme_read(const uint8_t *payload, size_t payload_length) {
+    uint32_t fields[KHUMSAFIL_PROGRAMME_FIELDS] = {0, 0, 0, 0};
+    khumsafil_programme programme;
+    programme.refusal = khumsafil_refusal_(
+        khumsafil_raw_programme_read(payload, payload_length, fields, KHUMSAFIL_PROGRAMME_FIELDS));
+    programme.service_id = (uint16_t)fields[KHUMSAFIL_PROGRAMME_SERVICE_ID];
+    programme.time_span_start = fields[KHUMSAFIL_PROGRAMME_TIME_SPAN_START];
+    programme.time_span_length = (uint16_t)fields[KHUMSAFIL_PROGRAMME_TIME_SPAN_LENGTH];
+    programme.items = (uint8_t)fields[KHUMSAFIL_PROGRAMME_ITEMS];
+    return programme;
+}
+
+/* A loop of a programme list: how many descriptors, and their bytes, which khumsafil_descriptor_step walks as they are. */
+typedef struct khumsafil_loop {
+    uint8_t count;
+    khumsafil_part bytes;
+} khumsafil_loop;
+
+/* What was found at a place of a programme list. */
+typedef enum khumsafil_item_kind {
+    KHUMSAFIL_ITEM_NOTHING = 0, /* it was refused */
+    KHUMSAFIL_ITEM_FOUND = 1,   /* the item at the place asked */
+    KHUMSAFIL_ITEM_OVER = 2     /* the list has no item of that number */
+} khumsafil_item_kind;
+
+/*
+ * A content item. Its values are as they stand there, also those that the papers say shall not be used. An optional field has
+ * a bool before it: false where the item has none, and the field is then 0. The name is a multiple string structure of
+ * A/65, which the library does not read.
+ *
+ * A walk goes on while an item is found, and the table's own loop stands where it ends:
+ *
+ *   size_t at = KHUMSAFIL_FIRST_ITEM;
+ *   unsigned n = 0;
+ *   for (; (item = khumsafil_item_at(payload, length, at, n)).found == KHUMSAFIL_ITEM_FOUND; at = item.next, n++)
+ *       show(khumsafil_part_of(payload, item.name), item.name.length);
+ *   if (!item.refusal)
+ *       own = khumsafil_own_loop(payload, length, at);
+ *
+ * The descriptors of an item are walked as any loop is:
+ *
+ *   loop = khumsafil_part_of(payload, item.descriptors.bytes), size = item.descriptors.bytes.length;
+ *   for (d = 0; (step = khumsafil_descriptor_step(loop, size, d)).found == KHUMSAFIL_STEP_DESCRIPTOR; d = step.next)
+ *
+ * That walk finds item.descriptors.count of them and ends at the loop's end, without a refusal.
+ */
+typedef struct khumsafil_item {
+    khumsafil_refusal refusal;
+    khumsafil_item_kind found;
+    uint32_t content_linkage;
+    uint16_t flags; /* all ten, for khumsafil_item_is_master and its like */
+    bool has_playback_length;
+    uint32_t playback_length; /* in seconds */
+    bool has_playback_delay;
+    uint32_t playback_delay; /* in seconds */
+    bool has_expiration;
+    uint32_t expiration; /* in GPS seconds */
+    bool has_content_size;
+    uint64_t content_size; /* in bytes */
+    khumsafil_part name;
+    khumsafil_loop descriptors;
+    size_t next; /* the place after the item; where the items are over, the place asked */
+} khumsafil_item;
+
+/*
+ * What stands at a place of a programme list, taken for the item of that number, from 0 on: the first at
+ * KHUMSAFIL_FIRST_ITEM, each other at the place after the one before. Any place and any number may be asked. Refused: 1 to 8,
+ * 45, 43.
+ */
+KHUMSAFIL_LOOK_
+static inline khumsafil_item khumsafil_item_at(const uint8_t *payload, size_t payload_length, size_t at, unsigned number) {
+    uint64_t fields[KHUMSAFIL_ITEM_FIELDS] = {0, 0, 0, 0, 0, 0, 0, 0, 0, 0, 0, 0};
+    const uint16_t answer = khumsafil_raw_programme_item(payload, payload_length, at, khumsafil_narrow_(number), fields,
+                                                         KHUMSAFIL_ITEM_FIELDS);
+    khumsafil_item item;
+    item.refusal = khumsafil_refusal_(answer);
+    item.found = (khumsafil_item_kind)(answer >> 8);
+    item.content_linkage = (uint32_t)fields[KHUMSAFIL_ITEM_LINKAGE];
+    item.flags = (uint16_t)fields[KHUMSAFIL_ITEM_FLAGS];
+    item.has_playback_length = (item.flags & KHUMSAFIL_FLAG_PLAYBACK_LENGTH_INCLUDED) != 0;
+    item.playback_length = (uint32_t)fields[KHUMSAFIL_ITEM_PLAYBACK_LENGTH];
+    item.has_playback_delay = (item.flags & KHUMSAFIL_FLAG_PLAYBACK_DELAY_INCLUDED) != 0;
+    item.playback_delay = (uint32_t)fields[KHUMSAFIL_ITEM_PLAYBACK_DELAY];
+    item.has_expiration = (item.flags & KHUMSAFIL_FLAG_EXPIRATION_INCLUDED) != 0;
+    item.expiration = (uint32_t)fields[KHUMSAFIL_ITEM_EXPIRATION];
+    item.has_content_size = (item.flags & KHUMSAFIL_FLAG_CONTENT_SIZE_INCLUDED) != 0;
+    item.content_size = fields[KHUMSAFIL_ITEM_CONTENT_SIZE];
+    item.name = khumsafil_part_((uint16_t)fields[KHUMSAFIL_ITEM_NAME_PLACE], (uint16_t)fields[KHUMSAFIL_ITEM_NAME_BYTES]);
+    item.descriptors.count = (uint8_t)fields[KHUMSAFIL_ITEM_DESCRIPTORS];
+    item.descriptors.bytes = khumsafil_part_((uint16_t)fields[KHUMSAFIL_ITEM_DESCRIPTORS_PLACE],
+                                             (uint16_t)fields[KHUMSAFIL_ITEM_DESCRIPTORS_BYTES]);
+    item.next = item.found == KHUMSAFIL_ITEM_OVER ? at : (size_t)fields[KHUMSAFIL_ITEM_NEXT];
+    return item;
+}
+
+/* The flags of an item that tell of no field; false where none was found. updates_available: it will be updated. */
+KHUMSAFIL_LOOK_
+static inline bool khumsafil_item_has_updates(const khumsafil_item *item) {
+    return (item->flags & KHUMSAFIL_FLAG_UPDATES_AVAILABLE) != 0;
+}
+
+/* TF_available: there is a text fragment for it. */
+KHUMSAFIL_LOOK_
+static inline bool khumsafil_item_has_text_fragment(const khumsafil_item *item) {
+    return (item->flags & KHUMSAFIL_FLAG_TF_AVAILABLE) != 0;
+}
+
+/* content_security_conditions_indicator: a file of it is protected. */
+KHUMSAFIL_LOOK_
+static inline bool khumsafil_item_is_protected(const khumsafil_item *item) {
+    return (item->flags & KHUMSAFIL_FLAG_CONTENT_SECURITY_CONDITIONS_INDICATOR) != 0;
+}
+
+/* master_item: it is the one to be launched with the service. */
+KHUMSAFIL_LOOK_
+static inline bool khumsafil_item_is_master(const khumsafil_item *item) {
+    return (item->flags & KHUMSAFIL_FLAG_MASTER_ITEM) != 0;
+}
+
+/* available_on_internet: all its files are; false says nothing of it. */
+KHUMSAFIL_LOOK_
+static inline bool khumsafil_item_is_on_internet(const khumsafil_item *item) {
+    return (item->flags & KHUMSAFIL_FLAG_AVAILABLE_ON_INTERNET) != 0;
+}
+
+/* available_in_broadcast: all its files are; false says nothing of it. */
+KHUMSAFIL_LOOK_
+static inline bool khumsafil_item_is_in_broadcast(const khumsafil_item *item) {
+    return (item->flags & KHUMSAFIL_FLAG_AVAILABLE_IN_BROADCAST) != 0;
+}
+
+/* A programme list's own loop. */
+typedef struct khumsafil_own {
+    khumsafil_refusal refusal;
+    khumsafil_loop descriptors;
+} khumsafil_own;
+
+/*
+ * The table's own loop, from the place after the last item. Any place may be asked. Refused: 1 to 8, 45, 43, and 44 where
+ * bytes are left over after it.
+ */
+KHUMSAFIL_LOOK_
+static inline khumsafil_own khumsafil_own_loop(const uint8_t *payload, size_t payload_length, size_t at) {
+    const uint64_t answer = khumsafil_raw_programme_own(payload, payload_length, at);
+    khumsafil_own own;
+    own.refusal = khumsafil_refusal_(answer);
+    own.descriptors.count = (uint8_t)(answer >> 8);
+    own.descriptors.bytes = khumsafil_part_((uint16_t)(answer >> 16), (uint16_t)(answer >> 32));
+    return own;
 }
 
 /*

@@ -32,6 +32,8 @@ extern "C" {
  *   a clock      KHUMSAFIL_CLOCK_RECORD numbers, and neither more nor fewer
  *   a table      room for KHUMSAFIL_TABLE_FIELDS numbers at least
  *   a trigger    room for KHUMSAFIL_TRIGGER_FIELDS numbers at least
+ *   a list       of programmes: room for KHUMSAFIL_PROGRAMME_FIELDS numbers at least, for an item of it
+ *                KHUMSAFIL_ITEM_FIELDS
  *   a section    room for KHUMSAFIL_LARGEST_SECTION bytes is enough, for a file KHUMSAFIL_LARGEST_FILE, for a file's
  *                list KHUMSAFIL_LARGEST_LIST
  *   a datagram   one byte more than KHUMSAFIL_LARGEST_SECTION or KHUMSAFIL_LARGEST_TRIGGER, so that a longer one is
@@ -44,6 +46,8 @@ extern "C" {
 #define KHUMSAFIL_CLOCK_RECORD 67
 #define KHUMSAFIL_TABLE_FIELDS 20
 #define KHUMSAFIL_TRIGGER_FIELDS 11
+#define KHUMSAFIL_PROGRAMME_FIELDS 4
+#define KHUMSAFIL_ITEM_FIELDS 12
 #define KHUMSAFIL_LARGEST_SECTION 1024
 #define KHUMSAFIL_LARGEST_FILE 16418
 #define KHUMSAFIL_LARGEST_LIST 390
@@ -53,6 +57,10 @@ extern "C" {
 /* The bytes of a section before its body, and of a descriptor before its content. */
 #define KHUMSAFIL_SECTION_HEADER 8
 #define KHUMSAFIL_DESCRIPTOR_HEAD 2
+
+/* The table id of a programme list, and the place of its first item. */
+#define KHUMSAFIL_PROGRAMME_TABLE 0xDF
+#define KHUMSAFIL_FIRST_ITEM 17
 
 /* The library's version: 65536 times the major number, 256 times the minor one and the patch. */
 uint32_t khumsafil_raw_version(void);
@@ -293,6 +301,80 @@ uint8_t khumsafil_raw_trigger_read(const uint8_t *payload, size_t payload_length
  */
 bool khumsafil_raw_trigger_belongs(const uint8_t *payload, size_t payload_length, const uint16_t *fields,
                                    size_t fields_length, const uint8_t *application, size_t application_length);
+
+/*
+ * A programme list is a section of an NRT-IT. Each call reads the section anew, so that none answers about one that is
+ * refused. Its items are walked from place KHUMSAFIL_FIRST_ITEM and number 0, each next one at the place after the one
+ * before; behind the last stands the table's own loop. Places count from the section's first byte. Reserved bits are
+ * disregarded, and no value is refused.
+ */
+
+/* Where the numbers of a programme list stand. */
+#define KHUMSAFIL_PROGRAMME_SERVICE_ID 0       /* service_id */
+#define KHUMSAFIL_PROGRAMME_TIME_SPAN_START 1  /* time_span_start, in GPS seconds */
+#define KHUMSAFIL_PROGRAMME_TIME_SPAN_LENGTH 2 /* time_span_length, in minutes */
+#define KHUMSAFIL_PROGRAMME_ITEMS 3            /* num_content_items_in_section */
+
+/*
+ * Reads the payload as a programme list, up to its items. Answers 0, or the number of refusal: 1 to 8, 45, 43, and then 15
+ * where there is room for fewer than KHUMSAFIL_PROGRAMME_FIELDS numbers.
+ *
+ * payload: read, and left as it is.
+ * fields: the first KHUMSAFIL_PROGRAMME_FIELDS become the list's numbers, and those past them stay as they were.
+ */
+uint8_t khumsafil_raw_programme_read(const uint8_t *payload, size_t payload_length, uint32_t *fields,
+                                     size_t fields_length);
+
+/* Where the numbers of an item stand. An optional field that is not there is 0; its flag tells. */
+#define KHUMSAFIL_ITEM_LINKAGE 0            /* content_linkage */
+#define KHUMSAFIL_ITEM_FLAGS 1              /* the ten flags, the first highest */
+#define KHUMSAFIL_ITEM_PLAYBACK_LENGTH 2    /* playback_length_in_seconds */
+#define KHUMSAFIL_ITEM_PLAYBACK_DELAY 3     /* playback_delay, in seconds */
+#define KHUMSAFIL_ITEM_EXPIRATION 4         /* expiration, in GPS seconds */
+#define KHUMSAFIL_ITEM_CONTENT_SIZE 5       /* content_size, in bytes */
+#define KHUMSAFIL_ITEM_NAME_PLACE 6         /* where the name lies in the payload */
+#define KHUMSAFIL_ITEM_NAME_BYTES 7         /* and how many bytes it is */
+#define KHUMSAFIL_ITEM_DESCRIPTORS 8        /* how many descriptors the item has */
+#define KHUMSAFIL_ITEM_DESCRIPTORS_PLACE 9  /* where they lie in the payload */
+#define KHUMSAFIL_ITEM_DESCRIPTORS_BYTES 10 /* and how many bytes they are */
+#define KHUMSAFIL_ITEM_NEXT 11              /* the place after the item */
+
+/* The bits of the flags, by Table 6.5's names. */
+#define KHUMSAFIL_FLAG_UPDATES_AVAILABLE 0x200
+#define KHUMSAFIL_FLAG_TF_AVAILABLE 0x100
+#define KHUMSAFIL_FLAG_CONTENT_SECURITY_CONDITIONS_INDICATOR 0x080
+#define KHUMSAFIL_FLAG_MASTER_ITEM 0x040
+#define KHUMSAFIL_FLAG_PLAYBACK_LENGTH_INCLUDED 0x020
+#define KHUMSAFIL_FLAG_PLAYBACK_DELAY_INCLUDED 0x010
+#define KHUMSAFIL_FLAG_EXPIRATION_INCLUDED 0x008
+#define KHUMSAFIL_FLAG_CONTENT_SIZE_INCLUDED 0x004
+#define KHUMSAFIL_FLAG_AVAILABLE_ON_INTERNET 0x002
+#define KHUMSAFIL_FLAG_AVAILABLE_IN_BROADCAST 0x001
+
+/*
+ * What stands at a place of a programme list, taken for the item of that number, from 0 on. Any place and any number may be
+ * asked. Refuses as khumsafil_raw_programme_read does, then by 43 where no item can be at the place or the one that begins
+ * there passes the end, and then by 15 where there is room for fewer than KHUMSAFIL_ITEM_FIELDS numbers.
+ *
+ * payload: read, and left as it is.
+ * fields: where an item is found the first KHUMSAFIL_ITEM_FIELDS become its numbers, and those past them stay as they were;
+ * where none is, left as they were.
+ *
+ * Bits 8 to 15 are 1 where an item was found and 2 where the list has no item of that number, which is so at any place.
+ */
+uint16_t khumsafil_raw_programme_item(const uint8_t *payload, size_t payload_length, size_t at, uint8_t number,
+                                      uint64_t *fields, size_t fields_length);
+
+/*
+ * The table's own loop, whose number of descriptors stands at a place: the one after the last item. Any place may be asked.
+ * Refuses as khumsafil_raw_programme_read does, then by 43 where the loop passes the end, and by 44 where bytes are left over
+ * after it.
+ *
+ * payload: read, and left as it is.
+ *
+ * Bits 8 to 15 are how many descriptors it has, 16 to 31 their place in the payload, 32 to 63 how many bytes they are.
+ */
+uint64_t khumsafil_raw_programme_own(const uint8_t *payload, size_t payload_length, size_t at);
 
 /*
  * A clock's record is KHUMSAFIL_CLOCK_RECORD numbers. Another number of them is refused by 35.

@@ -13,6 +13,11 @@ static uint16_t record[KHUMSAFIL_SHELF_RECORD], fields[KHUMSAFIL_TRIGGER_FIELDS]
 static uint8_t store[KHUMSAFIL_STORE], section[KHUMSAFIL_LARGEST_SECTION], file[KHUMSAFIL_LARGEST_FILE],
     out[KHUMSAFIL_LARGEST_FILE];
 static uint32_t clock_record[KHUMSAFIL_CLOCK_RECORD];
+static uint64_t item[KHUMSAFIL_ITEM_FIELDS];
+static uint32_t programme[KHUMSAFIL_PROGRAMME_FIELDS];
+/* A list of one item, with two descriptors. */
+static const uint8_t nrt_it[] = {0xDF, 0x70, 0x1E, 0, 0, 0xC7, 0, 0,    12,   80, 0,    0, 0, 0,    0, 60, 1,
+                                 0,    0,    0,    1, 0, 0,    2, 0x41, 0x42, 2,  0xC8, 1, 7, 0xC6, 0, 0};
 static const uint8_t trigger[] = {0, 0, 4, 0, 1, 0x41, 0x42, 5, 0, 2, 'h', 't', 0, 1, 7};
 static volatile uint64_t answer;
 
@@ -73,6 +78,13 @@ static void trigger_read(void) {
 static void belongs(void) {
     answer = khumsafil_raw_trigger_belongs(trigger, sizeof trigger, fields, KHUMSAFIL_TRIGGER_FIELDS, trigger + 5, 2);
 }
+static void programme_read(void) {
+    answer = khumsafil_raw_programme_read(nrt_it, sizeof nrt_it, programme, KHUMSAFIL_PROGRAMME_FIELDS);
+}
+static void programme_item(void) {
+    answer = khumsafil_raw_programme_item(nrt_it, sizeof nrt_it, KHUMSAFIL_FIRST_ITEM, 0, item, KHUMSAFIL_ITEM_FIELDS);
+}
+static void programme_own(void) { answer = khumsafil_raw_programme_own(nrt_it, sizeof nrt_it, sizeof nrt_it - 1); }
 static void fresh(void) { answer = khumsafil_raw_clock_fresh(CLOCK); }
 static void clock_offer(void) {
     clock_record[2] = 31;
@@ -106,6 +118,9 @@ static const struct {
              {"khumsafil_raw_descriptor_is_trigger_tap", is_tap},
              {"khumsafil_raw_trigger_read", trigger_read},
              {"khumsafil_raw_trigger_belongs", belongs},
+             {"khumsafil_raw_programme_read", programme_read},
+             {"khumsafil_raw_programme_item", programme_item},
+             {"khumsafil_raw_programme_own", programme_own},
              {"khumsafil_raw_clock_fresh", fresh},
              {"khumsafil_raw_clock_offer", clock_offer},
              {"khumsafil_raw_clock_move", move},

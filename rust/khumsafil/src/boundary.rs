@@ -127,6 +127,23 @@ extern "C" {
         application_length: usize,
     ) -> bool;
 
+    pub fn khumsafil_raw_programme_read(
+        payload: *const u8,
+        payload_length: usize,
+        fields: *mut u32,
+        fields_length: usize,
+    ) -> u8;
+    pub fn khumsafil_raw_programme_item(
+        payload: *const u8,
+        payload_length: usize,
+        at: usize,
+        number: u8,
+        fields: *mut u64,
+        fields_length: usize,
+    ) -> u16;
+    pub fn khumsafil_raw_programme_own(payload: *const u8, payload_length: usize, at: usize)
+        -> u64;
+
     pub fn khumsafil_raw_clock_fresh(record: *mut u32, record_length: usize) -> u8;
     pub fn khumsafil_raw_clock_offer(
         record: *mut u32,

@@ -23,6 +23,7 @@ pub mod clock;
 pub mod descriptor;
 pub mod file;
 mod key;
+pub mod programme;
 mod refusal;
 pub mod section;
 pub mod shelf;
@@ -33,7 +34,7 @@ pub use key::Key;
 pub use refusal::Refusal;
 
 /// The version that this wrapper is made for: 65,536 times the major number, 256 times the minor one, and the patch.
-pub const VERSION: u32 = 0x000300;
+pub const VERSION: u32 = 0x000400;
 
 /// The version of the library that is linked, in the same form.
 ///

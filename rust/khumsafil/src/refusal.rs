@@ -62,6 +62,9 @@ refusals! {
     WRITER_BODY_TOO_LONG = 40: "body too long";
     WRITER_VERSION_ABOVE_31 = 41: "version above 31";
     WRITER_K_ABOVE_LAST = 42: "k above the last";
+    PROGRAMME_PASSES_END = 43: "a field or loop passes the end";
+    PROGRAMME_BYTES_LEFT = 44: "bytes left over";
+    PROGRAMME_OTHER_TABLE = 45: "table id not the NRT-IT's";
     NO_SUCH_ACTION = 255: "no such action: a number above 3";
 }
 

@@ -1,8 +1,9 @@
-//! The wrapper as a host in Rust has it: a shelf with its store, records put away and taken up again, equality, the clock.
+//! The wrapper as a host in Rust has it: a shelf with its store, records put away and taken up again, equality, the clock,
+//! programme lists.
 
 use khumsafil::clock::{self, Action, Activation, Clock, Heard, State};
 use khumsafil::shelf::{self, lent, Accepted, Record, Shelf, Table, LARGEST_FILE, RECORD, STORE};
-use khumsafil::{file, section, trigger, writer, Key, Refusal};
+use khumsafil::{file, programme, section, trigger, writer, Key, Refusal};
 
 const LIST: Key = Key::new(201, 4_660);
 
@@ -279,4 +280,106 @@ fn a_key() {
     );
     assert_eq!(read.key.to_string(), "table 201 key 4660");
     assert!(Key::new(1, 65_535) < Key::new(2, 0) && Key::new(1, 1) < Key::new(1, 2));
+}
+
+/// The body of a list before its items: service 3,152, a start, 1,440 minutes, and so many items.
+fn listed(items: u8, rest: &[u8]) -> Vec<u8> {
+    let mut payload = vec![0xDF, 0x70, 0, 0x10, 0, 0xC7, 0, 0];
+    payload.extend([0x0C, 0x50, 0x3B, 0x9A, 0xCD, 0x20, 0xFD, 0xA0, items]);
+    payload.extend(rest);
+    payload[2] = (payload.len() - 3) as u8;
+    payload
+}
+
+/// A list is read, its items are walked, and its own loop stands behind them, also where the walk was never gone.
+#[test]
+fn a_programme_list() {
+    let with_all = b"\0\0\0\x42\x9F\x7F\xF0\x15\x18\xF0\0\x1E\x4D\x7C\x6D\0\0\x04\x60\0\0\x05Ferry\x02\xC8\x01\x09\xC6\0";
+    let smallest = b"\xFF\xFF\xFF\xFF\0\xBF\0\0";
+    let own = b"\x01\xAD\x02\x07\x08";
+    let payload = listed(2, &[&with_all[..], smallest, own].concat());
+    let list = programme::read(&payload).expect("a list");
+    assert_eq!(
+        (list.service_id, list.time_span_start),
+        (3_152, 1_000_000_800)
+    );
+    assert_eq!((list.time_span_length, list.count), (1_440, 2));
+    let items: Vec<_> = list.items().map(|item| item.expect("an item")).collect();
+    let (first, second) = (items[0], items[1]);
+    assert_eq!(
+        (first.content_linkage(), first.flags().0, first.next()),
+        (66, 0x27D, 50)
+    );
+    assert_eq!(
+        (first.playback_length(), first.playback_delay()),
+        (Some(5_400), Some(30))
+    );
+    assert_eq!(
+        (first.expiration(), first.content_size()),
+        (Some(1_300_000_000), Some(73_400_320))
+    );
+    assert!(first.flags().updates_available() && first.flags().master_item());
+    assert!(first.flags().available_in_broadcast() && !first.flags().available_on_internet());
+    assert!(!first.flags().tf_available());
+    assert!(!first.flags().content_security_conditions_indicator());
+    assert_eq!(
+        (first.name(), first.descriptors().count),
+        (&b"Ferry"[..], 2)
+    );
+    let tags = first
+        .descriptors()
+        .walk()
+        .map(|d| d.expect("a descriptor").tag);
+    assert_eq!(tags.collect::<Vec<_>>(), [0xC8, 0xC6]);
+    assert_eq!((second.content_linkage(), second.flags().0), (u32::MAX, 2));
+    assert_eq!(
+        (second.playback_length(), second.playback_delay()),
+        (None, None)
+    );
+    assert_eq!((second.expiration(), second.content_size()), (None, None));
+    assert_eq!((second.name().len(), second.descriptors().count), (0, 0));
+    assert_eq!(second.descriptors().walk().count(), 0);
+    let mut walk = list.items();
+    assert_eq!(walk.by_ref().count(), 2);
+    assert_eq!(walk.place(), 58);
+    let loop_of = walk.own_loop().expect("a loop");
+    assert_eq!((loop_of.count, loop_of.bytes), (1, &own[1..]));
+    assert_eq!(list.items().own_loop(), Ok(loop_of));
+
+    // One that is refused ends the walk, and those before it stay; an item says the same wherever it stands.
+    let cut = listed(2, &[&smallest[..], &with_all[..30]].concat());
+    let list = programme::read(&cut).expect("a list");
+    let mut walk = list.items();
+    assert_eq!(walk.next(), Some(Ok(second)));
+    assert_eq!(walk.next(), Some(Err(Refusal::PROGRAMME_PASSES_END)));
+    assert_eq!((walk.next(), walk.place()), (None, 25));
+    assert_eq!(walk.own_loop(), Err(Refusal::PROGRAMME_PASSES_END));
+    assert!(first != second && format!("{first:?}").contains("playback_delay: Some(30)"));
+
+    // Bytes left over, another table, and no list at all.
+    let left = listed(0, &[0, 0]);
+    let list = programme::read(&left).expect("a list");
+    assert_eq!(list.items().own_loop(), Err(Refusal::PROGRAMME_BYTES_LEFT));
+    assert_eq!(
+        programme::item_at(&left, usize::MAX, 0),
+        Ok(programme::Step::Over)
+    );
+    let mut other = left.clone();
+    other[0] = 0xDE;
+    assert_eq!(programme::read(&other), Err(Refusal::PROGRAMME_OTHER_TABLE));
+    assert_eq!(programme::read(&[]), Err(Refusal::PAYLOAD_SHORT));
+    assert_eq!(
+        programme::fields(&left, &mut [0; 3]),
+        Err(Refusal::OUTPUT_TOO_SMALL)
+    );
+}
+
+/// A list of 255 items, which no section has room for, is walked as far as it goes.
+#[test]
+fn more_items_than_there_are() {
+    let payload = listed(255, &[0; 80]);
+    let list = programme::read(&payload).expect("a list");
+    let mut walk = list.items();
+    assert_eq!(walk.by_ref().filter(|item| item.is_ok()).count(), 10);
+    assert_eq!((walk.place(), walk.next()), (97, None));
 }

@@ -4,6 +4,7 @@
 pub mod clock;
 pub mod files;
 pub mod loops;
+pub mod programmes;
 pub mod sections;
 pub mod shelf;
 pub mod triggers;

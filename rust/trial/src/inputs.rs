@@ -9,6 +9,7 @@ mod shelf;
 mod writer;
 
 use crate::beside;
+use crate::programmes::TABLE;
 use crate::tally::Tally;
 use feed::Feed;
 use khumsafil::trigger::{self, FIELDS};
@@ -18,10 +19,11 @@ pub use seeds::seeds;
 pub type Target = (&'static str, fn(&[u8]));
 
 /// What can be tried.
-pub const TARGETS: [Target; 7] = [
+pub const TARGETS: [Target; 8] = [
     ("sections", sections),
     ("loops", loops),
     ("triggers", triggers),
+    ("programmes", programmes),
     ("files", file::files),
     ("shelf", shelf::shelf),
     ("clock", clock::clock),
@@ -83,4 +85,31 @@ fn triggers(bytes: &[u8]) {
     }
     (fields[0], fields[2], fields[3]) = (idlength, place, size);
     beside::triggers::belongs_by_any(&payload, &fields, &application);
+}
+
+/// A list that is walked, and a place in it or past it that is asked for an item and for the table's own loop, with room for so
+/// many numbers. Where the first byte is odd, the payload has the length that it has in its length field, and where the bit above
+/// is 1 the header of a programme list.
+fn programmes(bytes: &[u8]) {
+    let mut feed = Feed::new(bytes);
+    let (how, room) = (feed.byte(), usize::from(feed.byte()));
+    let at = match feed.half() {
+        0xFFFF => usize::MAX,
+        at => at.into(),
+    };
+    let number = feed.byte();
+    let mut payload = feed.rest();
+    if how & 2 == 2 {
+        let header = [TABLE, 0x70, 0, 0x10, 0, 0xC7, 0, 0];
+        let there = payload.len().min(header.len());
+        payload[..there].copy_from_slice(&header[..there]);
+    }
+    if how & 1 == 1 {
+        feed::put_length(&mut payload);
+    }
+    beside::programmes::walk(&payload, &mut Tally::default());
+    beside::programmes::read(&payload, room);
+    beside::programmes::step(&payload, at, number);
+    beside::programmes::step_in_room(&payload, at, number, room);
+    beside::programmes::own(&payload, at);
 }

@@ -10,6 +10,7 @@ pub mod declarations;
 pub mod files;
 pub mod inputs;
 pub mod loops;
+pub mod programmes;
 pub mod random;
 pub mod sections;
 pub mod shelf;

@@ -24,7 +24,7 @@ static const uint8_t *section(uint8_t version, uint8_t number, uint8_t last) {
 static int version_and_words(void) {
     unsigned number;
     EXPECT(khumsafil_version() == KHUMSAFIL_VERSION);
-    EXPECT(strcmp(KHUMSAFIL_VERSION_TEXT, "0.3.0") == 0 && KHUMSAFIL_VERSION == 3 * 256);
+    EXPECT(strcmp(KHUMSAFIL_VERSION_TEXT, "0.4.0") == 0 && KHUMSAFIL_VERSION == 4 * 256);
     EXPECT(strcmp(khumsafil_refusal_text(KHUMSAFIL_REFUSED_PAYLOAD_SHORT), "payload under 8 bytes") == 0);
     EXPECT(strcmp(khumsafil_refusal_text(KHUMSAFIL_NOT_REFUSED), "no number of this library") == 0);
     EXPECT(strcmp(khumsafil_refusal_text(256 + 1), "no number of this library") == 0);
@@ -308,6 +308,162 @@ static int triggers(void) {
     return 0;
 }
 
+/* A list of two items: linkage 66 with every optional field, the name "Ferry" and two descriptors; linkage 0xFFFFFFFF with the
+   flag available_on_internet alone. Its own loop has one descriptor. */
+static const uint8_t list[] = {
+    0xDF, 0x70, 0x47, 0x10, 0x00, 0xC7, 0x00, 0x01,                         /* 0: the header */
+    0x0C, 0x50, 0x3B, 0x9A, 0xCD, 0x20, 0xFD, 0xA0, 0x02,                   /* 8: the fields before the items */
+    0x00, 0x00, 0x00, 0x42, 0x9F, 0x7F, 0xF0, 0x15, 0x18, 0xF0, 0x00, 0x1E, /* 17: the first item */
+    0x4D, 0x7C, 0x6D, 0x00, 0x00, 0x04, 0x60, 0x00, 0x00,                   /* 29: expiration and size */
+    0x05, 'F',  'e',  'r',  'r',  'y',                                      /* 38: its name */
+    0x02, 0xC8, 0x08, 1,    2,    3,    4,    5,    6,    7,    8,          /* 44: its descriptors */
+    0xC6, 0x02, 9,    10,                                                   /* 55 */
+    0xFF, 0xFF, 0xFF, 0xFF, 0x00, 0xBF, 0x00, 0x00,                         /* 59: the second item */
+    0x01, 0x05, 0x04, 'A',  'B',  'C',  'D'};                               /* 67: the table's own loop */
+
+/* All members of an item that was not found are 0 but the place of one that is over. */
+static int no_item(khumsafil_item item, khumsafil_refusal by, khumsafil_item_kind found, size_t next) {
+    EXPECT(item.refusal == by && item.found == found && item.content_linkage == 0 && item.flags == 0);
+    EXPECT(!item.has_playback_length && item.playback_length == 0 && !item.has_playback_delay && item.playback_delay == 0);
+    EXPECT(!item.has_expiration && item.expiration == 0 && !item.has_content_size && item.content_size == 0);
+    EXPECT(item.name.place == 0 && item.name.length == 0 && item.descriptors.count == 0);
+    EXPECT(item.descriptors.bytes.place == 0 && item.descriptors.bytes.length == 0 && item.next == next);
+    EXPECT(!khumsafil_item_has_updates(&item) && !khumsafil_item_has_text_fragment(&item));
+    EXPECT(!khumsafil_item_is_protected(&item) && !khumsafil_item_is_master(&item));
+    EXPECT(!khumsafil_item_is_on_internet(&item) && !khumsafil_item_is_in_broadcast(&item));
+    return 0;
+}
+
+/* Every question about a list is refused by the number, and nothing else is said. */
+static int no_list(const uint8_t *payload, size_t length, khumsafil_refusal by) {
+    const khumsafil_programme read = khumsafil_programme_read(payload, length);
+    const khumsafil_own own = khumsafil_own_loop(payload, length, 67);
+    EXPECT(read.refusal == by && read.service_id == 0 && read.time_span_start == 0 && read.time_span_length == 0);
+    EXPECT(read.items == 0 && own.refusal == by && own.descriptors.count == 0);
+    EXPECT(own.descriptors.bytes.place == 0 && own.descriptors.bytes.length == 0);
+    EXPECT(no_item(khumsafil_item_at(payload, length, 17, 0), by, KHUMSAFIL_ITEM_NOTHING, 0) == 0);
+    EXPECT(no_item(khumsafil_item_at(payload, length, 17, 255), by, KHUMSAFIL_ITEM_NOTHING, 0) == 0);
+    return 0;
+}
+
+/* How many descriptors the walk of a loop finds, where it ends at the loop's end; 999 where it is refused. */
+static unsigned walked(const uint8_t *payload, khumsafil_loop loop) {
+    const uint8_t *bytes = khumsafil_part_of(payload, loop.bytes);
+    khumsafil_step step;
+    unsigned steps = 0;
+    size_t at;
+    for (at = 0; (step = khumsafil_descriptor_step(bytes, loop.bytes.length, at)).found == KHUMSAFIL_STEP_DESCRIPTOR;
+         at = step.next)
+        steps++;
+    return step.refusal ? 999 : steps;
+}
+
+/* One flag alone, in the two bytes of an item that is all zeros otherwise. */
+static khumsafil_item with_flag(uint8_t high, uint8_t low) {
+    static uint8_t made[31];
+    memset(made, 0, sizeof made);
+    memcpy(made, list, 17);
+    made[2] = sizeof made - 3, made[16] = 1, made[21] = high, made[22] = low;
+    return khumsafil_item_at(made, sizeof made, KHUMSAFIL_FIRST_ITEM, 0);
+}
+
+static int programmes(void) {
+    uint8_t other[sizeof list + 1];
+    khumsafil_programme read = khumsafil_programme_read(list, sizeof list);
+    khumsafil_item item = khumsafil_item_at(list, sizeof list, KHUMSAFIL_FIRST_ITEM, 0);
+    khumsafil_own own;
+    size_t at, size;
+    unsigned n;
+    EXPECT(!read.refusal && read.service_id == 3152 && read.time_span_start == 1000000800);
+    EXPECT(read.time_span_length == 1440 && read.items == 2);
+    EXPECT(!item.refusal && item.found == KHUMSAFIL_ITEM_FOUND && item.content_linkage == 66 && item.flags == 0x27D);
+    EXPECT(item.has_playback_length && item.playback_length == 5400 && item.has_playback_delay && item.playback_delay == 30);
+    EXPECT(item.has_expiration && item.expiration == 1300000000 && item.has_content_size && item.content_size == 73400320);
+    EXPECT(item.name.place == 39 && item.name.length == 5 && item.descriptors.count == 2);
+    EXPECT(item.descriptors.bytes.place == 45 && item.descriptors.bytes.length == 14 && item.next == 59);
+    EXPECT(memcmp(khumsafil_part_of(list, item.name), "Ferry", item.name.length) == 0);
+    EXPECT(khumsafil_item_has_updates(&item) && !khumsafil_item_has_text_fragment(&item));
+    EXPECT(!khumsafil_item_is_protected(&item) && khumsafil_item_is_master(&item));
+    EXPECT(!khumsafil_item_is_on_internet(&item) && khumsafil_item_is_in_broadcast(&item));
+    EXPECT(walked(list, item.descriptors) == 2);
+    item = khumsafil_item_at(list, sizeof list, item.next, 1);
+    EXPECT(!item.refusal && item.found == KHUMSAFIL_ITEM_FOUND && item.content_linkage == 0xFFFFFFFF && item.flags == 2);
+    EXPECT(!item.has_playback_length && !item.has_playback_delay && !item.has_expiration && !item.has_content_size);
+    EXPECT(item.name.place == 66 && item.name.length == 0 && item.descriptors.count == 0);
+    EXPECT(item.descriptors.bytes.place == 67 && item.descriptors.bytes.length == 0 && item.next == 67);
+    EXPECT(walked(list, item.descriptors) == 0 && khumsafil_item_is_on_internet(&item));
+    EXPECT(!khumsafil_item_has_updates(&item) && !khumsafil_item_is_in_broadcast(&item));
+
+    /* The walk as the header shows it, and the loop behind it. */
+    at = KHUMSAFIL_FIRST_ITEM, n = 0;
+    for (; (item = khumsafil_item_at(list, sizeof list, at, n)).found == KHUMSAFIL_ITEM_FOUND; at = item.next, n++)
+        EXPECT(walked(list, item.descriptors) == item.descriptors.count);
+    EXPECT(n == 2 && at == 67 && no_item(item, KHUMSAFIL_NOT_REFUSED, KHUMSAFIL_ITEM_OVER, 67) == 0);
+    own = khumsafil_own_loop(list, sizeof list, at);
+    EXPECT(!own.refusal && own.descriptors.count == 1 && own.descriptors.bytes.place == 68);
+    EXPECT(own.descriptors.bytes.length == 6 && walked(list, own.descriptors) == 1);
+
+    /* Each flag by itself. */
+    item = with_flag(0x80, 0);
+    EXPECT(khumsafil_item_has_updates(&item) && item.flags == 0x200);
+    item = with_flag(0x40, 0);
+    EXPECT(khumsafil_item_has_text_fragment(&item) && item.flags == 0x100);
+    item = with_flag(0x20, 0);
+    EXPECT(khumsafil_item_is_protected(&item) && item.flags == 0x080);
+    item = with_flag(0x10, 0);
+    EXPECT(khumsafil_item_is_master(&item) && item.flags == 0x040);
+    item = with_flag(0x08, 0);
+    EXPECT(item.has_playback_length && item.playback_length == 0 && item.next == 28);
+    item = with_flag(0x04, 0);
+    EXPECT(item.has_playback_delay && item.playback_delay == 0 && item.next == 28);
+    item = with_flag(0x02, 0);
+    EXPECT(item.has_expiration && item.expiration == 0 && item.next == 29);
+    item = with_flag(0x01, 0);
+    EXPECT(item.has_content_size && item.content_size == 0 && item.next == 30);
+    item = with_flag(0, 0x80);
+    EXPECT(khumsafil_item_is_on_internet(&item) && item.flags == 0x002);
+    item = with_flag(0, 0x40);
+    EXPECT(khumsafil_item_is_in_broadcast(&item) && item.flags == 0x001);
+    item = with_flag(0, 0x3F);
+    EXPECT(!item.refusal && item.flags == 0 && item.next == 25);
+
+    /* Any place and any number may be asked; a number that 8 bits cannot hold is no item's. */
+    EXPECT(no_item(khumsafil_item_at(list, sizeof list, 17, 2), KHUMSAFIL_NOT_REFUSED, KHUMSAFIL_ITEM_OVER, 17) == 0);
+    EXPECT(no_item(khumsafil_item_at(list, sizeof list, 17, 256), KHUMSAFIL_NOT_REFUSED, KHUMSAFIL_ITEM_OVER, 17) == 0);
+    EXPECT(no_item(khumsafil_item_at(list, sizeof list, SIZE_MAX, 2), KHUMSAFIL_NOT_REFUSED, KHUMSAFIL_ITEM_OVER,
+                   SIZE_MAX) == 0);
+    EXPECT(no_item(khumsafil_item_at(list, sizeof list, 16, 0), KHUMSAFIL_REFUSED_PROGRAMME_PASSES_END,
+                   KHUMSAFIL_ITEM_NOTHING, 0) == 0);
+    EXPECT(no_item(khumsafil_item_at(list, sizeof list, sizeof list, 0), KHUMSAFIL_REFUSED_PROGRAMME_PASSES_END,
+                   KHUMSAFIL_ITEM_NOTHING, 0) == 0);
+    EXPECT(no_item(khumsafil_item_at(list, sizeof list, SIZE_MAX, 1), KHUMSAFIL_REFUSED_PROGRAMME_PASSES_END,
+                   KHUMSAFIL_ITEM_NOTHING, 0) == 0);
+    EXPECT(khumsafil_own_loop(list, sizeof list, SIZE_MAX).refusal == KHUMSAFIL_REFUSED_PROGRAMME_PASSES_END);
+    EXPECT(khumsafil_own_loop(list, sizeof list, 16).refusal == KHUMSAFIL_REFUSED_PROGRAMME_PASSES_END);
+
+    /* Cut to every size, with the length that it then has; one byte left over; another table. */
+    for (size = 8; size < sizeof list; size++) {
+        memcpy(other, list, size);
+        other[2] = (uint8_t)(size - 3);
+        if (size < 17)
+            EXPECT(no_list(other, size, KHUMSAFIL_REFUSED_PROGRAMME_PASSES_END) == 0);
+        EXPECT(khumsafil_item_at(other, size, 17, 0).refusal == (size < 59 ? KHUMSAFIL_REFUSED_PROGRAMME_PASSES_END : 0));
+        EXPECT(khumsafil_item_at(other, size, 59, 1).refusal == (size < 67 ? KHUMSAFIL_REFUSED_PROGRAMME_PASSES_END : 0));
+        EXPECT(khumsafil_own_loop(other, size, 67).refusal == KHUMSAFIL_REFUSED_PROGRAMME_PASSES_END);
+    }
+    memcpy(other, list, sizeof list);
+    other[sizeof list] = 0, other[2] = sizeof list + 1 - 3;
+    own = khumsafil_own_loop(other, sizeof list + 1, 67);
+    EXPECT(own.refusal == KHUMSAFIL_REFUSED_PROGRAMME_BYTES_LEFT && own.descriptors.count == 0);
+    EXPECT(own.descriptors.bytes.place == 0 && own.descriptors.bytes.length == 0);
+    other[0] = 0xDE;
+    EXPECT(no_list(other, sizeof list + 1, KHUMSAFIL_REFUSED_PROGRAMME_OTHER_TABLE) == 0);
+    EXPECT(no_list(other, sizeof list, KHUMSAFIL_REFUSED_LONGER_THAN_PAYLOAD) == 0);
+    EXPECT(no_list(NULL, 0, KHUMSAFIL_REFUSED_PAYLOAD_SHORT) == 0);
+    EXPECT(khumsafil_part_of(NULL, khumsafil_own_loop(NULL, 0, 0).descriptors.bytes) == NULL);
+    return 0;
+}
+
 static khumsafil_activation activation(uint8_t application, uint16_t event, unsigned action, uint32_t time) {
     khumsafil_activation made;
     made.application = application;
@@ -458,5 +614,5 @@ static int wider_numbers(void) {
 
 int main(void) {
     return version_and_words() || keys() || sections() || shelves() || same_shelves() || files() || loops() || triggers() ||
-           clocks() || same_clocks() || writers() || wider_numbers();
+           programmes() || clocks() || same_clocks() || writers() || wider_numbers();
 }

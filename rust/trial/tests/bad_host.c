@@ -33,6 +33,11 @@ static int empty_buffers(void) {
     EXPECT(khumsafil_raw_trigger_belongs(NULL, 0, of(0, 0, 3, 0), KHUMSAFIL_TRIGGER_FIELDS, NULL, 0));
     EXPECT(!khumsafil_raw_trigger_belongs(NULL, 0, of(0, 2, 5, 0), KHUMSAFIL_TRIGGER_FIELDS, NULL, 0));
     EXPECT(khumsafil_raw_trigger_belongs(p10, sizeof p10, of(sizeof p10, 2, 5, 0), KHUMSAFIL_TRIGGER_FIELDS, NULL, 0));
+    EXPECT(khumsafil_raw_programme_read(NULL, 0, NULL, 0) == KHUMSAFIL_REFUSED_PAYLOAD_SHORT);
+    EXPECT(khumsafil_raw_programme_item(NULL, 0, 0, 0, NULL, 0) == KHUMSAFIL_REFUSED_PAYLOAD_SHORT);
+    EXPECT(khumsafil_raw_programme_item(NULL, 0, SIZE_MAX, 255, NULL, 0) == KHUMSAFIL_REFUSED_PAYLOAD_SHORT);
+    EXPECT(khumsafil_raw_programme_own(NULL, 0, 0) == KHUMSAFIL_REFUSED_PAYLOAD_SHORT);
+    EXPECT(khumsafil_raw_programme_own(NULL, 0, SIZE_MAX) == KHUMSAFIL_REFUSED_PAYLOAD_SHORT);
     EXPECT(khumsafil_raw_file_table(NULL, 0, NULL, 0) == KHUMSAFIL_REFUSED_BAD_NUMBER);
     EXPECT(khumsafil_raw_file_number(NULL, 0) == KHUMSAFIL_REFUSED_BAD_NUMBER);
     EXPECT(khumsafil_raw_clock_fresh(NULL, 0) == KHUMSAFIL_REFUSED_CLOCK_SPOILED);
@@ -459,9 +464,75 @@ static int numbers_of_a_file(void) {
     return 0;
 }
 
+/* A list with one item of linkage 66 and content_size 9, whose name is "AB" and whose one descriptor has no content. Its own
+   loop has two descriptors. */
+static const uint8_t list[] = {0xDF, 0x70, 0x25, 0x10, 0x00, 0xC7, 0x00, 0x00, 0x0C, 0x50, 0x3B, 0x9A, 0xCD, 0x20,
+                               0xFD, 0xA0, 0x01, 0x00, 0x00, 0x00, 0x42, 0x01, 0x3F, 0x00, 0x00, 0x00, 0x00, 0x09,
+                               0x02, 'A',  'B',  0x01, 0xC6, 0x00, 0x02, 0x05, 0x01, 0x07, 0x05, 0x00};
+#define LIST sizeof list
+
+/* Fewer numbers than a list or an item has stay as they were; of more, those behind do. What is refused or over leaves all. */
+static int room_for_a_list(void) {
+    static const uint32_t of_list[KHUMSAFIL_PROGRAMME_FIELDS] = {3152, 1000000800, 1440, 1};
+    static const uint64_t of_item[KHUMSAFIL_ITEM_FIELDS] = {66, 4, 0, 0, 0, 9, 29, 2, 1, 32, 2, 34};
+    uint32_t read[8];
+    uint64_t item[16];
+    size_t room, i;
+    for (room = 0; room <= 8; room++) {
+        const size_t from = room < KHUMSAFIL_PROGRAMME_FIELDS ? 0 : KHUMSAFIL_PROGRAMME_FIELDS;
+        for (i = 0; i < 8; i++)
+            read[i] = 0xABCD;
+        EXPECT(khumsafil_raw_programme_read(list, LIST - 1, read, room) == KHUMSAFIL_REFUSED_LONGER_THAN_PAYLOAD);
+        for (i = 0; i < 8; i++)
+            EXPECT(read[i] == 0xABCD);
+        EXPECT(khumsafil_raw_programme_read(list, LIST, read, room) == (from == 0 ? KHUMSAFIL_REFUSED_OUTPUT_TOO_SMALL : 0));
+        for (i = 0; i < 8; i++)
+            EXPECT(read[i] == (i < from ? of_list[i] : 0xABCD));
+    }
+    EXPECT(khumsafil_raw_programme_read(list, LIST, NULL, 0) == KHUMSAFIL_REFUSED_OUTPUT_TOO_SMALL);
+    for (room = 0; room <= 16; room++) {
+        const size_t from = room < KHUMSAFIL_ITEM_FIELDS ? 0 : KHUMSAFIL_ITEM_FIELDS;
+        for (i = 0; i < 16; i++)
+            item[i] = 0xABCD;
+        /* 15 is given only where an item is there. */
+        EXPECT(khumsafil_raw_programme_item(list, LIST - 1, 17, 0, item, room) == KHUMSAFIL_REFUSED_LONGER_THAN_PAYLOAD);
+        EXPECT(khumsafil_raw_programme_item(list, LIST, 16, 0, item, room) == KHUMSAFIL_REFUSED_PROGRAMME_PASSES_END);
+        EXPECT(khumsafil_raw_programme_item(list, LIST, SIZE_MAX, 0, item, room) == KHUMSAFIL_REFUSED_PROGRAMME_PASSES_END);
+        EXPECT(khumsafil_raw_programme_item(list, LIST, 17, 1, item, room) == KHUMSAFIL_ITEM_OVER << 8);
+        EXPECT(khumsafil_raw_programme_item(list, LIST, SIZE_MAX, 255, item, room) == KHUMSAFIL_ITEM_OVER << 8);
+        for (i = 0; i < 16; i++)
+            EXPECT(item[i] == 0xABCD);
+        EXPECT(khumsafil_raw_programme_item(list, LIST, 17, 0, item, room) ==
+               (from == 0 ? KHUMSAFIL_REFUSED_OUTPUT_TOO_SMALL : KHUMSAFIL_ITEM_FOUND << 8));
+        for (i = 0; i < 16; i++)
+            EXPECT(item[i] == (i < from ? of_item[i] : 0xABCD));
+    }
+    EXPECT(khumsafil_raw_programme_item(list, LIST, 17, 0, NULL, 0) == KHUMSAFIL_REFUSED_OUTPUT_TOO_SMALL);
+    EXPECT(khumsafil_raw_programme_item(list, LIST, 17, 1, NULL, 0) == KHUMSAFIL_ITEM_OVER << 8);
+    return 0;
+}
+
+/* Any place is answered, also those whose end no number has; every bit of the own loop's answer is as the header says. */
+static int places_of_a_list(void) {
+    uint64_t item[KHUMSAFIL_ITEM_FIELDS];
+    size_t less;
+    EXPECT(khumsafil_raw_programme_own(list, LIST, 34) == (UINT64_C(5) << 32 | 35 << 16 | 2 << 8));
+    EXPECT(khumsafil_raw_programme_own(list, LIST, 33) == KHUMSAFIL_REFUSED_PROGRAMME_BYTES_LEFT);
+    EXPECT(khumsafil_raw_programme_own(list, LIST, LIST) == KHUMSAFIL_REFUSED_PROGRAMME_PASSES_END);
+    EXPECT(khumsafil_raw_programme_own(list, LIST, LIST - 1) == (uint64_t)LIST << 16);
+    for (less = 0; less < 600; less++) {
+        EXPECT(khumsafil_raw_programme_item(list, LIST, SIZE_MAX - less, 0, item, KHUMSAFIL_ITEM_FIELDS) ==
+               KHUMSAFIL_REFUSED_PROGRAMME_PASSES_END);
+        EXPECT(khumsafil_raw_programme_own(list, LIST, SIZE_MAX - less) == KHUMSAFIL_REFUSED_PROGRAMME_PASSES_END);
+        EXPECT(khumsafil_raw_programme_own(list, LIST, LIST + less) == KHUMSAFIL_REFUSED_PROGRAMME_PASSES_END);
+    }
+    return 0;
+}
+
 int main(void) {
     EXPECT(khumsafil_raw_version() == KHUMSAFIL_VERSION);
     return empty_buffers() || room_for_a_trigger() || no_such_action() || empty_shelf() || sizes_of_a_shelf() ||
            sizes_of_a_clock() || the_largest() || shared_to_be_read() || written_on() || answers_of_a_shelf() ||
-           answers_of_a_writer() || room_for_a_table() || left_in_a_record() || numbers_of_a_file();
+           answers_of_a_writer() || room_for_a_table() || left_in_a_record() || numbers_of_a_file() ||
+           room_for_a_list() || places_of_a_list();
 }

@@ -175,6 +175,8 @@ fn refusals_agree() {
 /// The sizes in the header, and its version, are the wrapper's and the library's.
 #[test]
 fn sizes_agree() {
+    use khumsafil::programme::{self, Flags};
+    let flag = |flags: Flags| usize::from(flags.0);
     let raw = numbers_in_header(&text(top("include/khumsafil_raw.h")));
     let ours = [
         ("SHELF_RECORD", khumsafil::shelf::RECORD),
@@ -184,6 +186,8 @@ fn sizes_agree() {
         ("CLOCK_RECORD", khumsafil::clock::RECORD),
         ("TABLE_FIELDS", khumsafil::shelf::TABLE_FIELDS),
         ("TRIGGER_FIELDS", khumsafil::trigger::FIELDS),
+        ("PROGRAMME_FIELDS", programme::FIELDS),
+        ("ITEM_FIELDS", programme::ITEM_FIELDS),
         ("LARGEST_SECTION", khumsafil::shelf::LARGEST_SECTION),
         ("LARGEST_FILE", khumsafil::shelf::LARGEST_FILE),
         ("LARGEST_LIST", khumsafil::file::LARGEST_LIST),
@@ -191,6 +195,8 @@ fn sizes_agree() {
         ("LARGEST_BODY", khumsafil::writer::LARGEST_BODY),
         ("SECTION_HEADER", khumsafil::section::HEADER),
         ("DESCRIPTOR_HEAD", khumsafil::descriptor::HEAD),
+        ("PROGRAMME_TABLE", programme::TABLE_ID.into()),
+        ("FIRST_ITEM", programme::FIRST_ITEM),
         ("TABLE_ID", 0),
         ("TABLE_EXTENSION", 1),
         ("TABLE_VERSION", 2),
@@ -207,6 +213,50 @@ fn sizes_agree() {
         ("TRIGGER_THIRD", 8),
         ("TRIGGER_USER_PLACE", 9),
         ("TRIGGER_USER_BYTES", 10),
+        ("PROGRAMME_SERVICE_ID", 0),
+        ("PROGRAMME_TIME_SPAN_START", 1),
+        ("PROGRAMME_TIME_SPAN_LENGTH", 2),
+        ("PROGRAMME_ITEMS", 3),
+        ("ITEM_LINKAGE", 0),
+        ("ITEM_FLAGS", 1),
+        ("ITEM_PLAYBACK_LENGTH", 2),
+        ("ITEM_PLAYBACK_DELAY", 3),
+        ("ITEM_EXPIRATION", 4),
+        ("ITEM_CONTENT_SIZE", 5),
+        ("ITEM_NAME_PLACE", 6),
+        ("ITEM_NAME_BYTES", 7),
+        ("ITEM_DESCRIPTORS", 8),
+        ("ITEM_DESCRIPTORS_PLACE", 9),
+        ("ITEM_DESCRIPTORS_BYTES", 10),
+        ("ITEM_NEXT", 11),
+        ("FLAG_UPDATES_AVAILABLE", flag(Flags::UPDATES_AVAILABLE)),
+        ("FLAG_TF_AVAILABLE", flag(Flags::TF_AVAILABLE)),
+        (
+            "FLAG_CONTENT_SECURITY_CONDITIONS_INDICATOR",
+            flag(Flags::CONTENT_SECURITY_CONDITIONS_INDICATOR),
+        ),
+        ("FLAG_MASTER_ITEM", flag(Flags::MASTER_ITEM)),
+        (
+            "FLAG_PLAYBACK_LENGTH_INCLUDED",
+            flag(Flags::PLAYBACK_LENGTH_INCLUDED),
+        ),
+        (
+            "FLAG_PLAYBACK_DELAY_INCLUDED",
+            flag(Flags::PLAYBACK_DELAY_INCLUDED),
+        ),
+        ("FLAG_EXPIRATION_INCLUDED", flag(Flags::EXPIRATION_INCLUDED)),
+        (
+            "FLAG_CONTENT_SIZE_INCLUDED",
+            flag(Flags::CONTENT_SIZE_INCLUDED),
+        ),
+        (
+            "FLAG_AVAILABLE_ON_INTERNET",
+            flag(Flags::AVAILABLE_ON_INTERNET),
+        ),
+        (
+            "FLAG_AVAILABLE_IN_BROADCAST",
+            flag(Flags::AVAILABLE_IN_BROADCAST),
+        ),
     ];
     let ours = ours.map(|(name, size)| (format!("KHUMSAFIL_{name}"), size as u64));
     assert_eq!(raw, ours);

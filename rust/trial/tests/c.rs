@@ -121,8 +121,8 @@ fn the_sample_goes_round() {
     assert_eq!(run(&sample, &[]), said);
 }
 
-/// What a host in C may do that one in Rust cannot: no buffer and a null pointer for it, fewer numbers than a trigger
-/// or a table has, a number that is no action.
+/// What a host in C may do that one in Rust cannot: no buffer and a null pointer for it, fewer numbers than a trigger,
+/// a table or an item has, a number that is no action.
 #[test]
 fn a_bad_host() {
     run(
@@ -175,7 +175,7 @@ fn as_cpp() {
     for name in ["answers", "bad_host"] {
         run(&cpp(name, top(&format!("rust/trial/tests/{name}.c"))), &[]);
     }
-    for name in ["section", "shelf", "trigger"] {
+    for name in ["section", "shelf", "trigger", "programme"] {
         cpp(name, top(&format!("samples/{name}.c")));
     }
     let said = fs::read_to_string(top("samples/round.txt")).expect("samples/round.txt");
@@ -184,7 +184,7 @@ fn as_cpp() {
 }
 
 /// A call of each function that answers in a structure, by that function's name.
-const ANSWERS: [(&str, &str); 23] = [
+const ANSWERS: [(&str, &str); 26] = [
     ("section_read", "bytes, 8"),
     ("shelf_begin", "&shelf"),
     ("shelf_offer", "&shelf, bytes, 8"),
@@ -200,6 +200,9 @@ const ANSWERS: [(&str, &str); 23] = [
     ("file_number", "bytes, 8"),
     ("descriptor_step", "bytes, 8, 0"),
     ("trigger_read", "bytes, 8"),
+    ("programme_read", "bytes, 8"),
+    ("item_at", "bytes, 8, 17, 0"),
+    ("own_loop", "bytes, 8, 17"),
     ("clock_fresh", "&clock"),
     ("clock_offer", "&clock, activation"),
     ("clock_move", "&clock, 1"),
@@ -315,4 +318,74 @@ fn trigger_said(payload: &[u8]) -> String {
         "id {} description {} at {} {}\ntarget {target}\nuser {} {}\n",
         t.id_length, t.description, t.id_start, t.id_bytes, t.user_start, t.user_length
     )
+}
+
+/// The members of a list and its items are as the header says, and so are the views of names and loops.
+#[test]
+fn the_sample_reads_programme_lists() {
+    let sample = compile("programme", top("samples/programme.c"));
+    let mut random = Random::new(0x4B68_756D_7361_000C);
+    for kind in trial::programmes::KINDS {
+        for _ in 0..share(12) {
+            let payload = trial::programmes::payload(&mut random, kind);
+            let said = list_said(&payload).unwrap_or_else(|number| format!("refused {number}\n"));
+            assert_eq!(run(&sample, &payload), said, "{payload:02X?}");
+        }
+    }
+}
+
+/// What the sample is to write of a list, by the independent program.
+fn list_said(payload: &[u8]) -> Result<String, u8> {
+    use opinion::programme::{items, own, read};
+    let list = read(payload)?;
+    let mut text = format!(
+        "service {} start {} minutes {} items {}\n",
+        list.service_id, list.time_span_start, list.time_span_length, list.items
+    );
+    let descriptors = |l: opinion::programme::Loop| {
+        let bytes = &payload[l.place..l.place + l.length];
+        let places = trial::loops::places(bytes);
+        let tags: String = places.iter().map(|at| format!(" {}", bytes[*at])).collect();
+        format!(
+            " descriptors {} at {} {}:{tags}\n",
+            l.count, l.place, l.length
+        )
+    };
+    let mut walk = items(payload)?;
+    for (number, item) in walk.by_ref().enumerate() {
+        let Ok(item) = item else { break };
+        // The six flags that tell of no field, and then the four fields.
+        let flag = |bit: u16| item.flags >> bit & 1;
+        text += &format!(
+            "item {number} linkage {} updates {} fragment {} protected {} master {} internet {} broadcast {}",
+            item.content_linkage,
+            flag(9),
+            flag(8),
+            flag(7),
+            flag(6),
+            flag(1),
+            flag(0)
+        );
+        for (word, bit, value) in [
+            ("playback", 5, item.playback_length.into()),
+            ("delay", 4, item.playback_delay.into()),
+            ("expires", 3, item.expiration.into()),
+            ("size", 2, item.content_size),
+        ] {
+            text += &match flag(bit) {
+                1 => format!(" {word} {value}"),
+                _ => format!(" {word} -"),
+            };
+        }
+        text += &format!(" name {} {}", item.name_place, item.name_length);
+        text += &descriptors(item.descriptors);
+    }
+    let at = walk.place();
+    let items = text.lines().count() - 1;
+    text += &match own(payload, at) {
+        _ if items < usize::from(list.items) => format!("refused 43 at {at}\n"),
+        Ok(own) => format!("list{}", descriptors(own)),
+        Err(number) => format!("refused {number} at {at}\n"),
+    };
+    Ok(text)
 }

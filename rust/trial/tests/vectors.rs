@@ -2,7 +2,7 @@
 
 use khumsafil::clock::{self, Heard, State};
 use khumsafil::shelf::{self, lent, Accepted};
-use khumsafil::{descriptor, file, section, trigger, writer, Key, Refusal};
+use khumsafil::{descriptor, file, programme, section, trigger, writer, Key, Refusal};
 use opinion::clock as their_clock;
 use opinion::shelf as their_shelf;
 use std::collections::BTreeMap;
@@ -170,9 +170,14 @@ fn written(answer: Result<usize, String>, out: &[u8]) -> String {
 }
 
 /// An answer's numbers, at the front of an output whose other numbers are as they were.
-fn numbered(answer: Result<(), Refusal>, out: &[u16], count: usize) -> Result<&[u16], String> {
+fn numbered<N: From<u16> + PartialEq>(
+    answer: Result<(), Refusal>,
+    out: &[N],
+    count: usize,
+) -> Result<&[N], String> {
     let size = answer.map_or(0, |()| count);
-    let kept = out[size..].iter().all(|n| *n == UNWRITTEN_NUMBER);
+    let unwritten = N::from(UNWRITTEN_NUMBER);
+    let kept = out[size..].iter().all(|n| *n == unwritten);
     assert!(kept, "past an answer");
     answer.map(|()| &out[..size]).map_err(refused)
 }
@@ -291,6 +296,39 @@ fn ours(lent: &mut Lent, call: &Call) -> String {
             let application = with.bytes("application");
             yes(trigger::belongs(&payload, &fields, &application))
         }
+        "programme_read" => {
+            let mut out = vec![u32::from(UNWRITTEN_NUMBER); with.number("room")];
+            let answer = programme::fields(&with.bytes("payload"), &mut out);
+            numbered(answer, &out, programme::FIELDS).map_or_else(
+                |refused| refused,
+                |read| list_said([read[0], read[1], read[2], read[3]]),
+            )
+        }
+        "programme_item" => {
+            let mut out = vec![u64::from(UNWRITTEN_NUMBER); with.number("room")];
+            let (payload, at) = (with.bytes("payload"), with.number("at"));
+            let answer = programme::item_fields(&payload, at, with.number("number"), &mut out);
+            match answer {
+                Ok(false) => {
+                    numbered(Ok(()), &out, 0).expect("nothing written");
+                    "over".to_string()
+                }
+                answer => {
+                    let answer = numbered(answer.map(|_| ()), &out, programme::ITEM_FIELDS);
+                    answer.map_or_else(|refused| refused, item_said)
+                }
+            }
+        }
+        "programme_own" => {
+            let payload = with.bytes("payload");
+            match programme::own_loop_at(&payload, with.number("at")) {
+                Ok(own) => {
+                    let place = own.bytes.as_ptr() as usize - payload.as_ptr() as usize;
+                    format!("descriptors={}:{place}:{}", own.count, own.bytes.len())
+                }
+                Err(refusal) => refused(refusal),
+            }
+        }
         "clock_fresh" => done(clock::lent::fresh(clock)),
         "clock_offer" => {
             let (application, event) = (with.number("application"), with.number("event"));
@@ -378,6 +416,35 @@ fn their_trigger_said(t: &opinion::trigger::Trigger) -> String {
     format!(
         "id_length={} description={} id={}:{} target={target} user={}:{}",
         t.id_length, t.description, t.id_start, t.id_bytes, t.user_start, t.user_length
+    )
+}
+
+/// A programme list's four numbers as a vector spells them.
+fn list_said(read: [u32; 4]) -> String {
+    let [service_id, start, length, items] = read;
+    format!(
+        "service_id={service_id} time_span_start={start} time_span_length={length} items={items}"
+    )
+}
+
+/// An item's twelve numbers as a vector spells them. A field that is not there is 0.
+fn item_said(fields: &[u64]) -> String {
+    let [linkage, flags, playback, delay, expires, size, name, named, count, at, bytes, next] =
+        fields.try_into().expect("twelve numbers");
+    let optional = |bit: u64, value: u64| match flags >> bit & 1 {
+        1 => value.to_string(),
+        _ => {
+            assert_eq!(value, 0, "a field that is not there");
+            "-".to_string()
+        }
+    };
+    format!(
+        "item content_linkage={linkage} flags={flags} playback_length={} playback_delay={} expiration={} content_size={} \
+         name={name}:{named} descriptors={count}:{at}:{bytes} next={next}",
+        optional(5, playback),
+        optional(4, delay),
+        optional(3, expires),
+        optional(2, size)
     )
 }
 
@@ -527,6 +594,32 @@ fn theirs(lent: &mut Lent, call: &Call) -> Option<String> {
             let application = with.bytes("application");
             yes(opinion::trigger::belongs(&payload, &read, &application))
         }
+        "programme_read" => match opinion::programme::read(&with.bytes("payload")) {
+            Ok(_) if !enough(with, programme::FIELDS) => return None,
+            Ok(p) => list_said([
+                p.service_id.into(),
+                p.time_span_start,
+                p.time_span_length.into(),
+                p.items.into(),
+            ]),
+            Err(number) => refused_by(number),
+        },
+        "programme_item" => {
+            use opinion::programme::Step;
+            let (payload, at) = (with.bytes("payload"), with.number("at"));
+            match opinion::programme::item(&payload, at, with.number("number")) {
+                Ok(Step::Over) => "over".to_string(),
+                Ok(Step::Item(_)) if !enough(with, programme::ITEM_FIELDS) => return None,
+                Ok(Step::Item(item)) => item_said(&trial::beside::programmes::numbers(&item)),
+                Err(number) => refused_by(number),
+            }
+        }
+        "programme_own" => {
+            match opinion::programme::own(&with.bytes("payload"), with.number("at")) {
+                Ok(own) => format!("descriptors={}:{}:{}", own.count, own.place, own.length),
+                Err(number) => refused_by(number),
+            }
+        }
         "clock_fresh" => {
             lent.their_clock = their_clock::fresh();
             "done".to_string()
@@ -649,7 +742,7 @@ fn every_vector_is_answered() {
             "{file}: too few for the independent program"
         );
     }
-    assert_eq!(counts.len(), 7, "a file for each layer");
+    assert_eq!(counts.len(), 8, "a file for each layer");
 }
 
 /// A wrong answer in any vector would be seen: one that is changed is refused.

@@ -3,7 +3,7 @@
 use crate::files::{damaged, Parts};
 use crate::random::Random;
 use crate::sections::Fields;
-use crate::{files, loops, sections, top, triggers};
+use crate::{files, loops, programmes, sections, top, triggers};
 use std::fs;
 
 const SEED: u64 = 0x4B68_756D_7361_000A;
@@ -37,6 +37,14 @@ pub fn seeds(target: &str) -> Vec<Vec<u8>> {
                 // One at the greatest size, and one byte to either side.
                 if kind == "long" {
                     (0..8).for_each(|_| all.push(with(&[0; 8], &triggers::payload(random, kind))));
+                }
+            }
+        }
+        "programmes" => {
+            // The first place and another, number 0 and 1, too little room and enough; the payload as it is.
+            for kind in programmes::KINDS {
+                for front in [[0, 12, 0, 17, 0], [0, 3, 0, 25, 1], [0, 11, 255, 255, 0]] {
+                    all.push(with(&front, &programmes::payload(random, kind)));
                 }
             }
         }

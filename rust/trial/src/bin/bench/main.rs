@@ -4,6 +4,7 @@
 //! differ, so the benchmark runs itself several times and shows the spread beside the median.
 
 mod others;
+mod programmes;
 mod sections;
 mod shelf;
 mod timing;
@@ -51,10 +52,11 @@ impl Table {
     }
 }
 
-fn tables() -> [Table; 6] {
+fn tables() -> [Table; 7] {
     [
         sections::table(),
         others::table(),
+        programmes::table(),
         shelf::table(),
         shelf::by_length(),
         shelf::by_table(),

@@ -1,0 +1,138 @@
+//! Walks over programme lists.
+
+use crate::timing::race;
+use crate::{Table, SEED};
+use khumsafil::programme::{self, FIRST_ITEM, ITEM_FIELDS};
+use std::hint::black_box;
+use trial::programmes::{mend, MOST, TABLE};
+use trial::random::Random;
+
+pub fn table() -> Table {
+    let mut table = Table::new(
+        "Programme lists",
+        "A walk over all items of a section of 1,024 bytes, 16 such sections in a list: 125 items of 8 bytes, or 25 of 39 with all\n\
+         fields, a name of 5 bytes and two descriptors. The library is called for each item, and reads the section anew each time;\n\
+         the independent program reads it once.",
+    );
+    for (what, item) in [
+        ("smallest items", smallest as Maker),
+        ("items with all fields", with_all),
+    ] {
+        table.row(&format!("{what}, raw calls"), move || raw(&lists(item)));
+        table.row(&format!("{what}, wrapper"), move || wrapped(&lists(item)));
+    }
+    table.row("reading alone", || reading(&lists(smallest)));
+    table
+}
+
+/// Makes an item.
+type Maker = fn(&mut Random) -> Vec<u8>;
+
+fn smallest(random: &mut Random) -> Vec<u8> {
+    let mut item = random.bytes(8);
+    // The six flags that tell of no field are as they fall.
+    item[4] &= 0xF0;
+    item[6] = 0;
+    item[7] = 0;
+    item
+}
+
+fn with_all(random: &mut Random) -> Vec<u8> {
+    let mut item = random.bytes(39);
+    item[4] |= 0x0F;
+    item[21] = 5;
+    item[27] = 2;
+    item[29] = 4;
+    item[35] = 3;
+    item
+}
+
+/// Sections that are full of items; the table's own loop has the bytes that are left.
+fn lists(item: Maker) -> Vec<Vec<u8>> {
+    let random = &mut Random::new(SEED);
+    let one = |random: &mut Random| {
+        let mut payload = random.bytes(FIRST_ITEM);
+        payload[..8].copy_from_slice(&[TABLE, 0x70, 0, 0x10, 0, 0xC7, 0, 0]);
+        payload[FIRST_ITEM - 1] = 0;
+        loop {
+            let item = item(random);
+            if payload.len() + item.len() + 3 > MOST {
+                break;
+            }
+            payload.extend(item);
+            payload[FIRST_ITEM - 1] += 1;
+        }
+        let left = MOST - payload.len() - 3;
+        payload.extend([1, 0xAD, left as u8]);
+        payload.extend(random.bytes(left));
+        mend(&mut payload);
+        let items = opinion::programme::items(&payload).expect("a list");
+        let whole = items.filter(|item| item.is_ok()).count();
+        assert!(payload.len() == MOST && (whole == 125 || whole == 25));
+        payload
+    };
+    (0..16).map(|_| one(random)).collect()
+}
+
+/// The independent program's walk.
+fn their_walk(lists: &[Vec<u8>]) {
+    for payload in lists {
+        let items = opinion::programme::items(black_box(payload)).expect("a list");
+        for item in items {
+            black_box(&item.expect("an item"));
+        }
+    }
+}
+
+/// One call for each item and one behind the last, each item left in the lent numbers.
+fn raw(lists: &[Vec<u8>]) -> (f64, f64) {
+    let ours = || {
+        for payload in lists {
+            let payload = black_box(payload);
+            let mut fields = [0; ITEM_FIELDS];
+            let (mut at, mut number) = (FIRST_ITEM, 0);
+            while let Ok(true) = programme::item_fields(payload, at, number, &mut fields) {
+                black_box(&fields);
+                at = fields[ITEM_FIELDS - 1] as usize;
+                number += 1;
+            }
+            black_box(at);
+        }
+    };
+    race(lists.len(), 4, ours, || their_walk(lists))
+}
+
+/// A reading and then each item with its parts.
+fn wrapped(lists: &[Vec<u8>]) -> (f64, f64) {
+    let ours = || {
+        for payload in lists {
+            let list = programme::read(black_box(payload)).expect("a list");
+            for item in list.items() {
+                black_box(&item.expect("an item"));
+            }
+        }
+    };
+    race(lists.len(), 4, ours, || their_walk(lists))
+}
+
+#[inline(never)]
+fn their_reading(payload: &[u8]) -> Result<opinion::programme::Programme, u8> {
+    opinion::programme::read(payload)
+}
+
+fn reading(lists: &[Vec<u8>]) -> (f64, f64) {
+    race(
+        lists.len(),
+        400,
+        || {
+            for payload in lists {
+                black_box(&programme::read(black_box(payload)).expect("a list"));
+            }
+        },
+        || {
+            for payload in lists {
+                black_box(&their_reading(black_box(payload)).expect("a list"));
+            }
+        },
+    )
+}

@@ -1,0 +1,307 @@
+//! Programme lists: the library beside the independent program.
+
+use khumsafil::{programme, Refusal};
+use std::collections::BTreeMap;
+use trial::beside::programmes::{own, read, step, step_in_room, text, walk, ITEM, OVER, OWN};
+use trial::files;
+use trial::programmes::{self, Made, Shape, KINDS, MOST, SMALLEST};
+use trial::random::Random;
+use trial::tally::{common, share, Tally};
+
+/// The seed of every random comparison here.
+const SEED: u64 = 0x4B68_756D_7361_000B;
+
+/// How often each kind is drawn.
+const ROUNDS: usize = 22_000;
+
+/// What a walk can end with, 0 for a whole list.
+const ANSWERS: [u8; 12] = [0, 1, 2, 3, 4, 5, 6, 7, 8, 43, 44, 45];
+
+/// What a step can answer, and the table's own loop.
+const STEPS: [u8; 14] = [ITEM, OVER, OWN, 1, 2, 3, 4, 5, 6, 7, 8, 43, 44, 45];
+
+#[test]
+fn random_lists() {
+    let mut random = Random::new(SEED);
+    let (mut tally, mut found) = (Tally::default(), Tally::default());
+    for kind in KINDS {
+        for _ in 0..share(ROUNDS) {
+            let payload = programmes::payload(&mut random, kind);
+            tally.note(kind, walk(&payload, &mut found));
+            // Any place, of which many are no item's, with any number and any room.
+            let (size, any) = (payload.len(), random.byte());
+            let inside = random.below(size + 1);
+            let far = usize::MAX - random.below(300);
+            let at = random.pick(&[inside, inside, 16, 17, size, size + 1, far]);
+            let number = random.pick(&[0, 0, 1, any]);
+            found.note("any place", step(&payload, at, number));
+            found.note("any own loop", own(&payload, at));
+            step_in_room(&payload, at, number, random.below(20));
+            read(&payload, random.below(20));
+        }
+    }
+    common(tally.total(), 300_000);
+    tally.show(&format!("lists, seed {SEED:#018X}"), &ANSWERS);
+    found.show("lists, each answer", &STEPS);
+}
+
+/// Each sound list shortened to every length, with the length that it then has: every field and every descriptor is cut at each
+/// of its bytes, and no list but the whole one is read to its end.
+#[test]
+fn cut_at_every_place() {
+    let mut random = Random::new(SEED);
+    let (mut tally, mut found) = (Tally::default(), Tally::default());
+    let every = |made: &Made, tally: &mut Tally, found: &mut Tally| {
+        let whole = made.payload.len();
+        for size in 0..=whole {
+            let payload = programmes::cut(&made.payload, size);
+            let number = walk(&payload, found);
+            let expected = match size {
+                0..=7 => 1,
+                _ if size < whole => 43,
+                _ => 0,
+            };
+            assert_eq!(number, expected, "{size} of {:02X?}", made.payload);
+            tally.note("cut at every place", number);
+        }
+    };
+    for _ in 0..share(1_400) {
+        every(&programmes::sound(&mut random), &mut tally, &mut found);
+    }
+    for shape in shapes().into_iter().flat_map(|s| vec![s; share(3)]) {
+        let made = programmes::full(&mut random, shape);
+        every(&made, &mut tally, &mut found);
+    }
+    common(tally.total(), 200_000);
+    tally.show(&format!("lists cut, seed {SEED:#018X}"), &[0, 1, 43]);
+    found.show("lists cut, each answer", &[ITEM, OVER, OWN, 1, 43]);
+}
+
+/// The smallest items, all fields with two descriptors at most, long names, long loops.
+fn shapes() -> [Shape; 4] {
+    let all = Shape {
+        flags: 0x03FF,
+        name: 5,
+        descriptors: 2,
+        ..SMALLEST
+    };
+    [
+        SMALLEST,
+        all,
+        Shape { name: 255, ..all },
+        Shape {
+            descriptors: 255,
+            ..SMALLEST
+        },
+    ]
+}
+
+/// Steps at every place and at places that no list has, taken for every kind of number.
+#[test]
+fn steps_at_every_place() {
+    let mut random = Random::new(SEED);
+    let mut found = Tally::default();
+    for _ in 0..share(160) {
+        for kind in KINDS {
+            let payload = programmes::payload(&mut random, kind);
+            let items = payload.get(16).copied().unwrap_or(0);
+            let numbers = [0, items.wrapping_sub(1), items, random.byte(), 255];
+            for at in programmes::places(payload.len()) {
+                let number = random.pick(&numbers);
+                found.note("step", step(&payload, at, number));
+                found.note("own loop", own(&payload, at));
+                step_in_room(&payload, at, number, random.below(20));
+            }
+        }
+    }
+    common(found.total(), 500_000);
+    found.show(&format!("steps, seed {SEED:#018X}"), &STEPS);
+}
+
+/// Every number of an item with every count of items, at the first item's place.
+#[test]
+fn every_number_and_count() {
+    let mut payload = programmes::of_shape(&mut Random::new(SEED), SMALLEST, MOST - 1).payload;
+    let mut found = Tally::default();
+    for count in 0..=255 {
+        payload[16] = count;
+        for number in 0..=255 {
+            let met = step(&payload, 17, number);
+            assert_eq!(met, if number < count { ITEM } else { OVER });
+            found.note("number and count", met);
+        }
+    }
+    found.show("every number and count", &[ITEM, OVER]);
+}
+
+/// Lists of exactly 1,024 bytes are whole, and one byte more makes them too long for a section.
+#[test]
+fn of_1024_bytes() {
+    let mut random = Random::new(SEED);
+    let mut found = Tally::default();
+    let mut most = 0;
+    for shape in shapes() {
+        for _ in 0..share(200) {
+            let mut payload = programmes::full(&mut random, shape).payload;
+            assert_eq!(payload.len(), MOST);
+            assert_eq!(walk(&payload, &mut found), 0, "{payload:02X?}");
+            most = most.max(programme::read(&payload).expect("a list").count);
+            payload.push(0);
+            programmes::mend(&mut payload);
+            assert_eq!(walk(&payload, &mut found), 3, "{payload:02X?}");
+        }
+    }
+    // 17 bytes, 125 items of 8, and the own loop's number and 6 bytes of its descriptors.
+    assert_eq!(most, 125);
+    found.show("lists of 1,024 bytes", &[ITEM, OVER, OWN, 3]);
+}
+
+/// Every value of each reserved bit, of a list whose fields are all there, changes no answer.
+#[test]
+fn reserved_bits() {
+    let mut random = Random::new(SEED);
+    let mut found = Tally::default();
+    let all = shapes()[1];
+    for _ in 0..share(40) {
+        let made = programmes::of_shape(&mut random, Shape { items: 3, ..all }, 300);
+        let payload = made.payload;
+        let told = |payload: &[u8]| {
+            let list = programme::read(payload).expect("a list");
+            let items = list.items().map(|item| item.expect("an item"));
+            let items = items.map(|item| (format!("{item:?}"), item.next()));
+            let head = (list.service_id, list.time_span_start);
+            (head, list.time_span_length, items.collect::<Vec<_>>())
+        };
+        let before = told(&payload);
+        for bits in 0..=255u8 {
+            let mut other = payload.clone();
+            other[1] = other[1] & 0xCF | bits & 0x30;
+            other[5] = other[5] & 0x3F | bits & 0xC0;
+            other[14] = other[14] & 0x07 | bits & 0xF8;
+            for at in &made.flags {
+                other[at + 1] = other[at + 1] & 0xC0 | bits & 0x3F;
+                other[at + 2] = other[at + 2] & 0x0F | bits & 0xF0;
+                other[at + 5] = other[at + 5] & 0x0F | bits << 4;
+            }
+            assert_eq!(walk(&other, &mut found), 0);
+            assert_eq!(told(&other), before);
+        }
+    }
+    found.show("reserved bits", &[ITEM, OVER, OWN]);
+}
+
+/// The refusals in their order: the section's own, then 45, then 43 of the fields from the left.
+#[test]
+fn the_order_of_refusals() {
+    let mut random = Random::new(SEED);
+    let mut found = Tally::default();
+    let sound = programmes::sound(&mut random).payload;
+    let mut with = |size: usize, changes: &[(usize, u8)]| {
+        let mut payload = programmes::cut(&sound, size);
+        changes.iter().for_each(|(at, value)| payload[*at] = *value);
+        walk(&payload, &mut found)
+    };
+    assert_eq!(with(16, &[]), 43);
+    assert_eq!(with(16, &[(0, 0xDE)]), 45, "45 before 43");
+    assert_eq!(with(16, &[(0, 0xDE), (5, 0xC6)]), 8, "8 before 45");
+    assert_eq!(with(16, &[(0, 0xDE), (1, 0xF0)]), 2, "2 before 45");
+    assert_eq!(with(16, &[(0, 0xDE), (6, 17), (7, 16)]), 6, "6 before 45");
+    assert_eq!(with(7, &[(0, 0xDE)]), 1, "1 before 45");
+    // 43 of an item before 44 of the loop, 43 of the loop before 44.
+    let mut body = vec![0; 8];
+    body.extend([1, 0, 0, 0, 1, 0, 0, 200, 0]);
+    let listed = |body: &[u8]| {
+        let mut payload = vec![0xDF, 0x70, 0, 0x10, 0, 0xC7, 0, 0];
+        payload.extend(body);
+        programmes::mend(&mut payload);
+        payload
+    };
+    assert_eq!(walk(&listed(&body), &mut found), 43);
+    assert_eq!(
+        walk(
+            &listed(&[0, 0, 0, 0, 0, 0, 0, 0, 0, 2, 9, 0, 9]),
+            &mut found
+        ),
+        43
+    );
+    assert_eq!(
+        walk(
+            &listed(&[0, 0, 0, 0, 0, 0, 0, 0, 0, 1, 9, 0, 9]),
+            &mut found
+        ),
+        44
+    );
+    assert_eq!(
+        walk(&listed(&[0, 0, 0, 0, 0, 0, 0, 0, 0, 1, 9, 0]), &mut found),
+        0
+    );
+    // An item is over before its place is looked at.
+    assert_eq!(step(&listed(&[0; 10]), 0, 0), OVER);
+    assert_eq!(step(&listed(&[0; 10]), usize::MAX, 255), OVER);
+    assert_eq!(own(&listed(&[0; 10]), 16), 43);
+    assert_eq!(own(&listed(&[0; 10]), 17), OWN);
+    assert_eq!(own(&listed(&[0; 10]), 18), 43);
+}
+
+/// The words that a line of the staff's text begins with.
+const LINES: [&str; 17] = [
+    "refused",
+    "table",
+    "no programme list",
+    "section",
+    "item",
+    "updates",
+    "playback",
+    "delay",
+    "expires",
+    "size",
+    "name",
+    "descriptors",
+    "list descriptors",
+    "missing",
+    "whole",
+    "not whole",
+    "section refused",
+];
+
+/// The word of [`LINES`] that a line begins with; the last one for a section's refusal.
+fn word(line: &str) -> &'static str {
+    if line.starts_with("section ") && line.contains(" refused ") {
+        return LINES[LINES.len() - 1];
+    }
+    let mut known = LINES.iter().filter(|word| line.starts_with(**word));
+    known.next().unwrap_or_else(|| panic!("{line}"))
+}
+
+/// Files of programme lists, whole and damaged: their texts have every kind of line, and 43 and 44 at their places.
+#[test]
+fn files_have_every_line() {
+    let mut random = Random::new(SEED);
+    let mut lines: BTreeMap<&str, u64> = BTreeMap::new();
+    let (mut longest, mut refused) = (0, [0u64; 2]);
+    for kind in files::KINDS {
+        for _ in 0..share(1_000) {
+            let file = programmes::file(&mut random, kind);
+            let said = text(&file, random.below(400), told);
+            longest = longest.max(said.len());
+            for line in said.lines() {
+                *lines.entry(word(line)).or_default() += 1;
+                refused[0] += u64::from(line.contains(" refused 43 place "));
+                refused[1] += u64::from(line.contains(" refused 44 place "));
+            }
+        }
+    }
+    println!("texts of files, seed {SEED:#018X}: the longest {longest} bytes, 43 and 44 {refused:?}, {lines:?}");
+    LINES
+        .iter()
+        .for_each(|word| common(lines.get(word).copied().unwrap_or(0), 100));
+    refused.iter().for_each(|n| common(*n, 100));
+}
+
+/// What stands for the library's text until the library has one.
+fn told(file: &[u8], out: &mut [u8]) -> Result<usize, Refusal> {
+    let text = opinion::programme_text::programmes(file);
+    let out = out.get_mut(..text.len()).ok_or(Refusal::OUTPUT_TOO_SMALL)?;
+    out.copy_from_slice(text.as_bytes());
+    Ok(text.len())
+}
