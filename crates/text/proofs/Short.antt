@@ -1,10 +1,11 @@
 -- How long a number and a name are.
 --   same-decimal         up to 99,999 a number is written as the lister writes it
---   decimal-short        a number below 10 ^ k has at most k digits
+--   decimal-most         no number is written in more than thirteen digits
+--   decimal-one          a number below 10 is written in one
 --   escaped-short        a name has at most four bytes for each of its own
-use mathlib.Core.Path.{_≡_, refl, ap, _∙_}
+use mathlib.Core.Path.{_≡_}
 use mathlib.Core.List.{List, [], _∷_, _++_, append-assoc}
-use Prim.Native.Nat.{ℕ, zero, suc, _+_, _-_, _*_, _^_, _<_, _≤_}
+use Prim.Native.Nat.{ℕ, zero, suc, _+_, _*_, _^_, _<_, _≤_}
 use native.Mathlib.Nat.{pow-le-pow-right, suc-add, zero-add, lt-of-lt-of-le}
 use native.Mathlib.Omega.{arith}
 use lib.Dec.{leb}
@@ -20,7 +21,7 @@ module _ (n : ℕ) where
   unfolding place
   place-none power h = rw (lt-leb power n h)
 
-  place-short : (power : ℕ) → length (place power n) ≤ 1
+  pub place-short : (power : ℕ) → length (place power n) ≤ 1
   unfolding place
   place-short power = by (leb power n) (λ t. rw t (omega arith)) (λ f. rw f (omega arith))
 
@@ -37,12 +38,13 @@ module _ (n : ℕ) where
   places-short zero = omega arith
   places-short (suc k) = simp length-append (omega (arith, place-short (10 ^ suc k), places-short k))
 
-  pub decimal-short : (k : ℕ) → k ≤ 12 → n < 10 ^ suc k → length (decimal n) ≤ suc k
+  pub decimal-most : length (decimal n) ≤ 13
   unfolding decimal
-  decimal-short k l h =
-      let e : 12 ≡ (12 - k) + k = omega arith in
-      let same : places 12 n ≡ places k n = ap (λ m. places m n) e ∙ none-above (12 - k) k h in
-      rw same (simp length-append (omega (arith, places-short k)))
+  decimal-most = simp length-append (omega (arith, places-short 12))
+
+  pub decimal-one : n < 10 → length (decimal n) ≤ 1
+  unfolding decimal places
+  decimal-one h = rw (none-above 12 0 h) (omega arith)
 
   pub same-decimal : n < 100000 → decimal n ≡ words.decimal n
   unfolding decimal places words.decimal
