@@ -22,6 +22,9 @@ pub enum Listed {
     Refused(u8),
 }
 
+// An output of so many bytes is never too small: 47 of the first line, 20 for each byte of sixteen sections of 1,024, and 10 of the last.
+pub const ROOM: usize = 327737;
+
 // Section n, where the file holds it.
 fn section_of(
     out: &mut [u8],
