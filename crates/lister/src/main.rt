@@ -1,8 +1,8 @@
 // Lists a shelf file that stands on the standard input (document 01, "The lister"). The text is `file_listing::list_file`'s; here
 // it is only read and written.
 use file_listing::Listed;
+use input::Input;
 use libc::STDERR_FILENO;
-use libc::STDIN_FILENO;
 use libc::STDOUT_FILENO;
 ghost use mathlib.Core.Path.{_≡_};
 ghost use Prim.Native.Nat.{_+_};
@@ -10,33 +10,15 @@ ghost use lib.ListN.{length};
 ghost use Rattle.file.specs.Layout.{largestFile};
 ghost use Rattle.file_listing.specs.Listing.{listing, listOf};
 ghost use Rattle.file_listing.specs.Answer.{largestList};
-ghost use Rattle.lister.specs.Input.{Within};
+ghost use Rattle.input.specs.Within.{Within};
 
-enum Input {
-    // The input ended after so many bytes, or the buffer is full.
-    Bytes(usize),
-    Failed,
-}
-
-// Reads until the input ends or the buffer is full, which has room for one byte more than the largest file: what was cut off at its end is
-// too long for a file. A read that fails is not the end of the input.
-fn read_input(buffer: &mut [u8]) -> Input
+// Reads the input into a buffer that has room for one byte more than the largest file: what was cut off at its end is too long for a
+// file.
+fn read_whole(buffer: &mut [u8]) -> Input
     requires { ⌜ length (now buffer) ≡ largestFile + 1 ⌝ }
     ensures { λ r. ⌜ Within (length (now (buffer .exit))) r ⌝ }
 {
-    let mut n = 0;
-    while n < buffer.len() {
-        let got = libc::read(STDIN_FILENO, &mut buffer[n..]);
-        if got < 0 {
-            return Input::Failed;
-        }
-        let more = io::count(got, &buffer[n..]);
-        if more == 0 {
-            return Input::Bytes(n);
-        }
-        n += more;
-    }
-    Input::Bytes(n)
+    input::read_input(buffer)
 }
 
 // One byte more than the largest file, so 16,419: an input that fills the buffer is no file, and is refused as one that has
@@ -53,7 +35,7 @@ fn list_whole(file: &[u8], text: &mut [u8]) -> Listed
 
 fn main() {
     let mut buffer = [0u8; BUFFER];
-    let input = read_input(&mut buffer);
+    let input = read_whole(&mut buffer);
     match input {
         Input::Failed => {
             io::write_all(STDERR_FILENO, b"lister: read failed\n");

@@ -2,15 +2,16 @@
 use mathlib.Core.Path.{sym}
 use lib.Seq.{length-take-le}
 use borrow.Author.Needs.{needs}
-use Rattle.lister.proofs.Reading.{read-within, shown-within}
+use Rattle.input.proofs.Reading.{read-within}
+use Rattle.lister.proofs.Reading.{shown-within}
 use Rattle.lister.proofs.main.Statement.{statement}
 use Rattle.lister.proofs.main.Tie as tie
 
-slice-aggregate-read-input : tie.Need-slice-aggregate-read-input
-slice-aggregate-read-input c = search needs
+slice-aggregate-read-whole : tie.Need-slice-aggregate-read-whole
+slice-aggregate-read-whole c = search needs
 
-read-input-requires : tie.Need-read-input-requires
-read-input-requires c κs = search needs
+read-whole-requires : tie.Need-read-whole-requires
+read-whole-requires c κs = search needs
 
 enum-told : tie.Need-enum-told
 enum-told c = search needs
@@ -25,10 +26,10 @@ enum-known-input : tie.Need-enum-known-input
 enum-known-input c = search needs
 
 array-share-prefix-buffer : tie.Need-array-share-prefix-buffer
-array-share-prefix-buffer c = read-within _ _ _ (c .before .before .before .before .read-input .ensures) (c .before .input .given .1)
+array-share-prefix-buffer c = read-within _ _ _ (c .before .before .before .before .read-whole .ensures) (c .before .input .given .1)
 
 slice-aggregate-list-whole : tie.Need-slice-aggregate-list-whole
-slice-aggregate-list-whole c = sym (length-take-le _ _ (read-within _ _ _ (c .before .before .before .before .before .read-input .ensures) (c .before .before .input .given .1)))
+slice-aggregate-list-whole c = sym (length-take-le _ _ (read-within _ _ _ (c .before .before .before .before .before .read-whole .ensures) (c .before .before .input .given .1)))
 
 slice-aggregate-list-whole-2 : tie.Need-slice-aggregate-list-whole-2
 slice-aggregate-list-whole-2 c = search needs
@@ -64,8 +65,8 @@ pub main-spec : {M : Type 1} → statement M
 main-spec =
     tie.close
     (tie.spec
-    slice-aggregate-read-input
-    read-input-requires
+    slice-aggregate-read-whole
+    read-whole-requires
     enum-told
     slice-aggregate-write-all
     write-all-requires

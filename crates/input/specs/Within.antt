@@ -1,6 +1,6 @@
 -- What was read of the standard input.
 use Prim.Native.Nat.{ℕ, _≤_}
-use Rattle.lister.specs.declared.Input.{Input}
+use Rattle.input.specs.declared.Input.{Input}
 
 -- so many bytes, within the buffer
 abbrev pub Within : ℕ → Input → Type 0

@@ -1,10 +1,10 @@
--- `lister::read_input` ends, and what it read lies within the buffer. The measure is the room that is left.
+-- `input::read_input` ends, and what it read lies within the buffer. The measure is the room that is left.
 use mathlib.Core.Path.{_≡_}
 use Prim.Native.Nat.{_-_, _≤_}
 use lib.ListN.{length}
 use borrow.Author.Needs.{needs}
-use Rattle.lister.proofs.read_input.Statement.{statement}
-use Rattle.lister.proofs.read_input.Tie as tie
+use Rattle.input.proofs.read_input.Statement.{statement}
+use Rattle.input.proofs.read_input.Tie as tie
 
 abbrev Inv-loop : tie.InvT-loop
 Inv-loop buffer₀ n₀ buffer n = (n ≤ length buffer) × (length buffer ≡ length buffer₀)
@@ -12,75 +12,57 @@ Inv-loop buffer₀ n₀ buffer n = (n ≤ length buffer) × (length buffer ≡ l
 abbrev μ-loop : tie.MeasureT-loop
 μ-loop buffer₀ n₀ buffer n = length buffer - n
 
--- src/main.rt:22:5
 loop-holds : tie.Need-loop-holds Inv-loop μ-loop
 loop-holds c = search needs
 
--- src/main.rt:23:44
 sub-read : tie.Need-sub-read Inv-loop μ-loop
 sub-read c = search needs
 
--- src/main.rt:23:44
 part-read-start : tie.Need-part-read-start Inv-loop μ-loop
 part-read-start c = search needs
 
--- src/main.rt:23:44
 part-read-end : tie.Need-part-read-end Inv-loop μ-loop
 part-read-end c = search needs
 
--- src/main.rt:23:13
 read-requires : tie.Need-read-requires Inv-loop μ-loop
 read-requires c κs = search needs
 
--- src/main.rt:25:13
 same-length : tie.Need-same-length Inv-loop μ-loop
 same-length c = search needs
 
--- src/main.rt:25:13
 returns : tie.Need-returns Inv-loop μ-loop
 returns c = search needs
 
--- src/main.rt:27:35
 sub-count : tie.Need-sub-count Inv-loop μ-loop
 sub-count c = search needs
 
--- src/main.rt:27:35
 part-count-start : tie.Need-part-count-start Inv-loop μ-loop
 part-count-start c = search needs
 
--- src/main.rt:27:35
 part-count-end : tie.Need-part-count-end Inv-loop μ-loop
 part-count-end c = search needs
 
--- src/main.rt:27:13
 count-requires : tie.Need-count-requires Inv-loop μ-loop
 count-requires c κs = search needs
 
--- src/main.rt:29:13
 same-length-2 : tie.Need-same-length-2 Inv-loop μ-loop
 same-length-2 c = search needs
 
--- src/main.rt:29:13
 returns-2 : tie.Need-returns-2 Inv-loop μ-loop
 returns-2 c = search needs
 
--- src/main.rt:31:9
 add-n : tie.Need-add-n Inv-loop μ-loop
 add-n c = search needs
 
--- src/main.rt:22:5
 loop-less : tie.Need-loop-less Inv-loop μ-loop
 loop-less c = search needs
 
--- src/main.rt:22:5
 loop-again : tie.Need-loop-again Inv-loop μ-loop
 loop-again c = search needs
 
--- src/main.rt:18:1
 same-length-3 : tie.Need-same-length-3 Inv-loop μ-loop
 same-length-3 c = search needs
 
--- src/main.rt:18:1
 returns-3 : tie.Need-returns-3 Inv-loop μ-loop
 returns-3 c = search needs
 

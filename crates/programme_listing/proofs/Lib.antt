@@ -1,0 +1,4 @@
+pub mod Numbers
+pub mod Short
+pub mod Whole
+pub mod Answers
