@@ -833,6 +833,20 @@ static inline khumsafil_own khumsafil_own_loop(const uint8_t *payload, size_t pa
 }
 
 /*
+ * Says in lines of text for staff, at the front of out, what the programme lists of a shelf file hold: docs/FORMAT.md has the
+ * lines. There is no zero byte behind the text; KHUMSAFIL_PROGRAMME_TEXT bytes are room for any. Refused: 15.
+ */
+KHUMSAFIL_LOOK_
+static inline khumsafil_size khumsafil_programme_list(const uint8_t *file, size_t file_length, uint8_t *out,
+                                                      size_t out_length) {
+    const uint64_t answer = khumsafil_raw_programme_list(file, file_length, out, out_length);
+    khumsafil_size size;
+    size.refusal = khumsafil_refusal_(answer);
+    size.size = (size_t)(answer >> 8);
+    return size;
+}
+
+/*
  * A clock. Before all else it is made fresh. Its time is a media time in milliseconds, which only rises: where a host's
  * begins again, it makes the clock fresh. An activation is applied when its time is reached; one move applies in order of
  * time, then application, then event. One that was applied is remembered for 60,000 milliseconds, so that its repeat is 33.

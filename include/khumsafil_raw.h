@@ -35,7 +35,7 @@ extern "C" {
  *   a list       of programmes: room for KHUMSAFIL_PROGRAMME_FIELDS numbers at least, for an item of it
  *                KHUMSAFIL_ITEM_FIELDS
  *   a section    room for KHUMSAFIL_LARGEST_SECTION bytes is enough, for a file KHUMSAFIL_LARGEST_FILE, for a file's
- *                list KHUMSAFIL_LARGEST_LIST
+ *                list KHUMSAFIL_LARGEST_LIST, for the text of a file of programme lists KHUMSAFIL_PROGRAMME_TEXT
  *   a datagram   one byte more than KHUMSAFIL_LARGEST_SECTION or KHUMSAFIL_LARGEST_TRIGGER, so that a longer one is
  *                refused and not clipped
  */
@@ -51,6 +51,7 @@ extern "C" {
 #define KHUMSAFIL_LARGEST_SECTION 1024
 #define KHUMSAFIL_LARGEST_FILE 16418
 #define KHUMSAFIL_LARGEST_LIST 390
+#define KHUMSAFIL_PROGRAMME_TEXT 327737
 #define KHUMSAFIL_LARGEST_TRIGGER 4096
 #define KHUMSAFIL_LARGEST_BODY 16256
 
@@ -375,6 +376,17 @@ uint16_t khumsafil_raw_programme_item(const uint8_t *payload, size_t payload_len
  * Bits 8 to 15 are how many descriptors it has, 16 to 31 their place in the payload, 32 to 63 how many bytes they are.
  */
 uint64_t khumsafil_raw_programme_own(const uint8_t *payload, size_t payload_length, size_t at);
+
+/*
+ * Says in lines of text for staff what the programme lists of a shelf file hold; of a file that is refused, by which number,
+ * and of another table that it is no programme list. Refuses by 15 alone.
+ *
+ * file: read, and left as it is.
+ * out: its first bytes become the text, with no zero byte behind it, and those past it stay as they were.
+ *
+ * Bits 8 to 63 are how many bytes the text is.
+ */
+uint64_t khumsafil_raw_programme_list(const uint8_t *file, size_t file_length, uint8_t *out, size_t out_length);
 
 /*
  * A clock's record is KHUMSAFIL_CLOCK_RECORD numbers. Another number of them is refused by 35.

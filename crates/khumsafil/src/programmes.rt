@@ -3,6 +3,7 @@ ghost use mathlib.Core.Path.{_≡_};
 ghost use Rattle.answers.specs.Answers.{out as outOf};
 ghost use Rattle.programme.specs.Reading.{ownOf};
 ghost use Rattle.programme_answers.specs.Lent.{readLent, stepLent, ownCode};
+ghost use Rattle.programme_listing.specs.Answer.{listLent};
 
 // The fields before the items, at the front of the buffer, or the refusal.
 #[no_mangle]
@@ -32,4 +33,13 @@ pub extern "C" fn khumsafil_raw_programme_own(payload: &[u8], at: usize) -> u64
     ensures { λ r. ⌜ r ≡ ownCode (ownOf (now (payload .entry)) at) ⌝ }
 {
     programme_answers::programme_own(payload, at)
+}
+
+// The text for staff of a shelf file, at the front of the output, in one number: the refusal alone, or 0 in the low 8 bits, and above
+// how many bytes it has.
+#[no_mangle]
+pub extern "C" fn khumsafil_raw_programme_list(file: &[u8], out: &mut [u8]) -> u64
+    ensures { λ r. ⌜ outOf r (now (out .exit)) ≡ listLent (now (file .entry)) (now (out .entry)) ⌝ }
+{
+    programme_listing::programmes_code(file, out)
 }

@@ -141,6 +141,12 @@ extern "C" {
         fields: *mut u64,
         fields_length: usize,
     ) -> u16;
+    pub fn khumsafil_raw_programme_list(
+        file: *const u8,
+        file_length: usize,
+        out: *mut u8,
+        out_length: usize,
+    ) -> u64;
     pub fn khumsafil_raw_programme_own(payload: *const u8, payload_length: usize, at: usize)
         -> u64;
 

@@ -36,6 +36,9 @@ pub const FIELDS: usize = 4;
 /// How many numbers an item is answered in.
 pub const ITEM_FIELDS: usize = 12;
 
+/// Room for any text of [`list`].
+pub const TEXT: usize = 327_737;
+
 /// What the answer has in bits 8 to 15 where a list has no item of the number asked.
 const OVER: u16 = 2 << 8;
 
@@ -432,3 +435,41 @@ impl<'a> Iterator for Items<'a> {
 }
 
 impl core::iter::FusedIterator for Items<'_> {}
+
+/// Puts at the front of `out` what the programme lists of a shelf file hold, in lines for staff, and gives that text: a file that
+/// is refused says by which number, and another table that it is no programme list. Refused: 15.
+///
+/// ```
+/// use khumsafil::{programme, Refusal};
+///
+/// let saved = [
+///     1, 1, 18, 0xDF, 0x70, 0x0F, 0x10, 0, 0xC7, 0, 0, 12, 80, 0, 0, 0, 0, 0xF8, 60, 0, 0,
+/// ];
+/// let mut out = [0; 200];
+/// let text = "table 223 key 4096 version 3 last 0\n\
+///             section 0 service 3152 start 0 minutes 60 items 0\n\
+///             list descriptors 0 bytes 0\n\
+///             whole\n";
+/// assert_eq!(programme::list(&saved, &mut out), Ok(text));
+/// assert_eq!(programme::list(&[], &mut out), Ok("refused 11\n"));
+/// assert_eq!(programme::list(&saved, &mut out[..9]), Err(Refusal::OUTPUT_TOO_SMALL));
+/// ```
+#[inline]
+pub fn list<'a>(file: &[u8], out: &'a mut [u8]) -> Result<&'a str, Refusal> {
+    // SAFETY: pointers and lengths are those of slices, and the one that is written is not part of the other.
+    let answer = unsafe {
+        boundary::khumsafil_raw_programme_list(
+            file.as_ptr(),
+            file.len(),
+            out.as_mut_ptr(),
+            out.len(),
+        )
+    };
+    match answer as u8 {
+        0 => {
+            let text = out.get(..(answer >> 8) as usize).unwrap_or_default();
+            Ok(core::str::from_utf8(text).unwrap_or_default())
+        }
+        number => Err(Refusal::of(number)),
+    }
+}

@@ -191,6 +191,7 @@ fn sizes_agree() {
         ("LARGEST_SECTION", khumsafil::shelf::LARGEST_SECTION),
         ("LARGEST_FILE", khumsafil::shelf::LARGEST_FILE),
         ("LARGEST_LIST", khumsafil::file::LARGEST_LIST),
+        ("PROGRAMME_TEXT", khumsafil::programme::TEXT),
         ("LARGEST_TRIGGER", khumsafil::trigger::LARGEST),
         ("LARGEST_BODY", khumsafil::writer::LARGEST_BODY),
         ("SECTION_HEADER", khumsafil::section::HEADER),

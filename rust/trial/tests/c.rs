@@ -203,6 +203,7 @@ const ANSWERS: [(&str, &str); 26] = [
     ("programme_read", "bytes, 8"),
     ("item_at", "bytes, 8, 17, 0"),
     ("own_loop", "bytes, 8, 17"),
+    ("programme_list", "bytes, 4, bytes + 4, 4"),
     ("clock_fresh", "&clock"),
     ("clock_offer", "&clock, activation"),
     ("clock_move", "&clock, 1"),

@@ -267,6 +267,13 @@ fn ours(lent: &mut Lent, call: &Call) -> String {
             assert!(out[size..].iter().all(|b| *b == UNWRITTEN), "past a text");
             answer.map_or_else(refused, |text| listed(&text))
         }
+        "programme_list" => {
+            let mut out = room(with);
+            let answer = programme::list(&with.bytes("file"), &mut out).map(str::to_string);
+            let size = answer.as_ref().map_or(0, String::len);
+            assert!(out[size..].iter().all(|b| *b == UNWRITTEN), "past a text");
+            answer.map_or_else(refused, |text| listed(&text))
+        }
         "file_number" => match file::number(&with.bytes("bytes")) {
             Ok(number) => format!("value={} size={}", number.value, number.size),
             Err(refusal) => refused(refusal),
@@ -550,6 +557,13 @@ fn theirs(lent: &mut Lent, call: &Call) -> Option<String> {
         }
         "file_list" => {
             let text = opinion::lister::list(&with.bytes("file"));
+            if !enough(with, text.len()) {
+                return None;
+            }
+            listed(&text)
+        }
+        "programme_list" => {
+            let text = opinion::programme_text::programmes(&with.bytes("file"));
             if !enough(with, text.len()) {
                 return None;
             }
