@@ -85,8 +85,8 @@ descriptors-short l = simp length-append (omega (arith, decimal-most (l .count),
 
 pub item-short : (name : List ℕ) (k : ℕ) (i : Item)
     → length (itemText name k i)
-        ≤ 160 + 4 * length name
-            + 20 * (only (bit (i .flags) 5) 3 + only (bit (i .flags) 4) 3 + only (bit (i .flags) 3) 4 + only (bit (i .flags) 2) 5)
+    ≤ 160 + 4 * length name
+    + 20 * (only (bit (i .flags) 5) 3 + only (bit (i .flags) 4) 3 + only (bit (i .flags) 3) 4 + only (bit (i .flags) 2) 5)
 unfolding itemText
 item-short name k i =
     simp length-append

@@ -92,10 +92,10 @@ fn missing_lines(out: &mut [u8], at: usize, last: u8, lengths: [u16; 16]) -> usi
     ensures { λ r. ⌜ Wrote (lines (last + 1) (missingOf lengths)) (now (out .entry)) at (now (out .exit)) r ⌝ }
 {
     let mut end = at;
-    let mut n: u8 = 0;
-    while n <= last {
-        end = missing_of(out, end, n, lengths);
-        n += 1;
+    let mut k: u8 = 0;
+    while k <= last {
+        end = missing_of(out, end, k, lengths);
+        k += 1;
     }
     end
 }

@@ -1,4 +1,4 @@
--- `programme_listing::missing_lines` meets its promise: the loop keeps that the lines below `n` are written.
+-- `programme_listing::missing_lines` meets its promise: the loop keeps that the lines below `k` are written.
 use mathlib.Core.Path.{_≡_, refl}
 use Prim.Native.Nat.{_+_, _-_, _≤_}
 use native.Mathlib.Omega.{arith}
@@ -12,10 +12,10 @@ use Rattle.programme_listing.proofs.missing_lines.Statement.{statement}
 use Rattle.programme_listing.proofs.missing_lines.Tie as tie
 
 abbrev Inv-loop : tie.InvT-loop
-Inv-loop out₀ at last lengths end₀ n₀ out end n = (n ≤ last + 1) × (length out ≡ length out₀) × Wrote (lines n (missingOf lengths)) out₀ at out end
+Inv-loop out₀ at last lengths end₀ k₀ out end k = (k ≤ last + 1) × (length out ≡ length out₀) × Wrote (lines k (missingOf lengths)) out₀ at out end
 
 abbrev μ-loop : tie.MeasureT-loop
-μ-loop out₀ at last lengths end₀ n₀ out end n = last + 1 - n
+μ-loop out₀ at last lengths end₀ k₀ out end k = last + 1 - k
 
 loop-holds : tie.Need-loop-holds Inv-loop μ-loop
 loop-holds c = (omega arith, refl, no-line _ _ _)
@@ -23,8 +23,8 @@ loop-holds c = (omega arith, refl, no-line _ _ _)
 missing-of-requires : tie.Need-missing-of-requires Inv-loop μ-loop
 missing-of-requires c κs = search needs
 
-add-n : tie.Need-add-n Inv-loop μ-loop
-add-n c = search needs
+add-k : tie.Need-add-k Inv-loop μ-loop
+add-k c = search needs
 
 loop-less : tie.Need-loop-less Inv-loop μ-loop
 loop-less c = search needs
@@ -48,7 +48,7 @@ missing-lines-spec =
     μ-loop
     loop-holds
     missing-of-requires
-    add-n
+    add-k
     loop-less
     loop-again
     same-length
