@@ -178,7 +178,7 @@ pub fn read(payload: &[u8]) -> Reading
 }
 
 // Where so many descriptors from a place end, by the step of every descriptor loop.
-fn run_from(bytes: &[u8], from: usize, count: u8) -> Run
+pub fn run_from(bytes: &[u8], from: usize, count: u8) -> Run
     ensures { λ r. ⌜ r ≡ runOf count (now (bytes .entry)) from ⌝ }
 {
     let mut at = from;

@@ -1,7 +1,7 @@
 // The text for staff: what one section of a programme list holds.
-use descriptors::Step as Descriptors;
 use programme::Own;
 use programme::Reading;
+use programme::Run;
 use programme::Step;
 ghost use mathlib.Core.Path.{_≡_};
 ghost use Prim.Native.Nat.{_<_};
@@ -25,20 +25,12 @@ fn own_end(payload: &[u8], at: usize) -> usize
     requires { ⌜ at < length (now payload) ⌝ }
     ensures { λ r. ⌜ r ≡ endOf (ownRun (now (payload .entry)) at) ⌝ }
 {
-    let mut place = at + 1;
-    let mut left = payload[at];
-    while left > 0 {
-        let step = descriptors::step_at(payload, place);
-        match step {
-            Descriptors::Descriptor(d) => {
-                place = d.next;
-                left -= 1;
-            }
-            Descriptors::Over => return 0,
-            Descriptors::Refused(_) => return 0,
-        }
+    let count = payload[at];
+    let run = programme::run_from(payload, at + 1, count);
+    match run {
+        Run::Ends(end) => end,
+        Run::Past => 0,
     }
-    place
 }
 
 // The table's own loop behind the items, or its refusal.
