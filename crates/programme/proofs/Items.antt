@@ -2,20 +2,19 @@
 --   item-early, item-cut, item-past, item-reads
 --   step-refused, step-over, step-item
 --   own-early, own-cut, own-past, own-left, own-reads, own-refused, own-there
-use mathlib.Core.Path.{_≡_, refl, sym, ap, _∙_}
-use mathlib.Core.Bool.{true, false}
-use mathlib.Core.List.{List, [], _∷_}
+use mathlib.Core.Path.{_≡_, refl, ap, _∙_}
+use mathlib.Core.Bool.{true}
+use mathlib.Core.List.{List}
 use Prim.Native.Nat.{ℕ, _+_, _-_, _<_, _≤_}
 use native.Mathlib.Omega.{arith}
-use lib.Dec.{ltb}
 use lib.ListN.{length}
 use borrow.Author.Tests.{lt-ltb, le-ltb, le-leb, lt-leb}
 use Rattle.base.specs.Bytes.{byte}
 use Rattle.programme.specs.Table.{flagsAt, playbackLengthAt, playbackDelayAt, expirationAt, contentSizeAt, contentNameLengthAt, contentNameAt}
-use Rattle.programme.specs.Table.{numContentDescriptorsAt, contentDescriptorsAt, firstItemAt, descriptorsAt, numDescriptors}
+use Rattle.programme.specs.Table.{numContentDescriptorsAt, contentDescriptorsAt}
 use Rattle.programme.specs.Table.{contentLinkage, flags, playbackLength, playbackDelay, expiration, contentSize, contentNameLength, numContentDescriptors}
-use Rattle.programme.specs.Run.{runOf, passes, endOf}
-use Rattle.programme.specs.Reading.{cut, early, readOf, itemRun, ownRun, itemFaults, itemOf, itemAt, stepOf, loopOf, ownFaults, ownAt, ownOf}
+use Rattle.programme.specs.Run.{passes}
+use Rattle.programme.specs.Reading.{cut, early, readOf, itemRun, ownRun, itemFaults, itemOf, itemAt, stepOf, ownAt, ownOf}
 use Rattle.programme.specs.declared.Run.{Run}
 use Rattle.programme.specs.declared.Programme.{Programme}
 use Rattle.programme.specs.declared.Reading.{Reading}

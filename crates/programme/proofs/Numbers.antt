@@ -3,7 +3,7 @@
 --   fits                                   n bytes are below 256 ^ n
 use mathlib.Core.Path.{_≡_}
 use mathlib.Core.List.{List}
-use Prim.Native.Nat.{ℕ, zero, suc, _+_, _*_, _%_, _^_, _<_}
+use Prim.Native.Nat.{ℕ, _+_, _*_, _^_}
 use native.Mathlib.Omega.{arith}
 use Rattle.base.specs.Bytes.{byte}
 use Rattle.base.specs.Octets.{Octets}

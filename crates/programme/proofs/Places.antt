@@ -2,9 +2,9 @@
 --   delay-at, expires-at, size-at, name-at     by the bytes that the flags include
 --   name-long, count-at, loop-run              and by the name's length
 --   made                                       the item, of what the code read at these places
-use mathlib.Core.Path.{_≡_, refl, sym, ap, _∙_}
+use mathlib.Core.Path.{_≡_, ap, _∙_}
 use mathlib.Core.List.{List}
-use Prim.Native.Nat.{ℕ, _+_, _-_, _/_, _%_, _≤_}
+use Prim.Native.Nat.{ℕ, _+_, _-_, _/_, _%_}
 use lib.Dec.{eqb}
 use Rattle.base.specs.Bytes.{byte}
 use Rattle.programme.specs.Field.{number, only, low}

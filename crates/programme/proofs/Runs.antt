@@ -1,7 +1,7 @@
 -- Laws of a run of counted descriptors.
 --   run-none, run-next, run-over, run-refused     by how many are left, and the step at the place
 --   run-lies                                      it ends where it begins or behind that, and within the bytes
-use mathlib.Core.Path.{_≡_, refl, sym, ap, _∙_}
+use mathlib.Core.Path.{_≡_, refl, ap, _∙_}
 use mathlib.Core.List.{List}
 use Prim.Native.Nat.{ℕ, zero, suc, _+_, _-_, _*_, _<_, _≤_}
 use native.Mathlib.Omega.{arith}

@@ -7,7 +7,7 @@ use native.Mathlib.Omega.{arith}
 use lib.ListN.{getD}
 use Rattle.answers.specs.Answers.{Told, told}
 use Rattle.answers.proofs.Same.{valueless}
-use Rattle.programme.specs.Answer.{programmeNumbers, readingTold, itemNumbers, stepTold, ownTold, Reading-Told, Step-Told, Own-Told}
+use Rattle.programme.specs.Answer.{itemNumbers, Reading-Told, Step-Told, Own-Told}
 use Rattle.programme.specs.declared.Programme.{Programme}
 use Rattle.programme.specs.declared.Reading.{Reading}
 use Rattle.programme.specs.declared.Loop.{Loop}

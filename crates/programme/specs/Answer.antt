@@ -5,7 +5,6 @@ use mathlib.Core.List.{List, [], _∷_}
 use Rattle.answers.specs.Answers.{Told, told}
 use Rattle.programme.specs.declared.Programme.{Programme}
 use Rattle.programme.specs.declared.Reading.{Reading}
-use Rattle.programme.specs.declared.Loop.{Loop}
 use Rattle.programme.specs.declared.Item.{Item}
 use Rattle.programme.specs.declared.Step.{Step}
 use Rattle.programme.specs.declared.Own.{Own}

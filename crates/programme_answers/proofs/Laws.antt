@@ -2,21 +2,20 @@
 --   read-refused, read-short, read-put
 --   step-refused, step-over, step-short, step-put
 --   own-told
-use mathlib.Core.Path.{_≡_, refl, sym, ap, _∙_}
+use mathlib.Core.Path.{_≡_, sym, ap, _∙_}
 use mathlib.Core.List.{List, _++_}
 use Prim.Native.Nat.{ℕ, _<_, _≤_}
 use lib.ListN.{length, drop}
 use borrow.Author.Tests.{lt-ltb, le-ltb}
 use Rattle.answers.specs.Answers.{out, puts}
 use Rattle.answers.proofs.Puts.{puts-refused, puts-short, puts-values}
-use Rattle.programme.specs.Reading.{readOf, stepOf, ownOf}
+use Rattle.programme.specs.Reading.{readOf, stepOf}
 use Rattle.programme.specs.Answer.{readingTold, programmeNumbers, itemNumbers}
 use Rattle.programme.specs.declared.Programme.{Programme}
 use Rattle.programme.specs.declared.Reading.{Reading}
 use Rattle.programme.specs.declared.Item.{Item}
 use Rattle.programme.specs.declared.Step.{Step}
-use Rattle.programme.specs.declared.Own.{Own}
-use Rattle.programme_answers.specs.Lent.{readLent, stepPut, stepLent, ownCode}
+use Rattle.programme_answers.specs.Lent.{readLent, stepLent}
 
 module _ (s fields : List ℕ) where
   pub read-refused : {n m : ℕ} → m ≡ n → readOf s ≡ Reading.Refused n → out m fields ≡ readLent s fields

@@ -1,28 +1,27 @@
 -- No two lists have the same bytes (`specs/Theorems.antt` has the words): each field is read out of them.
 --   one-list
 use mathlib.Core.Path.{_≡_, refl, sym, ap, _∙_}
-use mathlib.Core.Bool.{Bool, true, false}
+use mathlib.Core.Bool.{Bool}
 use mathlib.Core.List.{List, [], _∷_, _++_, append-nil}
-use Prim.Native.Nat.{ℕ, zero, suc, _+_, _-_, _*_, _/_, _%_, _^_, _<_, _≤_}
+use Prim.Native.Nat.{ℕ, zero, suc, _+_, _-_, _*_, _/_, _%_, _^_, _<_}
 use native.Mathlib.Omega.{arith}
 use lib.Arith.{digits-mod, digits-div}
 use lib.Dec.{eqb}
-use lib.ListN.{length, take, drop, replicate}
-use lib.Pow.{pow-pos}
+use lib.ListN.{length, take}
 use lib.Seq.{take-append-seam}
 use Rattle.base.specs.Bytes.{byte, part}
 use Rattle.programme.specs.Field.{number}
 use Rattle.programme.specs.Table.{contentLinkage, flags, playbackLengthIncluded, playbackDelayIncluded, expirationIncluded, contentSizeIncluded}
 use Rattle.programme.specs.Table.{playbackLengthAt, playbackDelayAt, expirationAt, contentSizeAt, contentNameLength, contentNameAt, numContentDescriptors, contentDescriptorsAt}
-use Rattle.programme_laws.specs.Layout.{digits, Descriptor, loopBytes, Optional, included, optionalBytes, FitOptional, Content, flagsOf, nameBytes, contentThen, contentBytes, contentsThen, Body, bodyOf, FitContent, FitContents, FitBody, pastAll}
+use Rattle.programme_laws.specs.Layout.{Descriptor, loopBytes, Optional, included, optionalBytes, FitOptional, Content, flagsOf, nameBytes, contentThen, contentBytes, contentsThen, Body, bodyOf, FitContent, FitContents, FitBody, pastAll}
 use Rattle.programme_laws.specs.Theorems.{One-List}
-use Rattle.programme_laws.proofs.From.{From, after, next, byte-of, first-byte}
-use Rattle.programme_laws.proofs.Digits.{field-says, field-after}
+use Rattle.programme_laws.proofs.From.{From, next, byte-of, first-byte}
+use Rattle.programme_laws.proofs.Digits.{field-says}
 use Rattle.programme_laws.proofs.Loops.{loop-more, step-behind}
 use Rattle.programme_laws.proofs.Optionals.{optionalFrom}
 use Rattle.programme_laws.proofs.Contents.{size-on, expires-on, delay-on, playback-on, linkage-says, at-flags, flags-say, at-playback, is-playback, at-delay, is-delay, at-expires, is-expires, at-size, is-size, at-name, name-says, count-says, at-loop, item-behind, flags-small}
 use Rattle.programme_laws.proofs.Contents.{flag-updates, flag-fragment, flag-security, flag-master, flag-internet, flag-broadcast}
-use Rattle.programme_laws.proofs.Whole.{items-on, minutes-on, start-on, at-service, at-start, at-minutes, at-items, at-first, items-say, all-behind}
+use Rattle.programme_laws.proofs.Whole.{items-on, minutes-on, start-on, at-service, at-start, at-minutes, at-first, items-say, all-behind}
 
 -- so many descriptors from a place
 abbrev loopFrom : ℕ → List ℕ → ℕ → List Descriptor

@@ -2,22 +2,20 @@
 --   content-split, front-split     its bytes, and what stands behind
 --   item-written                   an item that stands at a place is read there
 --   item-found                     an item that is read stands there
-use mathlib.Core.Path.{_≡_, refl, sym, ap, _∙_}
-use mathlib.Core.Bool.{Bool}
+use mathlib.Core.Path.{_≡_, sym, ap, _∙_}
 use mathlib.Core.List.{List, [], _∷_, _++_, append-assoc, append-nil}
-use Prim.Native.Nat.{ℕ, suc, _+_, _-_, _*_, _/_, _%_, _^_, _<_, _≤_}
+use Prim.Native.Nat.{ℕ, _+_, _-_, _*_, _/_, _%_, _^_, _<_, _≤_}
 use native.Mathlib.Numerals.{add-one}
 use native.Mathlib.Omega.{arith}
 use lib.Dec.{eqb}
 use lib.ListN.{length, drop, length-append, take-append-drop}
 use lib.Seq.{drop-cons, drop-drop}
-use Rattle.base.specs.Bits.{bit}
 use Rattle.base.specs.Bytes.{byte, part}
 use Rattle.base.specs.Octets.{Octets}
 use Rattle.base.proofs.Bytes.{length-part, octets-part}
-use Rattle.programme.specs.Field.{number, only, low}
+use Rattle.programme.specs.Field.{number}
 use Rattle.programme.specs.Table.{contentLinkage, flags, playbackLengthIncluded, playbackDelayIncluded, expirationIncluded, contentSizeIncluded}
-use Rattle.programme.specs.Table.{playbackLengthAt, playbackLength, playbackDelayAt, playbackDelay, expirationAt, expiration, contentSizeAt, contentSize}
+use Rattle.programme.specs.Table.{playbackLengthAt, playbackDelayAt, expirationAt, contentSizeAt}
 use Rattle.programme.specs.Table.{contentNameLengthAt, contentNameLength, contentNameAt, numContentDescriptorsAt, numContentDescriptors, contentDescriptorsAt}
 use Rattle.programme.specs.Run.{runOf}
 use Rattle.programme.specs.Reading.{itemRun, itemAt}
@@ -25,9 +23,9 @@ use Rattle.programme.specs.declared.Run.{Run}
 use Rattle.programme.specs.declared.Item.{Item}
 use Rattle.programme.specs.declared.Step.{Step}
 use Rattle.programme.proofs.Items.{itemTo, item-reads}
-use Rattle.programme_laws.specs.Layout.{digits, Descriptor, loopBytes, included, optionalBytes, Content, flagsOf, frontBytes, nameBytes, contentThen, contentBytes, FitContent}
-use Rattle.programme_laws.specs.Layout.{valueOf, nameIn, loopIn, itemIn}
-use Rattle.programme_laws.proofs.From.{From, long, after, next, first-byte, from-there}
+use Rattle.programme_laws.specs.Layout.{digits, loopBytes, included, optionalBytes, Content, flagsOf, frontBytes, nameBytes, contentThen, contentBytes, FitContent}
+use Rattle.programme_laws.specs.Layout.{nameIn, itemIn}
+use Rattle.programme_laws.proofs.From.{From, long, after, next, first-byte}
 use Rattle.programme_laws.proofs.Digits.{field-says, field-after, field-reads, number-fits}
 use Rattle.programme_laws.proofs.Loops.{run-written, Written, run-reads}
 use Rattle.programme_laws.proofs.Optionals.{opt-after, opt-says, optionalFrom, opt-fits, opt-reads, opt-flag}

@@ -3,9 +3,8 @@
 --   step-first, step-over, step-43, step-exactly, step-range
 --   own-first, own-43, own-44, own-exactly, own-range
 use mathlib.Core.Path.{_≡_, refl, sym, ap, _∙_}
-use mathlib.Core.Bool.{Bool, true, false}
 use mathlib.Core.List.{List}
-use mathlib.Core.Logic.{_↔_, _⊎_, inl, inr, ⊎-elim}
+use mathlib.Core.Logic.{_⊎_, inl, inr, ⊎-elim}
 use Prim.Native.Nat.{ℕ, _+_, _-_, _<_, _≤_}
 use native.Mathlib.Omega.{arith}
 use lib.Dec.{ltb, leb, eqb}
@@ -14,7 +13,6 @@ use borrow.Author.Tests.{ltb-true, ltb-false, leb-true, leb-false, eqb-true, eqb
 use Rattle.base.specs.Bytes.{byte}
 use Rattle.base.proofs.Cases.{by}
 use Rattle.section.specs.Section as section
-use Rattle.section.specs.declared.Header.{Header}
 use Rattle.section.specs.declared.Reading as sections
 use Rattle.section.proofs.ExactlyWhen as sectionwhen
 use Rattle.programme.specs.Table.{contentDescriptorsAt, numContentDescriptors, numDescriptors, descriptorsAt}

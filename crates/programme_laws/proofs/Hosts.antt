@@ -3,15 +3,14 @@
 --   step-untouched, step-item, step-15, step-comes-back, step-over
 --   own-comes-back
 use mathlib.Core.Path.{_≡_, refl, sym, ap, subst, _∙_}
-use mathlib.Core.List.{List, [], _∷_, _++_}
-use mathlib.Core.Logic.{_↔_, _⊎_, ⊎-elim}
+use mathlib.Core.List.{List, _++_}
+use mathlib.Core.Logic.{_⊎_, ⊎-elim}
 use Prim.Native.Nat.{ℕ, _+_, _-_, _*_, _/_, _%_, _^_, _<_, _≤_}
 use native.Mathlib.Omega.{arith}
-use lib.Dec.{ltb, eqb}
-use lib.ListN.{length, getD, drop}
+use lib.Dec.{ltb}
+use lib.ListN.{length, drop}
 use borrow.Author.Tests.{ltb-true, ltb-false, eq-eqb, ne-eqb}
 use Rattle.base.specs.Bytes.{byte}
-use Rattle.base.specs.Octets.{Octets}
 use Rattle.base.proofs.Cases.{by}
 use Rattle.answers.specs.Answers.{Out, out}
 use Rattle.answers.proofs.Puts.{puts-untouched}
@@ -23,7 +22,7 @@ use Rattle.programme.specs.declared.Loop.{Loop}
 use Rattle.programme.specs.declared.Item.{Item}
 use Rattle.programme.specs.declared.Step.{Step}
 use Rattle.programme.specs.declared.Own.{Own}
-use Rattle.programme.proofs.Within.{Ends, own-ends}
+use Rattle.programme.proofs.Within.{own-ends}
 use Rattle.programme_answers.specs.Lent.{readLent, stepLent, itemKind, overKind, loopCode, ownCode, programmeBack, itemBack, ownBack}
 use Rattle.programme_answers.specs.Lent.{Read-Untouched, Read-Accepted, Read-15, Read-Comes-Back, Step-Untouched, Step-Item, Step-15, Step-Comes-Back, Step-Over, Own-Comes-Back}
 use Rattle.programme_answers.proofs.Laws as laws

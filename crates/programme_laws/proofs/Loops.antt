@@ -3,9 +3,9 @@
 --   run-written      descriptors that stand from a place on are a run that ends behind them
 --   run-reads        a run that ends is of descriptors that stand there
 --   counted          their bytes, walked by themselves, give so many, and then the walk is over
-use mathlib.Core.Path.{_≡_, refl, sym, ap, subst, _∙_}
+use mathlib.Core.Path.{_≡_, refl, sym, ap, _∙_}
 use mathlib.Core.List.{List, [], _∷_, _++_, append-assoc, append-nil}
-use Prim.Native.Nat.{ℕ, zero, suc, _+_, _-_, _*_, _/_, _<_, _≤_}
+use Prim.Native.Nat.{ℕ, zero, suc, _+_, _-_, _*_, _/_, _≤_}
 use native.Mathlib.Numerals.{add-one}
 use native.Mathlib.Nat.{add-suc}
 use native.Mathlib.Omega.{arith}
@@ -15,17 +15,15 @@ use lib.ListN.{take-append-drop}
 use Rattle.base.specs.Bytes.{byte, part}
 use Rattle.base.specs.Octets.{Octets}
 use Rattle.base.proofs.Bytes.{length-part, octets-part}
-use Rattle.descriptors.specs.declared.Descriptor as found
 use Rattle.descriptors.specs.declared.Step.{Step}
 use Rattle.descriptors.specs.Loop.{stepOf, descriptorAt}
 use Rattle.descriptors.specs.Walk.{walk, walkOf}
 use Rattle.descriptors.proofs.Steps.{step-over, step-reads, reads-there}
-use Rattle.descriptors.proofs.Walks.{settled}
 use Rattle.programme.specs.Run.{runOf, behind}
 use Rattle.programme.specs.declared.Run.{Run}
 use Rattle.programme.proofs.Runs.{never-ends}
 use Rattle.programme_laws.specs.Walk.{Counted}
-use Rattle.programme_laws.specs.Layout.{Descriptor, loopBytes, FitDescriptor, FitLoop}
+use Rattle.programme_laws.specs.Layout.{Descriptor, loopBytes, FitLoop}
 use Rattle.programme_laws.proofs.From.{From, long, after, next, byte-of, first-byte, from-there}
 
 -- the bytes of a descriptor, and what is behind it

@@ -1,10 +1,10 @@
 -- A field that its flag includes or not, written and read.
 --   opt-after, opt-says            what is written is read, by the flag, and what stands behind it
 --   optionalFrom, opt-reads ..     what is read is what stands there
-use mathlib.Core.Path.{_≡_, refl, sym, ap, _∙_}
+use mathlib.Core.Path.{_≡_}
 use mathlib.Core.Bool.{Bool, true, false}
-use mathlib.Core.List.{List, [], _∷_, _++_}
-use Prim.Native.Nat.{ℕ, _+_, _*_, _/_, _%_, _^_, _<_, _≤_}
+use mathlib.Core.List.{List, _++_}
+use Prim.Native.Nat.{ℕ, _+_, _*_, _/_, _%_, _^_, _≤_}
 use native.Mathlib.Nat.{div-add-mod', mod-lt}
 use native.Mathlib.Omega.{arith}
 use lib.Arith.{digits-mod}
@@ -15,7 +15,7 @@ use borrow.Author.Tests.{eqb-true, eqb-false}
 use Rattle.base.specs.Octets.{Octets}
 use Rattle.base.proofs.Cases.{by}
 use Rattle.programme.specs.Field.{number, only, low}
-use Rattle.programme_laws.specs.Layout.{digits, span, Optional, included, optionalBytes, valueOf, FitOptional}
+use Rattle.programme_laws.specs.Layout.{Optional, included, optionalBytes, valueOf, FitOptional}
 use Rattle.programme_laws.proofs.From.{From}
 use Rattle.programme_laws.proofs.Digits.{field-says, field-after, field-reads, number-fits}
 

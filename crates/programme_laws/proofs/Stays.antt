@@ -1,12 +1,12 @@
 -- What stands behind an item has no part in it (`specs/Theorems.antt` has the words).
 --   stays
-use mathlib.Core.Path.{_≡_, refl, sym, ap, _∙_}
+use mathlib.Core.Path.{_≡_, sym, ap, _∙_}
 use mathlib.Core.List.{List, _++_}
 use Prim.Native.Nat.{ℕ, _+_, _-_, _<_, _≤_}
 use native.Mathlib.Nat.{zero-add}
 use native.Mathlib.Omega.{arith}
-use lib.ListN.{length, take, drop, length-take, length-append, take-append-drop}
-use lib.Seq.{getD-take, drop-drop, take-append-seam}
+use lib.ListN.{length, take, drop, length-take, take-append-drop}
+use lib.Seq.{getD-take, take-append-seam}
 use Rattle.base.specs.Bytes.{byte, part}
 use Rattle.base.proofs.Bytes.{part-part}
 use Rattle.programme.specs.Table.{numContentItems, contentDescriptorsAt}
@@ -14,10 +14,10 @@ use Rattle.programme.specs.Reading.{programmeOf, itemAt, stepOf}
 use Rattle.programme.specs.declared.Item.{Item}
 use Rattle.programme.specs.declared.Step.{Step}
 use Rattle.programme.proofs.Items as items
-use Rattle.programme_laws.specs.Layout.{Content, contentThen, contentBytes, itemIn}
-use Rattle.programme_laws.specs.Theorems.{Begun, Stays}
+use Rattle.programme_laws.specs.Layout.{contentThen, contentBytes, itemIn}
+use Rattle.programme_laws.specs.Theorems.{Stays}
 use Rattle.programme_laws.proofs.From.{From}
-use Rattle.programme_laws.proofs.Contents.{content-split, item-written, Found, item-found}
+use Rattle.programme_laws.proofs.Contents.{content-split, item-written, item-found}
 use Rattle.programme_laws.proofs.ExactlyWhen.{begun-reads, step-exactly}
 use Rattle.programme_laws.proofs.Walks.{step-stands}
 

@@ -3,39 +3,36 @@
 --   items-tile, settled, tiling, short
 --   one-reading, one-step, one-own
 use mathlib.Core.Path.{_≡_, refl, sym, ap, _∙_}
-use mathlib.Core.List.{List, [], _∷_, _++_, append-assoc, append-nil}
+use mathlib.Core.List.{List, [], _∷_, _++_, append-assoc}
 use Prim.Native.Nat.{ℕ, zero, suc, _+_, _-_, _*_, _<_, _≤_}
 use native.Mathlib.Numerals.{add-one}
 use native.Mathlib.Nat.{add-suc}
 use native.Mathlib.Omega.{arith}
 use lib.Dec.{leb}
 use lib.ListN.{length, take, drop, length-drop, length-append, take-append-drop}
-use lib.Seq.{drop-cons, drop-drop, drop-length, take-append-seam, take-length}
+use lib.Seq.{drop-cons, drop-drop, take-append-seam, take-length}
 use borrow.Author.Tests.{leb-true, leb-false}
 use Rattle.base.specs.Bytes.{byte, part}
 use Rattle.base.specs.Octets.{Octets}
 use Rattle.base.proofs.Bytes.{part-add}
 use Rattle.base.proofs.Cases.{by}
 use Rattle.descriptors.specs.Walk as loops
-use Rattle.programme.specs.Table.{numContentItems, contentNameLengthAt, contentNameLength, contentNameAt, numContentDescriptors, numContentDescriptorsAt, contentDescriptorsAt, numDescriptors}
+use Rattle.programme.specs.Table.{numContentItems, contentNameLength, contentNameAt, numContentDescriptors, numContentDescriptorsAt, contentDescriptorsAt, numDescriptors}
 use Rattle.programme.specs.Run.{runOf}
-use Rattle.programme.specs.Reading.{readOf, programmeOf, itemAt, stepOf, ownOf}
+use Rattle.programme.specs.Reading.{readOf, stepOf}
 use Rattle.programme.specs.declared.Run.{Run}
 use Rattle.programme.specs.declared.Programme.{Programme}
 use Rattle.programme.specs.declared.Reading.{Reading}
-use Rattle.programme.specs.declared.Loop.{Loop}
 use Rattle.programme.specs.declared.Item.{Item}
 use Rattle.programme.specs.declared.Step.{Step}
-use Rattle.programme.specs.declared.Own.{Own}
 use Rattle.programme.proofs.Items as items
-use Rattle.programme.proofs.Items.{itemTo}
 use Rattle.programme.proofs.Readings.{listed}
 use Rattle.programme.proofs.Runs.{run-lies}
-use Rattle.programme.proofs.Within.{Ends, own-ends, Stands, item-stands}
+use Rattle.programme.proofs.Within.{own-ends, Stands, item-stands}
 use Rattle.programme_laws.specs.Walk.{onward, walk, walkOf, reached, tiles, Counted}
 use Rattle.programme_laws.specs.Layout.{loopBytes}
 use Rattle.programme_laws.specs.Theorems.{Inside, Item-Tiling, Item-Walk, Own-Walk, Items-Tile, Settled, Tiling, Short, One-Reading, One-Step, One-Own}
-use Rattle.programme_laws.proofs.Loops.{Written, run-reads, counted}
+use Rattle.programme_laws.proofs.Loops.{run-reads, counted}
 
 -- one byte, and what is behind it; so many bytes, and what is behind them
 pub one : (s : List ℕ) (p : ℕ) → p < length s → drop p s ≡ byte s p ∷ drop (p + 1) s

@@ -4,23 +4,21 @@
 --   read-bytes                     what is read as a list is its bytes
 --   exactly, stays
 use mathlib.Core.Path.{_≡_, refl, sym, ap, _∙_}
-use mathlib.Core.List.{List, [], _∷_, _++_, append-assoc, append-nil}
-use mathlib.Core.Logic.{_↔_, _⊎_, inl, inr, ⊎-elim}
+use mathlib.Core.List.{List, [], _∷_, _++_, append-nil}
+use mathlib.Core.Logic.{_⊎_, inl, inr, ⊎-elim}
 use Prim.Native.Nat.{ℕ, zero, suc, _+_, _-_, _*_, _/_, _%_, _^_, _<_, _≤_}
-use native.Mathlib.Numerals.{add-one}
-use native.Mathlib.Nat.{suc-add, add-suc, div-add-mod'}
+use native.Mathlib.Nat.{suc-add, div-add-mod'}
 use native.Mathlib.Omega.{arith}
-use lib.ListN.{length, take, drop, length-append, take-append-drop, length-take}
-use lib.Seq.{drop-length, drop-append-le, length-take-le}
-use Rattle.base.specs.Bytes.{byte, part}
+use lib.ListN.{length, drop}
+use lib.Seq.{drop-length}
+use Rattle.base.specs.Bytes.{byte}
 use Rattle.base.specs.Octets.{Octets}
-use Rattle.section.specs.declared.Header.{Header}
 use Rattle.section.proofs.Laws.{sound-facts}
 use Rattle.programme.specs.Field.{number}
-use Rattle.programme.specs.Table.{numContentItems, timeSpanLength, serviceId, timeSpanStart, contentDescriptorsAt, numDescriptors}
+use Rattle.programme.specs.Table.{numContentItems, timeSpanLength, serviceId, timeSpanStart, numDescriptors}
 use Rattle.programme.specs.Run.{runOf}
 use Rattle.programme.specs.Reading.{readOf, programmeOf, itemOf, itemAt, ownAt, stepOf, ownOf, ownRun}
-use Rattle.programme.specs.Answer.{readingTold, stepTold, ownTold}
+use Rattle.programme.specs.Answer.{readingTold, ownTold}
 use Rattle.programme.specs.declared.Run.{Run}
 use Rattle.programme.specs.declared.Programme.{Programme}
 use Rattle.programme.specs.declared.Reading.{Reading}
@@ -30,15 +28,15 @@ use Rattle.programme.specs.declared.Step.{Step}
 use Rattle.programme.specs.declared.Own.{Own}
 use Rattle.programme.proofs.Items as items
 use Rattle.programme.proofs.Readings.{Listed, listed}
-use Rattle.programme.proofs.Within.{Ends, own-ends, Stands, item-stands}
+use Rattle.programme.proofs.Within.{Ends, own-ends, item-stands}
 use Rattle.programme_laws.specs.Walk.{onward, walk, walkOf, reached, Answers, answersTo, Accepted, Unrefused}
-use Rattle.programme_laws.specs.Layout.{digits, Descriptor, loopBytes, Content, contentThen, contentBytes, contentsThen, Body, bodyOf, FitContent, FitContents, FitBody}
+use Rattle.programme_laws.specs.Layout.{digits, Descriptor, loopBytes, Content, contentThen, contentBytes, contentsThen, Body, bodyOf, FitContents, FitBody}
 use Rattle.programme_laws.specs.Layout.{loopIn, itemIn, stepsIn, pastAll, programmeIn, answersOf}
 use Rattle.programme_laws.specs.Theorems.{OfNrtIt, Begun, Exactly}
-use Rattle.programme_laws.proofs.From.{From, long, after, next, first-byte, from-there}
+use Rattle.programme_laws.proofs.From.{From, long, next, first-byte}
 use Rattle.programme_laws.proofs.Digits.{field-says, field-after, field-reads, number-fits}
-use Rattle.programme_laws.proofs.Loops.{run-written, Written, run-reads}
-use Rattle.programme_laws.proofs.Contents.{content-split, item-written, item-behind, Found, item-found}
+use Rattle.programme_laws.proofs.Loops.{run-written, run-reads}
+use Rattle.programme_laws.proofs.Contents.{item-written, item-behind, item-found}
 use Rattle.programme_laws.proofs.ExactlyWhen.{begun-reads, ItemWay, item-way, read-range, own-range}
 use Rattle.programme_laws.proofs.Walks.{one}
 

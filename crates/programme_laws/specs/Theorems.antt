@@ -1,7 +1,7 @@
 -- What is proved of programme lists, in words of the payload `s`: each statement is a theorem of `proofs/` by the same name in small letters.
 use Prim.Native.Nat.{ℕ, _+_, _-_, _*_, _<_, _≤_}
 use mathlib.Core.Path.{_≡_}
-use mathlib.Core.List.{List, [], _∷_, _++_}
+use mathlib.Core.List.{List, _∷_, _++_}
 use mathlib.Core.Logic.{_↔_, _⊎_}
 use lib.ListN.{length, take, drop}
 use Rattle.base.specs.Bytes.{byte, part}
@@ -12,8 +12,7 @@ use Rattle.section.specs.declared.Reading as sections
 use Rattle.descriptors.specs.Walk as loops
 use Rattle.programme.specs.Table.{numContentItems, contentDescriptorsAt, numContentDescriptors, numDescriptors, descriptorsAt}
 use Rattle.programme.specs.Run.{runOf}
-use Rattle.programme.specs.Reading.{readOf, programmeOf, itemOf, itemRun, ownRun, stepOf, ownOf}
-use Rattle.programme.specs.Answer.{readingTold, stepTold, ownTold}
+use Rattle.programme.specs.Reading.{readOf, programmeOf, itemOf, ownRun, stepOf, ownOf}
 use Rattle.programme.specs.declared.Run.{Run}
 use Rattle.programme.specs.declared.Programme.{Programme}
 use Rattle.programme.specs.declared.Reading.{Reading}
@@ -21,7 +20,7 @@ use Rattle.programme.specs.declared.Loop.{Loop}
 use Rattle.programme.specs.declared.Item.{Item}
 use Rattle.programme.specs.declared.Step.{Step}
 use Rattle.programme.specs.declared.Own.{Own}
-use Rattle.programme_laws.specs.Walk.{walk, walkOf, reached, tiles, Answers, answersTo, Unrefused, Accepted, Counted}
+use Rattle.programme_laws.specs.Walk.{walk, walkOf, reached, tiles, Answers, answersTo, Unrefused, Counted}
 use Rattle.programme_laws.specs.Layout.{Body, FitBody, bodyOf, answersOf}
 
 module _ (s : List ℕ) where

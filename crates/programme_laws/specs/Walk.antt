@@ -2,7 +2,6 @@
 use Prim.Native.Nat.{ℕ, zero, suc, _+_, _-_}
 use mathlib.Core.Path.{_≡_}
 use mathlib.Core.List.{List, [], _∷_, _++_}
-use lib.ListN.{length}
 use Rattle.base.specs.Bytes.{part}
 use Rattle.descriptors.specs.declared.Step as loops
 use Rattle.programme.specs.Table.{firstItemAt, numContentItems}

@@ -5,9 +5,6 @@ use mathlib.Core.Path.{_∙_, sym}
 use Rattle.programme.proofs.Numbers.{five-fits}
 use Rattle.programme.proofs.content_size.Statement.{statement}
 use Rattle.programme.proofs.content_size.Tie as tie
-use Rattle.programme.proofs.content_size.Reads as reads
-use Rattle.programme.proofs.content_size.Lts as lts
-use Rattle.programme.proofs.five.Reads as five-reads
 
 five-requires : tie.Need-five-requires
 five-requires c κs = let h = c .before .before .pre in rw (eq-eqb _ _ (c .if1 .taken)) at h

@@ -1,14 +1,10 @@
 -- `programme::count_items` meets its contract: at each return the tests that led there say which row holds.
-use mathlib.Core.Path.{_≡_, sym, ap, _∙_}
-use native.Mathlib.Omega.{arith}
+use mathlib.Core.Path.{sym, ap, _∙_}
 use Rattle.programme.specs.Count.{countOf}
 use Rattle.programme.proofs.Readings.{read-refused, read-other, read-short, read-whole}
 use borrow.Author.Needs.{needs}
 use Rattle.programme.proofs.count_items.Statement.{statement}
 use Rattle.programme.proofs.count_items.Tie as tie
-use Rattle.programme.proofs.count_items.Reads as reads
-use Rattle.programme.proofs.count_items.Lts as lts
-use Rattle.section.proofs.read.Reads as read-reads
 
 read-requires : tie.Need-read-requires
 read-requires c κs = search needs

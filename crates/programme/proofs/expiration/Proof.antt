@@ -5,9 +5,6 @@ use mathlib.Core.Path.{_∙_, sym}
 use Rattle.programme.proofs.Numbers.{four-fits}
 use Rattle.programme.proofs.expiration.Statement.{statement}
 use Rattle.programme.proofs.expiration.Tie as tie
-use Rattle.programme.proofs.expiration.Reads as reads
-use Rattle.programme.proofs.expiration.Lts as lts
-use Rattle.programme.proofs.four.Reads as four-reads
 
 four-requires : tie.Need-four-requires
 four-requires c κs = let h = c .before .before .pre in rw (eq-eqb _ _ (c .if1 .taken)) at h

@@ -4,11 +4,6 @@ use Rattle.programme.proofs.Numbers.{five-is}
 use borrow.Author.Needs.{needs}
 use Rattle.programme.proofs.five.Statement.{statement}
 use Rattle.programme.proofs.five.Tie as tie
-use Rattle.programme.proofs.five.Reads as reads
-use Rattle.programme.proofs.five.Lts as lts
-use Rattle.base.proofs.full.Reads as full-reads
-use Rattle.base.proofs.half.Reads as half-reads
-use Rattle.programme.proofs.four.Reads as four-reads
 
 four-requires : tie.Need-four-requires
 four-requires c κs = search needs

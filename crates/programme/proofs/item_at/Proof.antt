@@ -1,5 +1,5 @@
 -- `programme::item_at` meets its promise: in each arm the count is the one that `count_items` promises.
-use mathlib.Core.Path.{_≡_, sym, ap, _∙_}
+use mathlib.Core.Path.{sym, _∙_}
 use native.Mathlib.Omega.{arith}
 use Rattle.programme.proofs.Readings.{listed}
 use Rattle.programme.proofs.Counts.{no-items, items-of}
@@ -7,10 +7,6 @@ use Rattle.programme.proofs.Items.{step-refused, step-over, step-item}
 use borrow.Author.Needs.{needs}
 use Rattle.programme.proofs.item_at.Statement.{statement}
 use Rattle.programme.proofs.item_at.Tie as tie
-use Rattle.programme.proofs.item_at.Reads as reads
-use Rattle.programme.proofs.item_at.Lts as lts
-use Rattle.programme.proofs.count_items.Reads as count-items-reads
-use Rattle.programme.proofs.item_in.Reads as item-in-reads
 
 count-items-requires : tie.Need-count-items-requires
 count-items-requires c κs = search needs

@@ -1,6 +1,6 @@
 -- `programme::item_in` meets its contract: the places rise from field to field, so that a field passes the end where a later place does.
 use native.Mathlib.Omega.{arith}
-use mathlib.Core.Path.{_≡_, sym, ap, _∙_}
+use mathlib.Core.Path.{sym, ap, _∙_}
 use denote.Ref.{now}
 use Rattle.programme.proofs.Items.{item-early, item-cut, item-past, item-reads}
 use Rattle.programme.specs.declared.Step.{Step}
@@ -9,17 +9,6 @@ use Rattle.programme.proofs.Places.{Seen, name-at, count-at, loop-run, 
 use borrow.Author.Needs.{needs}
 use Rattle.programme.proofs.item_in.Statement.{statement}
 use Rattle.programme.proofs.item_in.Tie as tie
-use Rattle.programme.proofs.item_in.Reads as reads
-use Rattle.programme.proofs.item_in.Lts as lts
-use Rattle.base.proofs.half.Reads as half-reads
-use Rattle.base.proofs.wide.Reads as wide-reads
-use Rattle.programme.proofs.content_size.Reads as content-size-reads
-use Rattle.programme.proofs.expiration.Reads as expiration-reads
-use Rattle.programme.proofs.four.Reads as four-reads
-use Rattle.programme.proofs.run_from.Reads as run-from-reads
-use Rattle.programme.proofs.seconds.Reads as seconds-reads
-use Rattle.programme.proofs.two.Reads as two-reads
-use Rattle.programme.proofs.width.Reads as width-reads
 
 returns : tie.Need-returns
 returns c = item-early _ _ (c .if1 .taken)

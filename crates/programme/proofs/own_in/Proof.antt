@@ -1,13 +1,10 @@
 -- `programme::own_in` meets its contract: each return is a way out of the loop.
-use mathlib.Core.Path.{_≡_, sym, ap, _∙_}
+use mathlib.Core.Path.{sym, _∙_}
 use native.Mathlib.Omega.{arith}
 use Rattle.programme.proofs.Items.{own-early, own-cut, own-past, own-left, own-reads}
 use borrow.Author.Needs.{needs}
 use Rattle.programme.proofs.own_in.Statement.{statement}
 use Rattle.programme.proofs.own_in.Tie as tie
-use Rattle.programme.proofs.own_in.Reads as reads
-use Rattle.programme.proofs.own_in.Lts as lts
-use Rattle.programme.proofs.run_from.Reads as run-from-reads
 
 returns : tie.Need-returns
 returns c = own-early _ _ (c .if1 .taken)

@@ -1,15 +1,10 @@
 -- `programme::read` meets its promise: the fields stand where a list that is not refused has them.
-use mathlib.Core.Path.{_≡_, sym, ap, _∙_}
+use mathlib.Core.Path.{sym, _∙_}
 use native.Mathlib.Omega.{arith}
 use Rattle.programme.proofs.Counts.{no-items, items-of, items-long, read-made}
 use borrow.Author.Needs.{needs}
 use Rattle.programme.proofs.read.Statement.{statement}
 use Rattle.programme.proofs.read.Tie as tie
-use Rattle.programme.proofs.read.Reads as reads
-use Rattle.programme.proofs.read.Lts as lts
-use Rattle.programme.proofs.count_items.Reads as count-items-reads
-use Rattle.programme.proofs.four.Reads as four-reads
-use Rattle.programme.proofs.two.Reads as two-reads
 
 count-items-requires : tie.Need-count-items-requires
 count-items-requires c κs = search needs

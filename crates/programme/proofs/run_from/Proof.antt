@@ -1,14 +1,10 @@
 -- `programme::run_from` meets its contract: what is left of the run from here is the run.
 use borrow.Author.Needs.{needs}
-use native.Mathlib.Omega.{arith}
 use mathlib.Core.Path.{_≡_, refl, sym, _∙_}
 use Rattle.programme.specs.Run.{runOf}
 use Rattle.programme.proofs.Runs.{run-none, run-next, run-over, run-refused}
 use Rattle.programme.proofs.run_from.Statement.{statement}
 use Rattle.programme.proofs.run_from.Tie as tie
-use Rattle.programme.proofs.run_from.Reads as reads
-use Rattle.programme.proofs.run_from.Lts as lts
-use Rattle.descriptors.proofs.step_at.Reads as step-at-reads
 
 abbrev Inv-loop : tie.InvT-loop
 Inv-loop bytes from count at₀ left₀ at left = runOf left bytes at ≡ runOf count bytes from

@@ -3,9 +3,6 @@ use borrow.Author.Tests.{eq-eqb, ne-eqb}
 use borrow.Author.Needs.{needs}
 use Rattle.programme.proofs.seconds.Statement.{statement}
 use Rattle.programme.proofs.seconds.Tie as tie
-use Rattle.programme.proofs.seconds.Reads as reads
-use Rattle.programme.proofs.seconds.Lts as lts
-use Rattle.programme.proofs.three.Reads as three-reads
 
 div-if1 : tie.Need-div-if1
 div-if1 c = search needs

@@ -4,11 +4,6 @@ use Rattle.programme.proofs.Numbers.{three-is}
 use borrow.Author.Needs.{needs}
 use Rattle.programme.proofs.three.Statement.{statement}
 use Rattle.programme.proofs.three.Tie as tie
-use Rattle.programme.proofs.three.Reads as reads
-use Rattle.programme.proofs.three.Lts as lts
-use Rattle.base.proofs.full.Reads as full-reads
-use Rattle.base.proofs.half.Reads as half-reads
-use Rattle.programme.proofs.two.Reads as two-reads
 
 two-requires : tie.Need-two-requires
 two-requires c κs = search needs

@@ -4,9 +4,6 @@ use Rattle.programme.proofs.Numbers.{two-is}
 use borrow.Author.Needs.{needs}
 use Rattle.programme.proofs.two.Statement.{statement}
 use Rattle.programme.proofs.two.Tie as tie
-use Rattle.programme.proofs.two.Reads as reads
-use Rattle.programme.proofs.two.Lts as lts
-use Rattle.base.proofs.half.Reads as half-reads
 
 shared-slice-read-half : tie.Need-shared-slice-read-half
 shared-slice-read-half c = search needs

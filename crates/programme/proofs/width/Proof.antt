@@ -4,8 +4,6 @@ use borrow.Author.Tests.{eq-eqb, ne-eqb}
 use borrow.Author.Needs.{needs}
 use Rattle.programme.proofs.width.Statement.{statement}
 use Rattle.programme.proofs.width.Tie as tie
-use Rattle.programme.proofs.width.Reads as reads
-use Rattle.programme.proofs.width.Lts as lts
 
 div-if1 : tie.Need-div-if1
 div-if1 c = search needs

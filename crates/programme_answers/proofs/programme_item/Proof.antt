@@ -1,15 +1,9 @@
 -- `programme_item` meets its promise: in each arm the step is the one that `programme::item_at` promises.
-use mathlib.Core.Path.{_≡_, sym, ap, _∙_}
-use native.Mathlib.Omega.{arith}
+use mathlib.Core.Path.{sym, _∙_}
 use Rattle.programme_answers.proofs.Laws.{step-refused, step-over, step-short, step-put}
 use borrow.Author.Needs.{needs}
 use Rattle.programme_answers.proofs.programme_item.Statement.{statement}
 use Rattle.programme_answers.proofs.programme_item.Tie as tie
-use Rattle.programme_answers.proofs.programme_item.Reads as reads
-use Rattle.programme_answers.proofs.programme_item.Lts as lts
-use Rattle.base.proofs.half.Reads as half-reads
-use Rattle.programme.proofs.item_at.Reads as item-at-reads
-use Rattle.programme_answers.proofs.put_item.Reads as put-item-reads
 
 item-at-requires : tie.Need-item-at-requires
 item-at-requires c κs = search needs

@@ -1,15 +1,10 @@
 -- `programme_own` meets its promise: in each arm the loop is the one that `programme::own_loop` promises.
-use mathlib.Core.Path.{_≡_, sym, ap, _∙_}
-use native.Mathlib.Omega.{arith}
+use mathlib.Core.Path.{sym, ap, _∙_}
 use Rattle.programme.proofs.Within.{own-within}
 use Rattle.programme_answers.specs.Lent.{ownCode}
 use borrow.Author.Needs.{needs}
 use Rattle.programme_answers.proofs.programme_own.Statement.{statement}
 use Rattle.programme_answers.proofs.programme_own.Tie as tie
-use Rattle.programme_answers.proofs.programme_own.Reads as reads
-use Rattle.programme_answers.proofs.programme_own.Lts as lts
-use Rattle.programme.proofs.own_loop.Reads as own-loop-reads
-use Rattle.programme_answers.proofs.loop_code.Reads as loop-code-reads
 
 own-loop-requires : tie.Need-own-loop-requires
 own-loop-requires c κs = search needs

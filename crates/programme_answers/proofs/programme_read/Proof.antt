@@ -1,5 +1,5 @@
 -- `programme_read` meets its promise: in each arm the reading is the one that `programme::read` promises.
-use mathlib.Core.Path.{_≡_, refl, sym, ap, _∙_}
+use mathlib.Core.Path.{refl, sym, _∙_}
 use native.Mathlib.Omega.{arith}
 use lib.ListN.{length-set}
 use lib.Seq.{sets-eq}
@@ -8,11 +8,6 @@ use Rattle.programme_answers.proofs.Laws.{read-refused, read-short, rea
 use borrow.Author.Needs.{needs}
 use Rattle.programme_answers.proofs.programme_read.Statement.{statement}
 use Rattle.programme_answers.proofs.programme_read.Tie as tie
-use Rattle.programme_answers.proofs.programme_read.Reads as reads
-use Rattle.programme_answers.proofs.programme_read.Lts as lts
-use Rattle.answers.proofs.wider.Reads as wider-reads
-use Rattle.base.proofs.full.Reads as full-reads
-use Rattle.programme.proofs.read.Reads as read-reads
 
 read-requires : tie.Need-read-requires
 read-requires c κs = search needs

@@ -6,8 +6,6 @@ use Rattle.programme.specs.Answer.{itemNumbers}
 use borrow.Author.Needs.{needs}
 use Rattle.programme_answers.proofs.put_item.Statement.{statement}
 use Rattle.programme_answers.proofs.put_item.Tie as tie
-use Rattle.programme_answers.proofs.put_item.Reads as reads
-use Rattle.programme_answers.proofs.put_item.Lts as lts
 
 cast-fields : tie.Need-cast-fields
 cast-fields c = search needs
