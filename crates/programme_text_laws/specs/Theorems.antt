@@ -9,6 +9,7 @@ use Rattle.section.specs.declared.Header.{Header}
 use Rattle.file.specs.Scan.{scanOf, foundAt}
 use Rattle.file.specs.declared.Scan.{Scan}
 use Rattle.text.specs.Clean.{Clean}
+use Rattle.programme_laws.specs.Walk.{answersTo, Unrefused}
 use Rattle.programme_lines.specs.Lines.{wholeLine, notWholeLine}
 use Rattle.programme_section.specs.Section.{sectionRead}
 use Rattle.programme_listing.specs.Listing.{payloadOf, textOf}
@@ -16,6 +17,10 @@ use Rattle.programme_listing.specs.Listing.{payloadOf, textOf}
 -- a line is the last of a text of more than one: before it stands the newline that ends the line before
 abbrev pub LastLine : List ℕ → List ℕ → Type 0
 LastLine line t = (u : List ℕ) × (t ≡ u ++ (10 ∷ line))
+
+-- the text calls a payload read exactly when nothing that a host is answered about it is refused: its fields, its steps and its own loop
+abbrev pub Read-Exactly : List ℕ → Type 0
+Read-Exactly s = (sectionRead s ≡ true) ↔ Unrefused (answersTo s)
 
 module _ (file : List ℕ) where
   -- no byte of the text of a file of bytes can disturb a terminal
@@ -30,9 +35,9 @@ module _ (file : List ℕ) where
   abbrev pub payload : ℕ → List ℕ
   payload n = payloadOf file (scanOf file .starts) (scanOf file .lengths) n
 
-  -- section n is read to its end
+  -- section n is read to its end: nothing that a host is answered about it is refused
   abbrev pub Read : ℕ → Type 0
-  Read n = sectionRead (payload n) ≡ true
+  Read n = Unrefused (answersTo (payload n))
 
   -- every section from 0 to the last is held and read
   abbrev pub EachRead : ℕ → Type 0
