@@ -1,6 +1,7 @@
 -- Pieces of text whose bytes are newlines or from 32 to 126.
 --   Plain, plain-join, plain-word     byte by byte; of a join; of a word that is written out
---   plain-decimal, plain-escaped      of a number, and of any name
+--   plain-decimal, plain-lister       of a number, and of one of the lister's
+--   plain-escaped                     of any name
 use mathlib.Core.Path.{_≡_, refl}
 use mathlib.Core.Bool.{Bool, true, false, _&&_, _||_}
 use mathlib.Core.List.{List, [], _∷_, _++_}
@@ -13,6 +14,7 @@ use borrow.Author.Tests.{ltb-true, ltb-false, leb-true, eqb-true}
 use Rattle.base.specs.Bytes.{byte}
 use Rattle.base.specs.Octets.{Octets}
 use Rattle.base.proofs.Cases.{by, and-left, and-right}
+use Rattle.file_listing.specs.Words as words
 use Rattle.file_listing.specs.Words.{place}
 use Rattle.text.specs.Words.{places, decimal, hexDigit, plain, shown, escaped}
 use Rattle.text.specs.Clean.{Clean}
@@ -46,10 +48,10 @@ pub plain-join : {a b : List ℕ} → Plain a → Plain b → Plain (a ++ b)
 plain-join {a} {b} p q = join a b p q
 
 -- a word that is written out is tested by computing
-good : ℕ → Bool
+unfoldable pub good : ℕ → Bool
 good b = eqb b 10 || (leb 32 b && leb b 126)
 
-pub all-good : List ℕ → Bool
+unfoldable pub all-good : List ℕ → Bool
 all-good [] = true
 all-good (b ∷ t) = good b && all-good t
 
@@ -83,6 +85,13 @@ plain-places (suc k) n = plain-join (plain-place (10 ^ suc k) n) (plain-places k
 pub plain-decimal : (n : ℕ) → Plain (decimal n)
 unfolding decimal
 plain-decimal n = plain-join (plain-places 12 n) (more _ (printed _ (omega arith) (omega arith)) none)
+
+pub plain-lister : (n : ℕ) → Plain (words.decimal n)
+unfolding words.decimal
+plain-lister n =
+    plain-join (plain-place 10000 n)
+    (plain-join (plain-place 1000 n)
+    (plain-join (plain-place 100 n) (plain-join (plain-place 10 n) (more _ (printed _ (omega arith) (omega arith)) none))))
 
 hex-printed : (d : ℕ) → d < 16 → Good (hexDigit d)
 unfolding hexDigit

@@ -1,0 +1,4 @@
+pub mod Clean
+pub mod Ended
+pub mod Read
+pub mod Whole
