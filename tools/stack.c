@@ -18,6 +18,8 @@ static uint32_t programme[KHUMSAFIL_PROGRAMME_FIELDS];
 /* A list of one item, with two descriptors. */
 static const uint8_t nrt_it[] = {0xDF, 0x70, 0x1E, 0, 0, 0xC7, 0, 0,    12,   80, 0,    0, 0, 0,    0, 60, 1,
                                  0,    0,    0,    1, 0, 0,    2, 0x41, 0x42, 2,  0xC8, 1, 7, 0xC6, 0, 0};
+/* A shelf file that holds it. */
+static uint8_t nrt_it_file[3 + sizeof nrt_it];
 static const uint8_t trigger[] = {0, 0, 4, 0, 1, 0x41, 0x42, 5, 0, 2, 'h', 't', 0, 1, 7};
 static volatile uint64_t answer;
 
@@ -26,7 +28,7 @@ static void make_section(uint8_t version, uint8_t number, uint8_t last) {
     memcpy(section, head, sizeof head);
 }
 
-/* The largest table on a shelf, its file, a clock with 32 waiting, and a trigger's numbers. */
+/* The largest table on a shelf, its file, the file of a list, a clock with 32 waiting, and a trigger's numbers. */
 static void prepare(void) {
     uint8_t i;
     khumsafil_raw_shelf_begin(SHELF);
@@ -35,6 +37,8 @@ static void prepare(void) {
         khumsafil_raw_shelf_offer(SHELF, section, sizeof section);
     }
     khumsafil_raw_shelf_save(SHELF, KEY, file, sizeof file);
+    nrt_it_file[0] = nrt_it_file[1] = 1, nrt_it_file[2] = sizeof nrt_it;
+    memcpy(nrt_it_file + 3, nrt_it, sizeof nrt_it);
     khumsafil_raw_clock_fresh(CLOCK);
     for (i = 0; i < 32; i++)
         khumsafil_raw_clock_offer(CLOCK, i % 8, i, i % 4, 100u - i);
@@ -85,6 +89,9 @@ static void programme_item(void) {
     answer = khumsafil_raw_programme_item(nrt_it, sizeof nrt_it, KHUMSAFIL_FIRST_ITEM, 0, item, KHUMSAFIL_ITEM_FIELDS);
 }
 static void programme_own(void) { answer = khumsafil_raw_programme_own(nrt_it, sizeof nrt_it, sizeof nrt_it - 1); }
+static void programme_list(void) {
+    answer = khumsafil_raw_programme_list(nrt_it_file, sizeof nrt_it_file, out, sizeof out);
+}
 static void fresh(void) { answer = khumsafil_raw_clock_fresh(CLOCK); }
 static void clock_offer(void) {
     clock_record[2] = 31;
@@ -121,6 +128,7 @@ static const struct {
              {"khumsafil_raw_programme_read", programme_read},
              {"khumsafil_raw_programme_item", programme_item},
              {"khumsafil_raw_programme_own", programme_own},
+             {"khumsafil_raw_programme_list", programme_list},
              {"khumsafil_raw_clock_fresh", fresh},
              {"khumsafil_raw_clock_offer", clock_offer},
              {"khumsafil_raw_clock_move", move},

@@ -17,7 +17,12 @@ pub fn plain(program: impl AsRef<OsStr>) -> Command {
             command.env_remove(name);
         }
     }
-    for name in ["CARGO_TARGET_DIR", "DESTDIR", "KHUMSAFIL_LISTER"] {
+    for name in [
+        "CARGO_TARGET_DIR",
+        "DESTDIR",
+        "KHUMSAFIL_LISTER",
+        "KHUMSAFIL_PROGRAMME_LISTER",
+    ] {
         command.env_remove(name);
     }
     command

@@ -9,6 +9,7 @@ mod shelf;
 mod writer;
 
 use crate::beside;
+use crate::files::Parts;
 use crate::programmes::TABLE;
 use crate::tally::Tally;
 use feed::Feed;
@@ -88,8 +89,8 @@ fn triggers(bytes: &[u8]) {
 }
 
 /// A list that is walked, and a place in it or past it that is asked for an item and for the table's own loop, with room for so
-/// many numbers. Where the first byte is odd, the payload has the length that it has in its length field, and where the bit above
-/// is 1 the header of a programme list.
+/// many numbers; and the staff's text of a file that holds the list alone. Where the first byte is odd, the payload has the length
+/// that it has in its length field, and where the bit above is 1 the header of a programme list.
 fn programmes(bytes: &[u8]) {
     let mut feed = Feed::new(bytes);
     let (how, room) = (feed.byte(), usize::from(feed.byte()));
@@ -112,4 +113,5 @@ fn programmes(bytes: &[u8]) {
     beside::programmes::step(&payload, at, number);
     beside::programmes::step_in_room(&payload, at, number, room);
     beside::programmes::own(&payload, at);
+    beside::programmes::text(&Parts::of(vec![payload]).bytes(), room);
 }

@@ -345,3 +345,18 @@ pub fn file(random: &mut Random, kind: &str) -> Vec<u8> {
     }
     files::damaged(random, kind, Parts::of(sections))
 }
+
+/// A shelf file of sixteen sound lists of items of a shape, each of exactly 1,024 bytes: as large as a file can be.
+pub fn full_file(random: &mut Random, shape: Shape) -> Vec<u8> {
+    let mut table = Fields {
+        table_id: TABLE,
+        ..Fields::random(random)
+    };
+    table.last = 15;
+    let sections = (0..=table.last).map(|number| {
+        let mut payload = full(random, shape).payload;
+        put_header(&mut payload, Fields { number, ..table }, random.byte());
+        payload
+    });
+    Parts::of(sections.collect()).bytes()
+}

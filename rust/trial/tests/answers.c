@@ -464,6 +464,47 @@ static int programmes(void) {
     return 0;
 }
 
+/* The text for staff of a file that holds the list above alone, which is number 0 of last 1. */
+static int told(void) {
+    static const char text[] = "table 223 key 4096 version 3 last 1\n"
+                               "section 0 service 3152 start 1000000800 minutes 1440 items 2\n"
+                               "item 0 linkage 66\n"
+                               "updates 1 fragment 0 protected 0 master 1 internet 0 broadcast 1\n"
+                               "playback 5400\n"
+                               "delay 30\n"
+                               "expires 1300000000\n"
+                               "size 73400320\n"
+                               "name Ferry\n"
+                               "descriptors 2 bytes 14\n"
+                               "item 1 linkage 4294967295\n"
+                               "updates 0 fragment 0 protected 0 master 0 internet 1 broadcast 0\n"
+                               "name \n"
+                               "descriptors 0 bytes 0\n"
+                               "list descriptors 1 bytes 6\n"
+                               "missing 1\n"
+                               "not whole\n";
+    static const char other[] = "table 201 key 4660 version 3 last 0\nno programme list\n";
+    const size_t room = sizeof text - 1;
+    uint8_t file[3 + sizeof list];
+    khumsafil_size size;
+    file[0] = 1, file[1] = 1, file[2] = sizeof list;
+    memcpy(file + 3, list, sizeof list);
+    memset(out, 0xA5, sizeof out);
+    size = khumsafil_programme_list(file, sizeof file, out, room - 1);
+    EXPECT(size.refusal == KHUMSAFIL_REFUSED_OUTPUT_TOO_SMALL && size.size == 0 && out[0] == 0xA5 && out[room - 2] == 0xA5);
+    size = khumsafil_programme_list(file, sizeof file, out, room);
+    EXPECT(!size.refusal && size.size == room && memcmp(out, text, room) == 0 && out[room] == 0xA5);
+    size = khumsafil_programme_list(p1_file, sizeof p1_file, out, sizeof out);
+    EXPECT(!size.refusal && size.size == sizeof other - 1 && memcmp(out, other, sizeof other - 1) == 0);
+    size = khumsafil_programme_list(file, sizeof file - 1, out, sizeof out);
+    EXPECT(!size.refusal && size.size == 11 && memcmp(out, "refused 12\n", 11) == 0);
+    size = khumsafil_programme_list(NULL, 0, out, sizeof out);
+    EXPECT(!size.refusal && size.size == 11 && memcmp(out, "refused 11\n", 11) == 0);
+    size = khumsafil_programme_list(NULL, 0, NULL, 0);
+    EXPECT(size.refusal == KHUMSAFIL_REFUSED_OUTPUT_TOO_SMALL && size.size == 0);
+    return 0;
+}
+
 static khumsafil_activation activation(uint8_t application, uint16_t event, unsigned action, uint32_t time) {
     khumsafil_activation made;
     made.application = application;
@@ -614,5 +655,5 @@ static int wider_numbers(void) {
 
 int main(void) {
     return version_and_words() || keys() || sections() || shelves() || same_shelves() || files() || loops() || triggers() ||
-           programmes() || clocks() || same_clocks() || writers() || wider_numbers();
+           programmes() || told() || clocks() || same_clocks() || writers() || wider_numbers();
 }

@@ -529,10 +529,80 @@ static int places_of_a_list(void) {
     return 0;
 }
 
+/* The text of a file: bytes that hold the list above alone, with nothing, too little and more lent. A file of the largest size
+   has a text with room for any, and with a byte less than the text nothing is written. */
+static int text_of_a_file(void) {
+    static const char said[] = "table 223 key 4096 version 3 last 0\n"
+                               "section 0 service 3152 start 1000000800 minutes 1440 items 1\n"
+                               "item 0 linkage 66\n"
+                               "updates 0 fragment 0 protected 0 master 0 internet 0 broadcast 0\n"
+                               "size 9\n"
+                               "name AB\n"
+                               "descriptors 1 bytes 2\n"
+                               "list descriptors 2 bytes 5\n"
+                               "whole\n";
+    static uint8_t text[KHUMSAFIL_PROGRAMME_TEXT + 1];
+    const size_t size = sizeof said - 1;
+    uint8_t file[3 + LIST];
+    uint64_t answer;
+    size_t room, lines, i;
+    unsigned number;
+    file[0] = 1, file[1] = 1, file[2] = LIST;
+    for (i = 0; i < LIST; i++)
+        file[3 + i] = list[i];
+    EXPECT(khumsafil_raw_programme_list(NULL, 0, NULL, 0) == KHUMSAFIL_REFUSED_OUTPUT_TOO_SMALL);
+    EXPECT(khumsafil_raw_programme_list(NULL, 0, out, sizeof out) == 11 << 8);
+    EXPECT(khumsafil_raw_programme_list(file, sizeof file, NULL, 0) == KHUMSAFIL_REFUSED_OUTPUT_TOO_SMALL);
+    for (room = 0; room <= size + 2; room++) {
+        for (i = 0; i < size + 3; i++)
+            text[i] = 0xA5;
+        answer = khumsafil_raw_programme_list(file, sizeof file, text, room);
+        EXPECT(answer == (room < size ? (uint64_t)KHUMSAFIL_REFUSED_OUTPUT_TOO_SMALL : (uint64_t)size << 8));
+        for (i = 0; i < size + 3; i++)
+            EXPECT(text[i] == (room >= size && i < size ? (uint8_t)said[i] : 0xA5));
+    }
+
+    /* Sixteen sections of 125 items of 8 bytes, whose own loops have one descriptor of 4 bytes. */
+    for (i = 0; i < sizeof out; i++)
+        out[i] = 0;
+    out[0] = 1, out[1] = 16;
+    for (number = 0; number < 16; number++) {
+        uint8_t *section = out + 2 + number * (2 + KHUMSAFIL_LARGEST_SECTION) + 2;
+        section[-2] = 0x80, section[-1] = 0x08;
+        for (i = 0; i < KHUMSAFIL_FIRST_ITEM; i++)
+            section[i] = list[i];
+        section[1] = 0x70 | (KHUMSAFIL_LARGEST_SECTION - 3) >> 8, section[2] = (uint8_t)(KHUMSAFIL_LARGEST_SECTION - 3);
+        section[6] = (uint8_t)number, section[7] = 15, section[16] = 125;
+        section[1017] = 1, section[1018] = 0xAD, section[1019] = 4;
+    }
+    for (i = 0; i < sizeof text; i++)
+        text[i] = 0xA5;
+    answer = khumsafil_raw_programme_list(out, sizeof out, text, KHUMSAFIL_PROGRAMME_TEXT);
+    EXPECT((uint8_t)answer == 0 && answer >> 8 > 100000 && answer >> 8 <= KHUMSAFIL_PROGRAMME_TEXT);
+    room = (size_t)(answer >> 8);
+    for (i = 0, lines = 0; i < room; i++)
+        lines += text[i] == '\n';
+    EXPECT(lines == 1 + 16 * (1 + 125 * 4 + 1) + 1);
+    EXPECT(text[room - 6] == 'w' && text[room - 1] == '\n');
+    for (i = room; i < sizeof text; i++)
+        EXPECT(text[i] == 0xA5);
+    for (i = 0; i < sizeof text; i++)
+        text[i] = 0xA5;
+    EXPECT(khumsafil_raw_programme_list(out, sizeof out, text, room - 1) == KHUMSAFIL_REFUSED_OUTPUT_TOO_SMALL);
+    for (i = 0; i < sizeof text; i++)
+        EXPECT(text[i] == 0xA5);
+    EXPECT(khumsafil_raw_programme_list(out, sizeof out, text, room) == answer);
+    EXPECT(text[room - 1] == '\n' && text[room] == 0xA5);
+    /* A byte less of the file is refused, in words. */
+    EXPECT(khumsafil_raw_programme_list(out, sizeof out - 1, text, sizeof text) == 11 << 8);
+    EXPECT(text[8] == '1' && text[9] == '2' && text[10] == '\n');
+    return 0;
+}
+
 int main(void) {
     EXPECT(khumsafil_raw_version() == KHUMSAFIL_VERSION);
     return empty_buffers() || room_for_a_trigger() || no_such_action() || empty_shelf() || sizes_of_a_shelf() ||
            sizes_of_a_clock() || the_largest() || shared_to_be_read() || written_on() || answers_of_a_shelf() ||
            answers_of_a_writer() || room_for_a_table() || left_in_a_record() || numbers_of_a_file() ||
-           room_for_a_list() || places_of_a_list();
+           room_for_a_list() || places_of_a_list() || text_of_a_file();
 }

@@ -184,7 +184,7 @@ fn as_cpp() {
 }
 
 /// A call of each function that answers in a structure, by that function's name.
-const ANSWERS: [(&str, &str); 26] = [
+const ANSWERS: [(&str, &str); 27] = [
     ("section_read", "bytes, 8"),
     ("shelf_begin", "&shelf"),
     ("shelf_offer", "&shelf, bytes, 8"),

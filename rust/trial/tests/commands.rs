@@ -75,7 +75,15 @@ fn every_command_tells_its_words() {
         let usage: Vec<_> = text(&wrong.stderr).lines().map(String::from).collect();
         assert_eq!(usage, words, "{name}");
     }
-    for name in ["build", "feed", "install", "list", "offer", "test"] {
+    for name in [
+        "build",
+        "feed",
+        "install",
+        "list",
+        "offer",
+        "programmes",
+        "test",
+    ] {
         assert!(names.iter().any(|found| found == name), "{name}");
     }
     println!("{} commands tell their words", names.len());
@@ -110,6 +118,92 @@ fn a_file_is_listed_from_anywhere() {
     let done = folder.output().expect("the command ends");
     assert_eq!(done.status.code(), Some(2));
     assert!(done.stdout.is_empty() && !done.stderr.is_empty());
+}
+
+/// What staff are told of a programme list, by a file, by standard input and from another folder.
+#[test]
+fn a_programme_list_is_told_from_anywhere() {
+    let _alone = alone();
+    let programmes = |folder: &Path, words: &[&str]| -> Command {
+        let mut command = tool("programmes");
+        command.current_dir(folder).args(words);
+        command
+    };
+    let samples = top("samples");
+    let expected = fs::read_to_string(samples.join("programmes.txt")).expect("the text");
+    let file = fs::read(samples.join("programmes.shelf")).expect("a sample");
+    assert_eq!(opinion::programme_text::programmes(&file), expected);
+    said(
+        &ended(programmes(&samples, &["programmes.shelf"])),
+        &expected,
+        1,
+    );
+    said(&fed(programmes(&samples, &[]), &file), &expected, 1);
+    said(&fed(programmes(&samples, &["-"]), &file), &expected, 1);
+    for (name, status) in [("whole", 1), ("gaps", 1), ("damaged", 1)] {
+        let name = format!("{name}.shelf");
+        let file = fs::read(samples.join(&name)).expect("a sample");
+        let told = opinion::programme_text::programmes(&file);
+        said(&ended(programmes(&samples, &[&name])), &told, status);
+    }
+    for words in [&["no such file"][..], &["."], &["-x"], &["a", "b"], &[""]] {
+        let done = ended(programmes(&samples, words));
+        assert_eq!(done.status.code(), Some(2), "{words:?}");
+        assert!(done.stdout.is_empty() && !done.stderr.is_empty());
+    }
+    // A read that fails is not the end of a file.
+    let mut folder = programmes(&samples, &[]);
+    folder.stdin(fs::File::open(&samples).expect("a folder"));
+    let done = folder.output().expect("the command ends");
+    assert_eq!(done.status.code(), Some(2));
+    assert!(done.stdout.is_empty() && !done.stderr.is_empty());
+}
+
+/// Status 1 is by the lines that say that something is refused, and by no words in a name. What is missing is no fault.
+#[test]
+fn the_status_of_a_programme_list() {
+    let _alone = alone();
+    let section = |number: u8, body: &[u8]| {
+        let mut payload = vec![0xDF, 0x70, 0, 0x10, 0, 0xC7, number, 15];
+        payload.extend(body);
+        trial::programmes::mend(&mut payload);
+        payload
+    };
+    let named = |name: &[u8]| {
+        let mut body = vec![0, 0, 0, 0, 0, 0, 0, 0, 1, 0, 0, 0, 1, 0, 0];
+        body.push(name.len() as u8);
+        body.extend(name);
+        body.extend([0, 0]);
+        body
+    };
+    let refused = vec![0; 8];
+    let names: [&[u8]; 5] = [
+        b"Ferry",
+        b"section 1 refused 43 place 8",
+        b"\nsection 1 refused 43 place 8",
+        b"no programme list",
+        b"x\nrefused 12",
+    ];
+    let mut files: Vec<(Vec<Vec<u8>>, i32)> = Vec::new();
+    for name in names {
+        files.push((vec![section(0, &named(name))], 0));
+        files.push(((0..16).map(|n| section(n, &named(name))).collect(), 0));
+    }
+    for number in 0..16 {
+        files.push((vec![section(number, &refused)], 1));
+    }
+    let both = vec![section(0, &named(b"Ferry")), section(10, &refused)];
+    files.push((both, 1));
+    for (sections, status) in files {
+        let file = trial::files::Parts::of(sections).bytes();
+        let told = opinion::programme_text::programmes(&file);
+        said(&fed(tool("programmes"), &file), &told, status);
+    }
+    // The longest texts go through as well.
+    let mut random = trial::random::Random::new(0x4B68_756D_7361_000E);
+    let file = trial::programmes::full_file(&mut random, trial::programmes::SMALLEST);
+    let told = opinion::programme_text::programmes(&file);
+    said(&fed(tool("programmes"), &file), &told, 0);
 }
 
 /// What the bench makes is listed and replayed as it comes.

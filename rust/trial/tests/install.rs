@@ -22,6 +22,8 @@ fn expected() -> Vec<String> {
         "bin/khumsafil-list",
         "bin/khumsafil-lister",
         "bin/khumsafil-offer",
+        "bin/khumsafil-programme-lister",
+        "bin/khumsafil-programmes",
         "include/khumsafil.h",
         "include/khumsafil_raw.h",
         "lib/libkhumsafil.a",
@@ -119,11 +121,19 @@ fn programs(outside: &Outside, prefix: &Path) {
         let lister = fed(program("khumsafil-lister"), &file);
         said(&lister, &listed, 0);
     }
-    // By a link from another folder it still finds the proved program.
-    let link = outside.path("linked");
-    let _ = fs::remove_file(&link);
-    symlink(prefix.join("bin/khumsafil-list"), &link).expect("a link");
-    said(&fed(plain(&link), &[]), "refused 11\n", 1);
+    let list = top("samples/programmes.shelf");
+    let file = fs::read(&list).expect("the sample");
+    let told = fs::read_to_string(top("samples/programmes.txt")).expect("the text");
+    said(&ended(with("khumsafil-programmes", &list)), &told, 1);
+    said(&fed(program("khumsafil-programmes"), &file), &told, 1);
+    said(&fed(program("khumsafil-programme-lister"), &file), &told, 0);
+    // By a link from another folder they still find the proved programs.
+    for name in ["khumsafil-list", "khumsafil-programmes"] {
+        let link = outside.path("linked");
+        let _ = fs::remove_file(&link);
+        symlink(prefix.join("bin").join(name), &link).expect("a link");
+        said(&fed(plain(&link), &[]), "refused 11\n", 1);
+    }
 
     let mut feed = program("khumsafil-feed");
     feed.args(["201", "4660", "3"]);
@@ -135,7 +145,12 @@ fn programs(outside: &Outside, prefix: &Path) {
     let recording = top("samples/recording.bin");
     let replayed = fs::read_to_string(top("samples/recording.txt")).expect("the text");
     said(&ended(with("khumsafil-offer", &recording)), &replayed, 1);
-    for name in ["khumsafil-list", "khumsafil-feed", "khumsafil-offer"] {
+    for name in [
+        "khumsafil-list",
+        "khumsafil-programmes",
+        "khumsafil-feed",
+        "khumsafil-offer",
+    ] {
         let helped = ended(with(name, Path::new("--help")));
         assert_eq!(helped.status.code(), Some(0), "{name}");
         assert!(!helped.stdout.is_empty() && helped.stderr.is_empty());

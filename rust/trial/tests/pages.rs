@@ -1,6 +1,6 @@
 //! docs/REFUSALS.md, docs/FORMAT.md and the README say what the code does.
 
-use khumsafil::{file, shelf, Refusal};
+use khumsafil::{file, programme, shelf, Refusal};
 use std::collections::{BTreeMap, BTreeSet};
 use std::fs;
 use trial::declarations::in_header;
@@ -241,6 +241,63 @@ fn the_sample_is_explained() {
     let listed = file::list(&sample, &mut out).expect("room");
     assert_eq!(block(&page, "The sample is listed as"), listed);
     assert_eq!(listed, opinion::lister::list(&sample));
+}
+
+/// The sample of a programme list is told as the page says, by the library and by the committed text.
+#[test]
+fn the_text_for_staff_is_shown() {
+    let page = page("docs/FORMAT.md");
+    let sample = fs::read(top("samples/programmes.shelf")).expect("the sample");
+    let mut out = vec![0; programme::TEXT];
+    let told = programme::list(&sample, &mut out).expect("room");
+    assert_eq!(block(&page, "is told as"), told);
+    assert_eq!(told, opinion::programme_text::programmes(&sample));
+    let text = fs::read_to_string(top("samples/programmes.txt")).expect("the text");
+    assert_eq!(told, text);
+    let room = format!(
+        "longer than {},{:03} bytes",
+        programme::TEXT / 1_000,
+        programme::TEXT % 1_000
+    );
+    assert!(page.contains(&room), "{room}");
+}
+
+/// Whether a line is of this kind: words as they stand, and where the kind has a capital letter a number. `TEXT` is any rest.
+fn is_of(line: &str, kind: &str) -> bool {
+    if let Some(front) = kind.strip_suffix("TEXT") {
+        return line.starts_with(front);
+    }
+    let number = |word: &str| !word.is_empty() && word.bytes().all(|b| b.is_ascii_digit());
+    let capital = |word: &str| word.len() == 1 && word.bytes().all(|b| b.is_ascii_uppercase());
+    let (words, kinds) = (line.split(' '), kind.split(' '));
+    words.clone().count() == kinds.clone().count()
+        && words.zip(kinds).all(|(word, kind)| match capital(kind) {
+            true => number(word),
+            false => word == kind,
+        })
+}
+
+/// Every line of the vectors' texts is one of the page's, and every line of the page stands in a vector.
+#[test]
+fn every_line_for_staff_has_its_vector() {
+    let rows = rows(&page("docs/FORMAT.md"), "| Line | What it says |");
+    let kinds: Vec<_> = rows.iter().map(|row| code(&row[0])).collect();
+    let mut met = BTreeSet::new();
+    let mut lines = 0;
+    for vector in all(&top("vectors")) {
+        let calls = vector.calls().filter(|c| c.function == "programme_list");
+        for call in calls.filter(|call| call.refused().is_none()) {
+            for line in call.answer.lines().skip(1) {
+                let kind = kinds.iter().filter(|kind| is_of(line, kind));
+                let kind: Vec<_> = kind.collect();
+                assert_eq!(kind.len(), 1, "{}: {line}", vector.name);
+                met.insert(*kind[0]);
+                lines += 1;
+            }
+        }
+    }
+    assert_eq!(met, kinds.into_iter().collect());
+    println!("{lines} lines of {} kinds", met.len());
 }
 
 /// The numbers of the page are spelt as the library and the independent program read and write them.

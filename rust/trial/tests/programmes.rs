@@ -1,6 +1,6 @@
 //! Programme lists: the library beside the independent program.
 
-use khumsafil::{programme, Refusal};
+use khumsafil::programme;
 use std::collections::BTreeMap;
 use trial::beside::programmes::{own, read, step, step_in_room, text, walk, ITEM, OVER, OWN};
 use trial::files;
@@ -282,7 +282,7 @@ fn files_have_every_line() {
     for kind in files::KINDS {
         for _ in 0..share(1_000) {
             let file = programmes::file(&mut random, kind);
-            let said = text(&file, random.below(400), told);
+            let said = text(&file, random.below(400));
             longest = longest.max(said.len());
             for line in said.lines() {
                 *lines.entry(word(line)).or_default() += 1;
@@ -298,7 +298,19 @@ fn files_have_every_line() {
     refused.iter().for_each(|n| common(*n, 100));
 }
 
-/// The library's text, by its size.
-fn told(file: &[u8], out: &mut [u8]) -> Result<usize, Refusal> {
-    programme::list(file, out).map(str::len)
+/// The text of the largest files is compared too, of which the room for any text is enough.
+#[test]
+fn full_files() {
+    let mut random = Random::new(SEED);
+    let (mut least, mut longest) = (usize::MAX, 0);
+    for shape in shapes() {
+        for _ in 0..share(60) {
+            let file = programmes::full_file(&mut random, shape);
+            assert_eq!(file.len(), khumsafil::shelf::LARGEST_FILE);
+            let said = text(&file, random.below(400));
+            assert!(said.ends_with("\nwhole\n"), "{said}");
+            (least, longest) = (least.min(said.len()), longest.max(said.len()));
+        }
+    }
+    println!("texts of full files, seed {SEED:#018X}: {least} to {longest} bytes");
 }

@@ -1,7 +1,7 @@
 //! Programme lists.
 
 use crate::tally::Tally;
-use khumsafil::programme::{self, Flags, Item, Loop, Step, FIELDS, ITEM_FIELDS};
+use khumsafil::programme::{self, Flags, Item, Loop, Step, FIELDS, ITEM_FIELDS, TEXT};
 use khumsafil::Refusal;
 use opinion::programme as theirs;
 
@@ -224,18 +224,16 @@ pub fn walk(payload: &[u8], found: &mut Tally) -> u8 {
 
 /// Asks for the staff's text of a shelf file with exact room, with a byte and then `less` less, and with more, and gives the
 /// independent program's, which each is compared with.
-pub fn text(
-    file: &[u8],
-    less: usize,
-    list: impl Fn(&[u8], &mut [u8]) -> Result<usize, Refusal>,
-) -> String {
+pub fn text(file: &[u8], less: usize) -> String {
     const UNWRITTEN: u8 = 0xA5;
     let text = opinion::programme_text::programmes(file);
     let size = text.len();
+    assert!(size <= TEXT, "{size} bytes of {file:02X?}");
     let small = size - 1 - less % size;
     for room in [size, small, size + 10] {
         let mut out = vec![UNWRITTEN; room];
-        let answer = list(file, &mut out).map_err(Refusal::number);
+        let answer = programme::list(file, &mut out);
+        let answer = answer.map(str::len).map_err(Refusal::number);
         let written = if room < size { Err(15) } else { Ok(size) };
         assert_eq!(answer, written, "{room} for {file:02X?}");
         let (told, rest) = out.split_at(answer.unwrap_or(0));

@@ -1,4 +1,4 @@
-//! A file: listed, put on a fresh shelf, saved from it and loaded again.
+//! A file: listed, told to staff, put on a fresh shelf, saved from it and loaded again.
 
 use super::feed::Feed;
 use crate::beside;
@@ -76,12 +76,13 @@ pub fn built(feed: &mut Feed, how: u8) -> Vec<u8> {
     bytes
 }
 
-/// Lists the file by both; where it is loaded, the same bytes are saved again.
+/// Lists the file and tells it to staff by both; where it is loaded, the same bytes are saved again.
 pub fn files(bytes: &[u8]) {
     let mut feed = Feed::new(bytes);
     let less = feed.byte();
     let file = build(&mut feed);
     let listed = beside::files::list(&file, less.into());
+    beside::programmes::text(&file, less.into());
     super::shelf::with(|both| {
         both.stores_agree();
         let loaded = both.call(&Call::Load(file.clone()), STORE);

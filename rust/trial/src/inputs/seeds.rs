@@ -49,7 +49,7 @@ pub fn seeds(target: &str) -> Vec<Vec<u8>> {
             }
         }
         "files" => {
-            for name in ["whole", "gaps", "damaged"] {
+            for name in ["whole", "gaps", "damaged", "programmes"] {
                 let file = fs::read(top(&format!("samples/{name}.shelf"))).expect(name);
                 all.push(with(&[0, 0], &file));
             }
@@ -61,6 +61,9 @@ pub fn seeds(target: &str) -> Vec<Vec<u8>> {
             for how in 0..32 {
                 let size = 20 + random.below(40);
                 all.push(with(&[random.byte(), how << 3 | 1], &random.bytes(size)));
+            }
+            for kind in files::KINDS {
+                all.push(with(&[0, 0], &programmes::file(random, kind)));
             }
         }
         "writer" => {

@@ -2,8 +2,9 @@
 
 use crate::timing::race;
 use crate::{Table, SEED};
-use khumsafil::programme::{self, FIRST_ITEM, ITEM_FIELDS};
+use khumsafil::programme::{self, FIRST_ITEM, ITEM_FIELDS, TEXT};
 use std::hint::black_box;
+use trial::files::Parts;
 use trial::programmes::{mend, MOST, TABLE};
 use trial::random::Random;
 
@@ -12,7 +13,7 @@ pub fn table() -> Table {
         "Programme lists",
         "A walk over all items of a section of 1,024 bytes, 16 such sections in a list: 125 items of 8 bytes, or 25 of 39 with all\n\
          fields, a name of 5 bytes and two descriptors. The library is called for each item, and reads the section anew each time;\n\
-         the independent program reads it once.",
+         the independent program reads it once. A text for staff is of a file that holds all 16.",
     );
     for (what, item) in [
         ("smallest items", smallest as Maker),
@@ -22,6 +23,10 @@ pub fn table() -> Table {
         table.row(&format!("{what}, wrapper"), move || wrapped(&lists(item)));
     }
     table.row("reading alone", || reading(&lists(smallest)));
+    table.row("text of a full file, smallest items", || text(smallest));
+    table.row("text of a full file, items with all fields", || {
+        text(with_all)
+    });
     table
 }
 
@@ -133,6 +138,29 @@ fn reading(lists: &[Vec<u8>]) -> (f64, f64) {
             for payload in lists {
                 black_box(&their_reading(black_box(payload)).expect("a list"));
             }
+        },
+    )
+}
+
+/// The text of a file as large as any, into room for every text; the independent program's is a string of its own.
+fn text(item: Maker) -> (f64, f64) {
+    let mut sections = lists(item);
+    for (number, section) in sections.iter_mut().enumerate() {
+        section[6] = number as u8;
+        section[7] = 15;
+    }
+    let file = Parts::of(sections).bytes();
+    let mut out = vec![0; TEXT];
+    let told = programme::list(&file, &mut out).expect("room");
+    assert!(told.ends_with("\nwhole\n"));
+    race(
+        1,
+        1,
+        || {
+            black_box(programme::list(black_box(&file), &mut out).expect("room"));
+        },
+        || {
+            black_box(opinion::programme_text::programmes(black_box(&file)));
         },
     )
 }

@@ -2,7 +2,7 @@
 
 use std::time::Instant;
 
-/// How often a process times each side; the median counts. A run takes less than a millisecond, so that most
+/// How often a process times each side; the median counts. A run takes a millisecond or less, so that most
 /// are not interrupted by other work of the machine.
 const RUNS: usize = 301;
 
