@@ -2,7 +2,7 @@
 --   text-clean
 use mathlib.Core.Path.{_≡_, refl}
 use mathlib.Core.Bool.{Bool, true, false}
-use mathlib.Core.List.{List, [], _∷_, _++_}
+use mathlib.Core.List.{List, []}
 use Prim.Native.Nat.{ℕ, zero, suc, _+_, _/_, _%_, _^_}
 use Prim.Native.String.{String}
 use lib.Dec.{eqb}
@@ -19,7 +19,7 @@ use Rattle.file.specs.declared.Scan.{Scan}
 use Rattle.file_listing.specs.Words as words
 use Rattle.file_listing.specs.Words.{ascii, newline, lines}
 use Rattle.file_listing.specs.Listing.{headLine, missingLine, missingOf, refusedLine}
-use Rattle.text.specs.Words.{field, escaped}
+use Rattle.text.specs.Words.{field}
 use Rattle.text.proofs.Clean.{Plain, plain-join, plain-word, good, all-good, plain-decimal, plain-lister, plain-escaped}
 use Rattle.programme.specs.Table.{nrtIt}
 use Rattle.programme.specs.Reading.{readOf, stepOf, ownOf}

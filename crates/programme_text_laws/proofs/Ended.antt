@@ -2,17 +2,16 @@
 --   Line, Ends     a text that ends with a newline; one behind which a text that ends with one still does
 --   before-last    the text of a table before its last line
 use mathlib.Core.Path.{_≡_, refl, sym, ap, _∙_}
-use mathlib.Core.Bool.{Bool, true, false}
-use mathlib.Core.List.{List, [], _∷_, _++_, append-assoc, append-nil}
-use Prim.Native.Nat.{ℕ, zero, suc, _+_, _/_, _%_, _^_}
+use mathlib.Core.List.{List, [], _++_, append-assoc, append-nil}
+use Prim.Native.Nat.{ℕ, zero, suc, _+_}
 use Rattle.base.specs.Bytes.{part}
 use Rattle.base.proofs.Cases.{by}
 use Rattle.section.specs.declared.Header.{Header}
 use Rattle.file.specs.Scan.{foundAt}
 use Rattle.file_listing.specs.Words as words
-use Rattle.file_listing.specs.Words.{ascii, newline, lines}
+use Rattle.file_listing.specs.Words.{newline, lines}
 use Rattle.file_listing.specs.Listing.{headLine, missingLine, missingOf}
-use Rattle.text.specs.Words.{field, escaped}
+use Rattle.text.specs.Words.{field}
 use Rattle.programme.specs.Reading.{readOf, stepOf, ownOf}
 use Rattle.programme.specs.declared.Programme.{Programme}
 use Rattle.programme.specs.declared.Loop.{Loop}

@@ -1,16 +1,16 @@
 -- What it means that a section is read (`specs/Theorems.antt` has the words).
 --   read-exactly
-use mathlib.Core.Path.{_≡_, refl, sym, ap, _∙_}
-use mathlib.Core.Bool.{Bool, true, false}
-use mathlib.Core.List.{List, [], _∷_}
-use mathlib.Core.Logic.{_↔_, _⊎_, ⊎-elim}
+use mathlib.Core.Path.{_≡_, refl, sym, ap}
+use mathlib.Core.Bool.{true}
+use mathlib.Core.List.{List, _∷_}
+use mathlib.Core.Logic.{_↔_, ⊎-elim}
 use Prim.Native.Nat.{ℕ, zero, suc, _+_, _≤_}
 use native.Mathlib.Nat.{zero-add}
 use native.Mathlib.Omega.{arith}
 use Rattle.base.proofs.Cases.{unlike}
 use Rattle.programme.specs.Table.{numContentItems}
 use Rattle.programme.specs.Reading.{readOf, stepOf, ownOf, programmeOf}
-use Rattle.programme.specs.Answer.{readingTold, stepTold, ownTold}
+use Rattle.programme.specs.Answer.{readingTold, ownTold}
 use Rattle.programme.specs.declared.Programme.{Programme}
 use Rattle.programme.specs.declared.Reading.{Reading}
 use Rattle.programme.specs.declared.Step.{Step}

@@ -1,9 +1,9 @@
 -- What the last line says (`specs/Theorems.antt` has the words).
 --   whole-exactly, not-whole-exactly
-use mathlib.Core.Path.{_≡_, refl, sym, ap, _∙_}
+use mathlib.Core.Path.{_≡_, sym, ap, _∙_}
 use mathlib.Core.Bool.{Bool, true, false}
-use mathlib.Core.List.{List, [], _∷_, _++_, append-assoc}
-use Prim.Native.Nat.{ℕ, _+_, _<_, _≤_}
+use mathlib.Core.List.{List, _∷_, _++_, append-assoc}
+use Prim.Native.Nat.{ℕ, _+_, _<_}
 use native.Mathlib.Omega.{arith}
 use lib.ListN.{length, getD, length-append}
 use lib.Seq.{getD-append-seam, getD-append-add}
@@ -13,12 +13,11 @@ use Rattle.base.proofs.Below.{every-all, every-each}
 use Rattle.base.proofs.Cases.{by, and-left, and-right}
 use Rattle.section.specs.declared.Header.{Header}
 use Rattle.file.specs.Scan.{scanOf, foundAt}
-use Rattle.file.specs.declared.Scan.{Scan}
 use Rattle.file_listing.specs.Words.{lines, newline}
 use Rattle.file_listing.specs.Listing.{headLine, missingOf}
 use Rattle.programme_lines.specs.Lines.{wholeLine, notWholeLine}
 use Rattle.programme_section.specs.Section.{sectionRead}
-use Rattle.programme_listing.specs.Listing.{endLine, payloadOf, sectionOf, wholeAt, listText, tableText, answerText, textOf}
+use Rattle.programme_listing.specs.Listing.{endLine, payloadOf, sectionOf, wholeAt, listText, tableText, textOf}
 use Rattle.programme_text_laws.specs.Theorems.{LastLine, EachRead, ListFile, Whole-Exactly, Not-Whole-Exactly}
 use Rattle.programme_text_laws.proofs.Ended.{Line, before-last}
 use Rattle.programme_text_laws.proofs.Read.{read-exactly}
