@@ -304,8 +304,8 @@ bool khumsafil_raw_trigger_belongs(const uint8_t *payload, size_t payload_length
                                    size_t fields_length, const uint8_t *application, size_t application_length);
 
 /*
- * A programme list is a section of an NRT-IT. Each call reads the section anew, so that none answers about one that is
- * refused. Its items are walked from place KHUMSAFIL_FIRST_ITEM and number 0, each next one at the place after the one
+ * A programme list is an NRT-IT, and these calls read a section of it. Each reads it anew, so that none answers about one
+ * that is refused. Its items are walked from place KHUMSAFIL_FIRST_ITEM and number 0, each next one at the place after the one
  * before; behind the last stands the table's own loop. Places count from the section's first byte. Reserved bits are
  * disregarded, and no value is refused.
  */

@@ -75,7 +75,11 @@ module _ (s fields : List ℕ) where
   abbrev pub Read-Untouched : Type 0
   Read-Untouched = ¬ (readLent s fields .code ≡ 0) → readLent s fields .out ≡ fields
 
-  -- it is accepted exactly when the fields are read and the buffer has room, and then they come back out of the buffer
+  -- any number but 0 and 15 is the code exactly when the fields are refused by it
+  abbrev pub Read-Refused : Type 0
+  Read-Refused = (n : ℕ) → ¬ (n ≡ 0) → ¬ (n ≡ 15) → (readLent s fields .code ≡ n) ↔ (readOf s ≡ Reading.Refused n)
+
+  -- it is accepted exactly when the fields are read and the buffer has room
   abbrev pub Read-Accepted : Type 0
   Read-Accepted = (readLent s fields .code ≡ 0) ↔ (((p : Programme) × (readOf s ≡ Reading.Programme p)) × (4 ≤ length fields))
 
@@ -83,6 +87,7 @@ module _ (s fields : List ℕ) where
   abbrev pub Read-15 : Type 0
   Read-15 = (readLent s fields .code ≡ 15) ↔ (((p : Programme) × (readOf s ≡ Reading.Programme p)) × (length fields < 4))
 
+  -- and where it is accepted they come back out of the buffer
   abbrev pub Read-Comes-Back : Type 0
   Read-Comes-Back = readLent s fields .code ≡ 0 → readOf s ≡ Reading.Programme (programmeBack (readLent s fields .out))
 
@@ -91,7 +96,11 @@ module _ (s fields : List ℕ) where
     abbrev pub Step-Untouched : Type 0
     Step-Untouched = ¬ (stepLent s at k fields .code ≡ itemKind) → stepLent s at k fields .out ≡ fields
 
-    -- it is kind 1 exactly when an item stands there and the buffer has room, and then the item comes back out of the buffer
+    -- any number below 256 but 15 is the code exactly when the step is refused by it
+    abbrev pub Step-Refused : Type 0
+    Step-Refused = (n : ℕ) → n < 256 → ¬ (n ≡ 15) → (stepLent s at k fields .code ≡ n) ↔ (stepOf s at k ≡ Step.Refused n)
+
+    -- it is kind 1 exactly when an item stands there and the buffer has room
     abbrev pub Step-Item : Type 0
     Step-Item = (stepLent s at k fields .code ≡ itemKind) ↔ (((i : Item) × (stepOf s at k ≡ Step.Item i)) × (12 ≤ length fields))
 
@@ -99,6 +108,7 @@ module _ (s fields : List ℕ) where
     abbrev pub Step-15 : Type 0
     Step-15 = (stepLent s at k fields .code ≡ 15) ↔ (((i : Item) × (stepOf s at k ≡ Step.Item i)) × (length fields < 12))
 
+    -- and of kind 1 the item comes back out of the buffer
     abbrev pub Step-Comes-Back : Type 0
     Step-Comes-Back = stepLent s at k fields .code ≡ itemKind → stepOf s at k ≡ Step.Item (itemBack (stepLent s at k fields .out))
 

@@ -1,6 +1,6 @@
 -- A host loses nothing by the numbers that cross the boundary (`programme_answers`, `specs/Lent.antt` has the words).
---   read-untouched, read-accepted, read-15, read-comes-back
---   step-untouched, step-item, step-15, step-comes-back, step-over
+--   read-untouched, read-refused, read-accepted, read-15, read-comes-back
+--   step-untouched, step-refused, step-item, step-15, step-comes-back, step-over
 --   own-comes-back
 use mathlib.Core.Path.{_≡_, refl, sym, ap, subst, _∙_}
 use mathlib.Core.List.{List, _++_}
@@ -24,7 +24,7 @@ use Rattle.programme.specs.declared.Step.{Step}
 use Rattle.programme.specs.declared.Own.{Own}
 use Rattle.programme.proofs.Within.{own-ends}
 use Rattle.programme_answers.specs.Lent.{readLent, stepLent, itemKind, overKind, loopCode, ownCode, programmeBack, itemBack, ownBack}
-use Rattle.programme_answers.specs.Lent.{Read-Untouched, Read-Accepted, Read-15, Read-Comes-Back, Step-Untouched, Step-Item, Step-15, Step-Comes-Back, Step-Over, Own-Comes-Back}
+use Rattle.programme_answers.specs.Lent.{Read-Untouched, Read-Refused, Read-Accepted, Read-15, Read-Comes-Back, Step-Untouched, Step-Refused, Step-Item, Step-15, Step-Comes-Back, Step-Over, Own-Comes-Back}
 use Rattle.programme_answers.proofs.Laws as laws
 use Rattle.programme_laws.proofs.ExactlyWhen as when
 
@@ -60,6 +60,15 @@ module _ (s fields : List ℕ) where
   pub read-untouched : Read-Untouched s fields
   unfolding readLent
   read-untouched = puts-untouched (readingTold (readOf s)) fields
+
+  pub read-refused : Read-Refused s fields
+  read-refused n z f = (
+    read-each (λ o. o .code ≡ n → readOf s ≡ Reading.Refused n)
+        (λ m e h q. e ∙ ap Reading.Refused q)
+        (λ p e h q. absurd (f (sym q)))
+        (λ p e h q. absurd (z (sym q))),
+    λ e. ap (λ (o : Out). o .code) (sym (laws.read-refused s fields refl e)),
+  )
 
   pub read-accepted : Read-Accepted s fields
   read-accepted = (
@@ -106,6 +115,16 @@ module _ (s fields : List ℕ) where
     pub step-untouched : Step-Untouched s fields at k
     step-untouched =
         step-each (λ o. ¬ (o .code ≡ itemKind) → o .out ≡ fields) (λ n e h z. refl) (λ e z. refl) (λ i e h z. refl) (λ i e h z. absurd (z refl))
+
+    pub step-refused : Step-Refused s fields at k
+    step-refused n l f = (
+      step-each (λ o. o .code ≡ n → stepOf s at k ≡ Step.Refused n)
+          (λ m e h q. e ∙ ap Step.Refused q)
+          (λ e q. absurd (omega arith))
+          (λ i e h q. absurd (f (sym q)))
+          (λ i e h q. absurd (omega arith)),
+      λ e. ap (λ (o : Out). o .code) (sym (laws.step-refused s fields at k refl e)),
+    )
 
     pub step-item : Step-Item s fields at k
     step-item = (

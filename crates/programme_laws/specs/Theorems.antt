@@ -3,7 +3,7 @@ use Prim.Native.Nat.{ℕ, _+_, _-_, _*_, _<_, _≤_}
 use mathlib.Core.Path.{_≡_}
 use mathlib.Core.List.{List, _∷_, _++_}
 use mathlib.Core.Logic.{_↔_, _⊎_}
-use lib.ListN.{length, take, drop}
+use lib.ListN.{length, drop}
 use Rattle.base.specs.Bytes.{byte, part}
 use Rattle.base.specs.Octets.{Octets}
 use Rattle.section.specs.Section as section
@@ -196,11 +196,13 @@ module _ (s : List ℕ) where
 abbrev pub One-List : Type 0
 One-List = (b c : Body) → FitBody b → FitBody c → bodyOf b ≡ bodyOf c → b ≡ c
 
--- the items before a bad one stay readable: what stands behind an item has no part in it
+-- the items before a bad one stay readable: an item is read so wherever its bytes stand at its place, whatever stands before and behind
+-- them, and whichever number it is asked by
 abbrev pub Stays : List ℕ → List ℕ → Type 0
 Stays s t =
     Octets s → Begun s → Begun t
-    → (at k : ℕ) (i : Item)
+    → (at k j : ℕ) (i : Item)
     → stepOf s at k ≡ Step.Item i
-    → take (i .next) s ≡ take (i .next) t
-    → stepOf t at k ≡ Step.Item i
+    → part s at (i .next - at) ≡ part t at (i .next - at)
+    → j < programmeOf t .items
+    → stepOf t at j ≡ Step.Item i
