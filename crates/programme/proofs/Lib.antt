@@ -4,6 +4,5 @@ pub mod Rows
 pub mod Readings
 pub mod Items
 pub mod Counts
-pub mod Places
 pub mod Within
 pub mod Told

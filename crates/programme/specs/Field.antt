@@ -2,12 +2,19 @@
 use Prim.Native.Nat.{ℕ, zero, suc, _+_, _*_, _%_, _^_}
 use mathlib.Core.Bool.{Bool, true, false}
 use mathlib.Core.List.{List}
+use lib.Dec.{ltb}
+use lib.ListN.{length}
 use Rattle.base.specs.Bytes.{byte}
+use Rattle.base.specs.Choice.{if_then_else_}
 
 -- the n bytes from a place as one number, high byte first (uimsbf)
 unfoldable pub number : List ℕ → ℕ → ℕ → ℕ
 number s at zero = 0
 number s at (suc n) = number s at n * 256 + byte s (at + n)
+
+-- the number in a field's first n bytes; 0 where it has fewer
+unfoldable pub numberIn : ℕ → List ℕ → ℕ
+numberIn n field = if ltb (length field) n then 0 else number field 0 n
 
 -- what is there only where its flag is 1: a field's bytes, and its value; else none, and 0
 abbrev pub only : Bool → ℕ → ℕ

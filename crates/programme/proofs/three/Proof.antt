@@ -1,9 +1,12 @@
 -- `programme::three` meets its contract.
-use native.Mathlib.Omega.{arith}
-use Rattle.programme.proofs.Numbers.{three-is}
+use mathlib.Core.Path.{_∙_}
+use Rattle.programme.proofs.Numbers.{in-short, three-made}
 use borrow.Author.Needs.{needs}
 use Rattle.programme.proofs.three.Statement.{statement}
 use Rattle.programme.proofs.three.Tie as tie
+
+returns : tie.Need-returns
+returns c = in-short _ _ (c .if1 .taken)
 
 two-requires : tie.Need-two-requires
 two-requires c κs = search needs
@@ -13,9 +16,6 @@ full-requires c κs = search needs
 
 mul-result : tie.Need-mul-result
 mul-result c = search needs
-
-add-half : tie.Need-add-half
-add-half c = search needs
 
 shared-slice-read-half : tie.Need-shared-slice-read-half
 shared-slice-read-half c = search needs
@@ -29,19 +29,19 @@ full-requires-2 c κs = search needs
 add-result : tie.Need-add-result
 add-result c = search needs
 
-returns : tie.Need-returns
-returns c = rw three-is (omega arith)
+returns-2 : tie.Need-returns-2
+returns-2 c = three-made _ (c .before .before .before .before .before .if1 .left) (c .before .before .before .full .ensures .0 ∙ c .before .before .before .before .two .ensures) (c .full2 .ensures .0 ∙ c .before .half .ensures .0)
 
 pub three-spec : {M : Type 1} → statement M
 three-spec =
     tie.close
     (tie.spec
+    returns
     two-requires
     full-requires
     mul-result
-    add-half
     shared-slice-read-half
     half-requires
     full-requires-2
     add-result
-    returns)
+    returns-2)
