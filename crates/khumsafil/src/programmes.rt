@@ -2,7 +2,7 @@
 ghost use mathlib.Core.Path.{_≡_};
 ghost use Rattle.answers.specs.Answers.{out as outOf};
 ghost use Rattle.programme.specs.Reading.{ownOf};
-ghost use Rattle.programme_answers.specs.Lent.{readLent, stepLent, ownCode};
+ghost use Rattle.programme_answers.specs.Lent.{readLent, itemsLent, ownCode};
 ghost use Rattle.programme_listing.specs.Answer.{listLent};
 
 // The fields before the items, at the front of the buffer, or the refusal.
@@ -13,18 +13,18 @@ pub extern "C" fn khumsafil_raw_programme_read(payload: &[u8], fields: &mut [u32
     programme_answers::programme_read(payload, fields)
 }
 
-// What stands at a place, taken for item `number`: an item, its numbers at the front of the buffer; that all items are behind; or the
-// refusal.
+// The items from a place on, the one there taken for item `number`, as many as there is room for, their numbers at the front of the
+// buffer, in one number: the refusal alone; or 0 in the low 8 bits, and above what was found, how many items and the place after them.
 #[no_mangle]
-pub extern "C" fn khumsafil_raw_programme_item(
+pub extern "C" fn khumsafil_raw_programme_items(
     payload: &[u8],
     at: usize,
     number: u8,
     fields: &mut [u64],
-) -> u16
-    ensures { λ r. ⌜ outOf r (now (fields .exit)) ≡ stepLent (now (payload .entry)) at number (now (fields .entry)) ⌝ }
+) -> u64
+    ensures { λ r. ⌜ outOf r (now (fields .exit)) ≡ itemsLent (now (payload .entry)) at number (now (fields .entry)) ⌝ }
 {
-    programme_answers::programme_item(payload, at, number, fields)
+    programme_answers::programme_items(payload, at, number, fields)
 }
 
 // The table's own loop from a place, in one number: the refusal alone, or 0 in the low 8 bits, and above count, place and length.

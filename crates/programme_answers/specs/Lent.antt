@@ -1,40 +1,50 @@
 -- How the boundary answers about an NRT-IT section: a number of refusal in the low 8 bits, and values in a lent buffer or above it.
-use Prim.Native.Nat.{ℕ, _+_, _*_, _/_, _%_, _^_, _<_, _≤_}
+use Prim.Native.Nat.{ℕ, zero, suc, _+_, _*_, _/_, _%_, _^_, _<_, _≤_}
 use mathlib.Core.Path.{_≡_}
-use mathlib.Core.List.{List, [], _∷_, _++_}
+use mathlib.Core.List.{List, [], _∷_}
 use mathlib.Core.Logic.{_↔_}
-use lib.Dec.{ltb, eqb}
+use lib.Dec.{eqb}
 use lib.ListN.{length, getD, drop}
-use Rattle.base.specs.Choice.{if_then_else_, _if_, first}
+use Rattle.base.specs.Choice.{if_then_else_}
 use Rattle.base.specs.Octets.{Octets}
 use Rattle.answers.specs.Answers.{Out, out, puts}
 use Rattle.programme.specs.Reading.{readOf, stepOf, ownOf}
-use Rattle.programme.specs.Answer.{readingTold, itemNumbers}
+use Rattle.programme.specs.Answer.{readingTold}
 use Rattle.programme.specs.declared.Programme.{Programme}
 use Rattle.programme.specs.declared.Reading.{Reading}
 use Rattle.programme.specs.declared.Loop.{Loop}
 use Rattle.programme.specs.declared.Item.{Item}
 use Rattle.programme.specs.declared.Step.{Step}
 use Rattle.programme.specs.declared.Own.{Own}
+use Rattle.programme_items.specs.Items.{itemBack, itemsFrom, placeAfter, Walked, walkOf}
+use Rattle.programme_items.specs.declared.Passed.{Passed}
+use Rattle.programme_items.specs.declared.Walk.{Walk}
 
 -- the four numbers before the items, put into the buffer
 unfoldable pub readLent : List ℕ → List ℕ → Out
 readLent s fields = puts (readingTold (readOf s)) fields
 
--- an item is kind 1, from bit 8 up, and its twelve numbers are put into the buffer; that all items are behind is kind 2
-abbrev pub itemKind : ℕ
-itemKind = 1 * 2 ^ 8
+-- items are kind 1, from bit 8 up, with how many they are from bit 16 and the place after the last from bit 32; that all items are
+-- behind is kind 2
+abbrev pub itemsKind : ℕ
+itemsKind = 1 * 2 ^ 8
 
 abbrev pub overKind : ℕ
 overKind = 2 * 2 ^ 8
 
-abbrev pub stepPut : Step → List ℕ → Out
-stepPut (Step.Item i) fields = first (λ n. out n fields) (15 if ltb (length fields) 12 ∷ []) (out itemKind (itemNumbers i ++ drop 12 fields))
-stepPut Step.Over fields = out overKind fields
-stepPut (Step.Refused n) fields = out n fields
+abbrev pub passedCode : Passed → ℕ
+passedCode p = itemsKind + p .count * 2 ^ 16 + p .next * 2 ^ 32
 
-unfoldable pub stepLent : List ℕ → ℕ → ℕ → List ℕ → Out
-stepLent s at k fields = stepPut (stepOf s at k) fields
+abbrev pub walkCode : Walk → ℕ
+walkCode (Walk.Items p) = passedCode p
+walkCode Walk.Over = overKind
+walkCode (Walk.Refused n) = n
+
+abbrev pub walkLent : Walked → Out
+walkLent w = out (walkCode (w .walk)) (w .fields)
+
+unfoldable pub itemsLent : List ℕ → ℕ → ℕ → List ℕ → Out
+itemsLent s at k fields = walkLent (walkOf s at k fields)
 
 -- the table's own loop: from bit 8 its count, from bit 16 its place, from bit 32 its length
 abbrev pub loopCode : Loop → ℕ
@@ -48,20 +58,10 @@ ownCode (Own.Refused n) = n
 abbrev pub programmeBack : List ℕ → Programme
 programmeBack l = record { service = getD l 0 0; start = getD l 1 0; minutes = getD l 2 0; items = getD l 3 0 }
 
-abbrev pub itemBack : List ℕ → Item
-itemBack l =
-    record {
-      linkage = getD l 0 0;
-      flags = getD l 1 0;
-      playback = getD l 2 0;
-      delay = getD l 3 0;
-      expires = getD l 4 0;
-      size = getD l 5 0;
-      nameat = getD l 6 0;
-      named = getD l 7 0;
-      descriptors = record { count = getD l 8 0; place = getD l 9 0; length = getD l 10 0 };
-      next = getD l 11 0;
-    }
+-- so many items, ten numbers each
+unfoldable pub itemsBack : ℕ → List ℕ → List Item
+itemsBack zero l = []
+itemsBack (suc n) l = itemBack l ∷ itemsBack n (drop 10 l)
 
 abbrev pub ownBack : ℕ → Own
 ownBack code =
@@ -92,29 +92,48 @@ module _ (s fields : List ℕ) where
   Read-Comes-Back = readLent s fields .code ≡ 0 → readOf s ≡ Reading.Programme (programmeBack (readLent s fields .out))
 
   module _ (at k : ℕ) where
-    -- a step that is no item leaves the buffer as it was
-    abbrev pub Step-Untouched : Type 0
-    Step-Untouched = ¬ (stepLent s at k fields .code ≡ itemKind) → stepLent s at k fields .out ≡ fields
+    -- the kind of the answer
+    abbrev pub kind : ℕ
+    kind = itemsLent s at k fields .code % 2 ^ 16
 
-    -- any number below 256 but 15 is the code exactly when the step is refused by it
-    abbrev pub Step-Refused : Type 0
-    Step-Refused = (n : ℕ) → n < 256 → ¬ (n ≡ 15) → (stepLent s at k fields .code ≡ n) ↔ (stepOf s at k ≡ Step.Refused n)
+    -- where no items are handed out the buffer is as it was
+    abbrev pub Items-Untouched : Type 0
+    Items-Untouched = ¬ (kind ≡ itemsKind) → itemsLent s at k fields .out ≡ fields
 
-    -- it is kind 1 exactly when an item stands there and the buffer has room
-    abbrev pub Step-Item : Type 0
-    Step-Item = (stepLent s at k fields .code ≡ itemKind) ↔ (((i : Item) × (stepOf s at k ≡ Step.Item i)) × (12 ≤ length fields))
+    -- any number below 256 but 15 is the code exactly when a step there is refused by it
+    abbrev pub Items-Refused : Type 0
+    Items-Refused = (n : ℕ) → n < 256 → ¬ (n ≡ 15) → (itemsLent s at k fields .code ≡ n) ↔ (stepOf s at k ≡ Step.Refused n)
 
-    -- 15 exactly when an item stands there and the buffer has less
-    abbrev pub Step-15 : Type 0
-    Step-15 = (stepLent s at k fields .code ≡ 15) ↔ (((i : Item) × (stepOf s at k ≡ Step.Item i)) × (length fields < 12))
+    -- items are handed out exactly when one stands there and the buffer has room for it
+    abbrev pub Items-Handed : Type 0
+    Items-Handed = (kind ≡ itemsKind) ↔ (((i : Item) × (stepOf s at k ≡ Step.Item i)) × (10 ≤ length fields))
 
-    -- and of kind 1 the item comes back out of the buffer
-    abbrev pub Step-Comes-Back : Type 0
-    Step-Comes-Back = stepLent s at k fields .code ≡ itemKind → stepOf s at k ≡ Step.Item (itemBack (stepLent s at k fields .out))
+    -- 15 exactly when one stands there and the buffer has less
+    abbrev pub Items-15 : Type 0
+    Items-15 = (itemsLent s at k fields .code ≡ 15) ↔ (((i : Item) × (stepOf s at k ≡ Step.Item i)) × (length fields < 10))
 
-    -- and kind 2 exactly when all items are behind
-    abbrev pub Step-Over : Type 0
-    Step-Over = (stepLent s at k fields .code ≡ overKind) ↔ (stepOf s at k ≡ Step.Over)
+    -- kind 2 exactly when all items are behind
+    abbrev pub Items-Over : Type 0
+    Items-Over = (itemsLent s at k fields .code ≡ overKind) ↔ (stepOf s at k ≡ Step.Over)
+
+    -- and of kind 1 the items come back out of the buffer, as many as the answer says, and the place after the last out of the answer
+    abbrev pub Items-Come-Back : Type 0
+    Items-Come-Back =
+        Octets s → kind ≡ itemsKind
+        → (itemsFrom (length fields / 10) s at k ≡ itemsBack (itemsLent s at k fields .code / 2 ^ 16 % 2 ^ 16) (itemsLent s at k fields .out))
+        × (placeAfter at (itemsFrom (length fields / 10) s at k) ≡ itemsLent s at k fields .code / 2 ^ 32)
+
+-- Of the items from a place on, the one there taken for item k, and n at most:
+module _ (n : ℕ) (s : List ℕ) (at k : ℕ) where
+  -- where they are fewer, no item stands behind them
+  abbrev pub Items-Longest : Type 0
+  Items-Longest =
+      length (itemsFrom n s at k) < n
+      → (i : Item) → ¬ (stepOf s (placeAfter at (itemsFrom n s at k)) (k + length (itemsFrom n s at k)) ≡ Step.Item i)
+
+  -- they are never more than 125, so that 1,250 numbers have room for the items of any section
+  abbrev pub Items-Few : Type 0
+  Items-Few = length (itemsFrom n s at k) ≤ 125
 
 -- the table's own loop, or the refusal, comes back out of the number
 abbrev pub Own-Comes-Back : List ℕ → ℕ → Type 0

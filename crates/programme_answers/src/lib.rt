@@ -1,27 +1,22 @@
 // The answers about an NRT-IT section in numbers, as a host gets them.
 ghost use mathlib.Core.Path.{_≡_};
-ghost use mathlib.Core.List.{_++_};
-ghost use Prim.Native.Nat.{_≤_, _<_};
-ghost use lib.ListN.{length, drop};
+ghost use Prim.Native.Nat.{_<_};
 ghost use Rattle.answers.specs.Answers.{out as outOf};
 ghost use Rattle.programme.specs.Reading.{ownOf};
-ghost use Rattle.programme.specs.Answer.{itemNumbers};
-ghost use Rattle.programme_answers.specs.Lent.{readLent, stepLent, loopCode, ownCode};
-use programme::Item;
+ghost use Rattle.programme_answers.specs.Lent.{readLent, passedCode, itemsLent, loopCode, ownCode};
 use programme::Loop;
 use programme::Own;
 use programme::Reading;
-use programme::Step;
+use programme_items::Passed;
+use programme_items::Walk;
 
-// How many numbers the fields before the items are answered in, and an item.
+// How many numbers the fields before the items are answered in.
 const FIELDS: usize = 4;
 
-const NUMBERS: usize = 12;
+// What was found at a place, from bit 8 of the answer.
+const ITEMS: u64 = 256;
 
-// What a step found, from bit 8 of its answer.
-const ITEM: u16 = 256;
-
-const OVER: u16 = 512;
+const OVER: u64 = 512;
 
 // Reads the fields before the items and puts them at the front of the buffer, or answers the refusal.
 pub fn programme_read(payload: &[u8], fields: &mut [u32]) -> u8
@@ -43,42 +38,26 @@ pub fn programme_read(payload: &[u8], fields: &mut [u32]) -> u8
     }
 }
 
-// Puts an item's numbers at the front of the buffer.
-fn put_item(i: Item, fields: &mut [u64])
-    requires { ⌜ 12 ≤ length (now fields) ⌝ }
-    ensures { λ _. ⌜ now (fields .exit) ≡ itemNumbers i ++ drop 12 (now (fields .entry)) ⌝ }
+// Items that were handed out in one number: each value begins at its bit.
+fn passed_code(p: Passed) -> u64
+    requires { ⌜ (p .count < 65536) × (p .next < 65536) ⌝ }
+    ensures { λ r. ⌜ r ≡ passedCode p ⌝ }
 {
-    let descriptors = i.descriptors;
-    fields[0] = i.linkage as u64;
-    fields[1] = i.flags as u64;
-    fields[2] = i.playback as u64;
-    fields[3] = i.delay as u64;
-    fields[4] = i.expires as u64;
-    fields[5] = i.size;
-    fields[6] = i.nameat as u64;
-    fields[7] = i.named as u64;
-    fields[8] = descriptors.count as u64;
-    fields[9] = descriptors.place as u64;
-    fields[10] = descriptors.length as u64;
-    fields[11] = i.next as u64;
+    let count = p.count as u64 * answers::BIT_16;
+    let next = p.next as u64 * answers::BIT_32;
+    ITEMS + count + next
 }
 
-// What stands at a place of the payload, taken for item `number` of its list: the item's numbers at the front of the buffer, that all
-// items are behind, or the refusal.
-pub fn programme_item(payload: &[u8], at: usize, number: u8, fields: &mut [u64]) -> u16
-    ensures { λ r. ⌜ outOf r (now (fields .exit)) ≡ stepLent (now (payload .entry)) at number (now (fields .entry)) ⌝ }
+// The items from a place of the payload on, the one there taken for item `number` of its list, as many as there is room for: their
+// numbers at the front of the buffer, how many they are and the place after the last; that all items are behind; or the refusal.
+pub fn programme_items(payload: &[u8], at: usize, number: u8, fields: &mut [u64]) -> u64
+    ensures { λ r. ⌜ outOf r (now (fields .exit)) ≡ itemsLent (now (payload .entry)) at number (now (fields .entry)) ⌝ }
 {
-    let step = programme::item_at(payload, at, number);
-    match step {
-        Step::Refused(n) => base::half(n),
-        Step::Over => OVER,
-        Step::Item(item) => {
-            if fields.len() < NUMBERS {
-                return base::half(answers::OUTPUT_TOO_SMALL);
-            }
-            put_item(item, fields);
-            ITEM
-        }
+    let walk = programme_items::items_at(payload, at, number, fields);
+    match walk {
+        Walk::Refused(n) => n as u64,
+        Walk::Over => OVER,
+        Walk::Items(p) => passed_code(p),
     }
 }
 

@@ -204,7 +204,7 @@ module _ (s : List ℕ) (at k : ℕ) (f : List ℕ) where
     unfolding walkOf
     walk-short h = rw (e, lt-ltb (length f) 10 h)
 
-    walk-there : 10 ≤ length f → handed at f (itemsFrom (length f / 10) s at k) ≡ walkOf s at k f
+    pub walk-there : 10 ≤ length f → handed at f (itemsFrom (length f / 10) s at k) ≡ walkOf s at k f
     unfolding walkOf
     walk-there h = rw (e, le-ltb (length f) 10 h)
 

@@ -1,6 +1,5 @@
 -- A host loses nothing by the numbers that cross the boundary (`programme_answers`, `specs/Lent.antt` has the words).
 --   read-untouched, read-refused, read-accepted, read-15, read-comes-back
---   step-untouched, step-refused, step-item, step-15, step-comes-back, step-over
 --   own-comes-back
 use mathlib.Core.Path.{_≡_, refl, sym, ap, subst, _∙_}
 use mathlib.Core.List.{List, _++_}
@@ -14,17 +13,15 @@ use Rattle.base.specs.Bytes.{byte}
 use Rattle.base.proofs.Cases.{by}
 use Rattle.answers.specs.Answers.{Out, out}
 use Rattle.answers.proofs.Puts.{puts-untouched}
-use Rattle.programme.specs.Reading.{readOf, stepOf, ownOf}
-use Rattle.programme.specs.Answer.{readingTold, programmeNumbers, itemNumbers}
+use Rattle.programme.specs.Reading.{readOf, ownOf}
+use Rattle.programme.specs.Answer.{readingTold, programmeNumbers}
 use Rattle.programme.specs.declared.Programme.{Programme}
 use Rattle.programme.specs.declared.Reading.{Reading}
 use Rattle.programme.specs.declared.Loop.{Loop}
-use Rattle.programme.specs.declared.Item.{Item}
-use Rattle.programme.specs.declared.Step.{Step}
 use Rattle.programme.specs.declared.Own.{Own}
 use Rattle.programme.proofs.Within.{own-ends}
-use Rattle.programme_answers.specs.Lent.{readLent, stepLent, itemKind, overKind, loopCode, ownCode, programmeBack, itemBack, ownBack}
-use Rattle.programme_answers.specs.Lent.{Read-Untouched, Read-Refused, Read-Accepted, Read-15, Read-Comes-Back, Step-Untouched, Step-Refused, Step-Item, Step-15, Step-Comes-Back, Step-Over, Own-Comes-Back}
+use Rattle.programme_answers.specs.Lent.{readLent, loopCode, ownCode, programmeBack, ownBack}
+use Rattle.programme_answers.specs.Lent.{Read-Untouched, Read-Refused, Read-Accepted, Read-15, Read-Comes-Back, Own-Comes-Back}
 use Rattle.programme_answers.proofs.Laws as laws
 use Rattle.programme_laws.proofs.ExactlyWhen as when
 
@@ -34,7 +31,7 @@ pub record Number (n : ℕ) : Type 0 where
   pub high : n < 256
   pub other : ¬ (n ≡ 15)
 
-numbered : {n : ℕ} → ((1 ≤ n) × (n ≤ 8)) ⊎ ((n ≡ 43) ⊎ (n ≡ 45)) → Number n
+pub numbered : {n : ℕ} → ((1 ≤ n) × (n ≤ 8)) ⊎ ((n ≡ 43) ⊎ (n ≡ 45)) → Number n
 numbered {n} x =
     ⊎-elim
     (λ y. let a : 1 ≤ n = y .0 in let b : n ≤ 8 = y .1 in record { low = omega arith; high = omega arith; other = λ z. omega arith })
@@ -94,75 +91,6 @@ module _ (s fields : List ℕ) where
       (λ n e h z. absurd (let l : 0 < n = h .low in omega arith))
       (λ p e h z. absurd (omega arith))
       (λ p e h z. e)
-
-  module _ (at k : ℕ) where
-    step-each : (q : Out → Type 0)
-        → ((n : ℕ) → stepOf s at k ≡ Step.Refused n → Number n → q (out n fields))
-        → (stepOf s at k ≡ Step.Over → q (out 512 fields))
-        → ((i : Item) → stepOf s at k ≡ Step.Item i → length fields < 12 → q (out 15 fields))
-        → ((i : Item) → stepOf s at k ≡ Step.Item i → 12 ≤ length fields → q (out 256 (itemNumbers i ++ drop 12 fields)))
-        → q (stepLent s at k fields)
-    step-each q a o b c = go (stepOf s at k) refl
-      where
-        go : (r : Step) → stepOf s at k ≡ r → q (stepLent s at k fields)
-        go (Step.Refused n) e = subst q (laws.step-refused s fields at k refl e) (a n e (numbered (when.step-range s at k n e)))
-        go Step.Over e = subst q (laws.step-over s fields at k e) (o e)
-        go (Step.Item i) e =
-            by (ltb (length fields) 12)
-            (λ t. let h : length fields < 12 = ltb-true _ _ t in subst q (laws.step-short s fields at k i e refl h) (b i e h))
-            (λ f. let h : 12 ≤ length fields = ltb-false _ _ f in subst q (laws.step-put s fields at k i e h refl) (c i e h))
-
-    pub step-untouched : Step-Untouched s fields at k
-    step-untouched =
-        step-each (λ o. ¬ (o .code ≡ itemKind) → o .out ≡ fields) (λ n e h z. refl) (λ e z. refl) (λ i e h z. refl) (λ i e h z. absurd (z refl))
-
-    pub step-refused : Step-Refused s fields at k
-    step-refused n l f = (
-      step-each (λ o. o .code ≡ n → stepOf s at k ≡ Step.Refused n)
-          (λ m e h q. e ∙ ap Step.Refused q)
-          (λ e q. absurd (omega arith))
-          (λ i e h q. absurd (f (sym q)))
-          (λ i e h q. absurd (omega arith)),
-      λ e. ap (λ (o : Out). o .code) (sym (laws.step-refused s fields at k refl e)),
-    )
-
-    pub step-item : Step-Item s fields at k
-    step-item = (
-      step-each (λ o. o .code ≡ itemKind → ((i : Item) × (stepOf s at k ≡ Step.Item i)) × (12 ≤ length fields))
-          (λ n e h z. absurd (let l : n < 256 = h .high in omega arith))
-          (λ e z. absurd (omega arith))
-          (λ i e h z. absurd (omega arith))
-          (λ i e h z. ((i, e), h)),
-      λ w. ap (λ (o : Out). o .code) (sym (laws.step-put s fields at k (w .0 .0) (w .0 .1) (w .1) refl)),
-    )
-
-    pub step-15 : Step-15 s fields at k
-    step-15 = (
-      step-each (λ o. o .code ≡ 15 → ((i : Item) × (stepOf s at k ≡ Step.Item i)) × (length fields < 12))
-          (λ n e h z. absurd (h .other z))
-          (λ e z. absurd (omega arith))
-          (λ i e h z. ((i, e), h))
-          (λ i e h z. absurd (omega arith)),
-      λ w. ap (λ (o : Out). o .code) (sym (laws.step-short s fields at k (w .0 .0) (w .0 .1) refl (w .1))),
-    )
-
-    pub step-comes-back : Step-Comes-Back s fields at k
-    step-comes-back =
-        step-each (λ o. o .code ≡ itemKind → stepOf s at k ≡ Step.Item (itemBack (o .out)))
-        (λ n e h z. absurd (let l : n < 256 = h .high in omega arith))
-        (λ e z. absurd (omega arith))
-        (λ i e h z. absurd (omega arith))
-        (λ i e h z. e)
-
-    pub step-over : Step-Over s fields at k
-    step-over = (
-      step-each (λ o. o .code ≡ overKind → stepOf s at k ≡ Step.Over)
-          (λ n e h z. absurd (let l : n < 256 = h .high in omega arith))
-          (λ e z. e)
-          (λ i e h z. absurd (omega arith))
-          (λ i e h z. absurd (omega arith)),
-      λ e. ap (λ (o : Out). o .code) (sym (laws.step-over s fields at k e)),
-    )
 
 -- what stands below a multiple
 low-byte : (x y : ℕ) → x < 256 → (x + y * 256) % 2 ^ 8 ≡ x

@@ -11,3 +11,4 @@ pub mod Whole
 pub mod Stays
 pub mod Bodies
 pub mod Hosts
+pub mod Handed

@@ -17,9 +17,6 @@ pub struct Done {
     pub whole: bool,
 }
 
-// The refusal of bytes that are left over.
-const BYTES_LEFT: u8 = 44;
-
 // Where the table's own descriptors end: the place of the first byte left over, where bytes are.
 fn own_end(payload: &[u8], at: usize) -> usize
     requires { ⌜ at < length (now payload) ⌝ }
@@ -48,7 +45,7 @@ fn own(out: &mut [u8], at: usize, n: u8, payload: &[u8], place: usize) -> Done
             }
         }
         Own::Refused(number) => {
-            if number == BYTES_LEFT {
+            if number == programme::BYTES_LEFT {
                 let left = own_end(payload, place);
                 let end = programme_lines::refused_at(out, at, n, number, left);
                 return Done {
@@ -74,7 +71,7 @@ fn items(out: &mut [u8], at: usize, n: u8, payload: &[u8], count: u8) -> Done
     let mut place = programme::FIRST_ITEM;
     let mut k: u8 = 0;
     while k < count {
-        let step = programme::item_at(payload, place, k);
+        let step = programme_items::item_at(payload, place, k);
         match step {
             Step::Item(i) => {
                 let from = i.nameat;
