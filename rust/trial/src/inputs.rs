@@ -111,7 +111,7 @@ fn programmes(bytes: &[u8]) {
     beside::programmes::walk(&payload, &mut Tally::default());
     beside::programmes::read(&payload, room);
     beside::programmes::step(&payload, at, number);
-    beside::programmes::step_in_room(&payload, at, number, room);
+    beside::programmes::in_room(&payload, at, number, room);
     beside::programmes::own(&payload, at);
     beside::programmes::text(&Parts::of(vec![payload]).bytes(), room);
 }
