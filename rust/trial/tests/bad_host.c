@@ -479,8 +479,10 @@ static const uint8_t cut_off[] = {0xDF, 0x70, 0x26, 0x10, 0x00, 0xC7, 0x00, 0x00
                                   0xFD, 0xA0, 0x02, 0x00, 0x00, 0x00, 0x42, 0x01, 0x3F, 0x00, 0x00, 0x00, 0x00, 0x09,
                                   0x02, 'A',  'B',  0x01, 0xC6, 0x00, 0x00, 0x00, 0x00, 0x07, 0x00, 0x3F, 0x00};
 
-/* What is answered of so many items that end before a place. */
+/* What is answered where there is room for so many items, which end before a place. */
 static uint64_t told(unsigned count, size_t next) {
+    if (count == 0)
+        return KHUMSAFIL_REFUSED_OUTPUT_TOO_SMALL;
     return (uint64_t)next << 32 | (uint64_t)count << 16 | KHUMSAFIL_ITEM_FOUND << 8;
 }
 
@@ -505,7 +507,7 @@ static int room_for_a_list(void) {
     }
     EXPECT(khumsafil_raw_programme_read(list, LIST, NULL, 0) == KHUMSAFIL_REFUSED_OUTPUT_TOO_SMALL);
     for (room = 0; room <= 32; room++) {
-        /* How many items there is room for, of one, of two, and of two of which the second is refused. */
+        /* How many there is room for, of a list of one item, also where a second is refused, and of a list of two. */
         const unsigned one = room < KHUMSAFIL_ITEM_FIELDS ? 0 : 1;
         const unsigned two = room < 2 * KHUMSAFIL_ITEM_FIELDS ? one : 2;
         for (i = 0; i < 32; i++)
@@ -520,14 +522,11 @@ static int room_for_a_list(void) {
                KHUMSAFIL_REFUSED_PROGRAMME_PASSES_END);
         for (i = 0; i < 32; i++)
             EXPECT(item[i] == 0xABCD);
-        EXPECT(khumsafil_raw_programme_items(list, LIST, 17, 0, item, room) ==
-               (one == 0 ? KHUMSAFIL_REFUSED_OUTPUT_TOO_SMALL : told(1, 34)));
-        EXPECT(khumsafil_raw_programme_items(cut_off, sizeof cut_off, 17, 0, item, room) ==
-               (one == 0 ? KHUMSAFIL_REFUSED_OUTPUT_TOO_SMALL : told(1, 34)));
+        EXPECT(khumsafil_raw_programme_items(list, LIST, 17, 0, item, room) == told(one, 34));
+        EXPECT(khumsafil_raw_programme_items(cut_off, sizeof cut_off, 17, 0, item, room) == told(one, 34));
         for (i = 0; i < 32; i++)
             EXPECT(item[i] == (i < one * KHUMSAFIL_ITEM_FIELDS ? of_items[i] : 0xABCD));
-        EXPECT(khumsafil_raw_programme_items(of_two, sizeof of_two, 17, 0, item, room) ==
-               (two == 0 ? KHUMSAFIL_REFUSED_OUTPUT_TOO_SMALL : told(two, two == 2 ? 42 : 34)));
+        EXPECT(khumsafil_raw_programme_items(of_two, sizeof of_two, 17, 0, item, room) == told(two, two == 2 ? 42 : 34));
         for (i = 0; i < 32; i++)
             EXPECT(item[i] == (i < two * KHUMSAFIL_ITEM_FIELDS ? of_items[i] : 0xABCD));
     }
