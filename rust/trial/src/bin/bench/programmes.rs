@@ -12,9 +12,10 @@ pub fn table() -> Table {
     let mut table = Table::new(
         "Programme lists",
         "A walk over all items of a section of 1,024 bytes, 16 such sections in a list: 125 items of 8 bytes, or 25 of 39 with all\n\
-         fields, a name of 5 bytes and two descriptors. Each raw call has room for so many items, and reads the section anew; the\n\
-         last one says that the items are over. The wrapper reads the list and then walks it. The independent program reads the\n\
-         section once. A text for staff is of a file that holds all 16.",
+         fields, a name of 5 bytes and two descriptors. Each raw call reads the section anew and tells as many items as there is\n\
+         room for; the last one says that they are over. The wrapper makes an item of the numbers of each: told by one call into\n\
+         numbers that are lent for all, or by its walk, which reads the list first and asks for 16 at a time. The independent\n\
+         program reads the section once. A text for staff is of a file that holds all 16.",
     );
     for (what, item) in [
         ("smallest items", smallest as Maker),
