@@ -63,18 +63,29 @@ fn several_items() {
     let mut found = Tally::default();
     for kind in KINDS {
         for _ in 0..share(8_000) {
-            let payload = programmes::payload(&mut random, kind);
-            let mut places = vec![17, random.below(payload.len() + 2), 16, usize::MAX];
+            let mut payload = programmes::payload(&mut random, kind);
+            // A list without items is over everywhere, so fewer of those.
+            for _ in 0..3 {
+                if payload.get(16) == Some(&0) {
+                    payload = programmes::payload(&mut random, kind);
+                }
+            }
+            let mut places = vec![17];
             if let Ok(items) = opinion::programme::items(&payload) {
                 places.extend(items.flatten().map(|item| item.next));
             }
             for _ in 0..4 {
-                let n = random.below(places.len());
-                // Mostly the number that the item of the place has.
-                let (own, any) = (n.saturating_sub(3) as u8, random.byte());
-                let number = random.pick(&[own, own, own, 0, any]);
-                let met = in_room(&payload, places[n], number, room(&mut random));
-                found.note(kind, met);
+                // Mostly an item's place and number; sometimes those behind the last.
+                let behind = places.len() - 1;
+                let n = match random.below(8) {
+                    0 => behind,
+                    _ => random.below(behind.max(1)),
+                };
+                let inside = random.below(payload.len() + 2);
+                let at = random.pick(&[places[n], places[n], places[n], inside, 16, usize::MAX]);
+                let any = random.byte();
+                let number = random.pick(&[n as u8, n as u8, n as u8, 0, any]);
+                found.note(kind, in_room(&payload, at, number, room(&mut random)));
             }
             found.note("walks", walk_in_room(&payload, 1 + random.below(130)));
         }
