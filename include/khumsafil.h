@@ -809,8 +809,8 @@ typedef struct khumsafil_items {
  *       for (i = 0; i < items.count; i++)
  *           item = khumsafil_item_of(fields + i * KHUMSAFIL_ITEM_FIELDS);
  *
- * With room for KHUMSAFIL_MOST_ITEMS the first call has all that can be read, and the second says that the items are over or
- * why the next one is refused.
+ * With room for KHUMSAFIL_MOST_ITEMS the first call has all up to one that is refused, and the second says that the items are
+ * over, or by which number the next one is refused.
  */
 KHUMSAFIL_LOOK_
 static inline khumsafil_items khumsafil_items_at(const uint8_t *payload, size_t payload_length, size_t at, unsigned number,

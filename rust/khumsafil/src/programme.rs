@@ -36,7 +36,7 @@ pub const FIELDS: usize = 4;
 /// How many numbers an item is answered in.
 pub const ITEM_FIELDS: usize = 10;
 
-/// The most items that a section has room for: [`ITEM_FIELDS`] numbers for each of them take the items of any section in one call.
+/// The most items that a section has room for: with [`ITEM_FIELDS`] numbers for each one call takes all items of any section.
 pub const MOST_ITEMS: usize = 125;
 
 /// Room for any text of [`list`].
@@ -306,10 +306,10 @@ pub struct Told {
 }
 
 /// Puts the items from a place on, the one there taken for the item of that number from 0 on, at the front of `fields`, each in
-/// [`ITEM_FIELDS`] numbers in the header's order: as many as there is room for, up to the last of the list or to the first that is
-/// refused. Numbers past theirs stay as they were. Any place and any number may be asked. Refused: 1 to 8, 45; 43 where the item at
-/// the place asked is; and 15 where fewer than [`ITEM_FIELDS`] are lent for it. One further on that is refused is so when its own
-/// place is asked.
+/// [`ITEM_FIELDS`] numbers in the header's order: as many as there is room for, up to the last of the list or to the first that
+/// is refused. Numbers past theirs stay as they were. Any place and any number may be asked. Refused: 1 to 8, 45; 43 where the
+/// item at the place asked is; and 15 where fewer than [`ITEM_FIELDS`] are lent for it. One further on that is refused is so when
+/// its own place is asked.
 #[inline]
 pub fn item_fields(
     payload: &[u8],
@@ -477,7 +477,7 @@ impl Eq for Programme<'_> {}
 
 /// A walk over the items of a list. It ends behind the last of them, or behind the first that is refused.
 ///
-/// It asks for several items with one call, and keeps the numbers of those that were told.
+/// It asks for 16 items with one call, and keeps their numbers, which are 1,280 bytes; [`item_at`] asks for one.
 #[derive(Clone)]
 pub struct Items<'a> {
     payload: &'a [u8],
