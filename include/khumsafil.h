@@ -39,7 +39,7 @@
  * What C lets a host do and the library cannot see. No promise holds then, and any byte of the program may be lost:
  *
  *   a pointer, null or not, with fewer elements behind it than its length says, or not aligned for them
- *   a pointer to a shelf, a clock, a trigger or an item that is null or has none behind it
+ *   a pointer to a shelf, a clock, a trigger, an item or the numbers of one that is null or has none behind it
  *   a buffer that the call writes and that shares a byte with another buffer of that call, also where the call is
  *   refused or writes nothing, as with a payload that stands in the store
  *   two calls at the same time on one buffer that either of them writes
@@ -720,7 +720,8 @@ typedef enum khumsafil_item_kind {
  *   if (!item.refusal)
  *       own = khumsafil_own_loop(payload, length, at);
  *
- * The descriptors of an item are walked as any loop is:
+ * khumsafil_items_at has several with one call, of which khumsafil_item_of makes each. The descriptors of an item are walked
+ * as any loop is:
  *
  *   loop = khumsafil_part_of(payload, item.descriptors.bytes), size = item.descriptors.bytes.length;
  *   for (d = 0; (step = khumsafil_descriptor_step(loop, size, d)).found == KHUMSAFIL_STEP_DESCRIPTOR; d = step.next)
@@ -745,19 +746,14 @@ typedef struct khumsafil_item {
     size_t next; /* the place after the item; where the items are over, the place asked */
 } khumsafil_item;
 
-/*
- * What stands at a place of a programme list, taken for the item of that number, from 0 on: the first at
- * KHUMSAFIL_FIRST_ITEM, each other at the place after the one before. Any place and any number may be asked. Refused: 1 to 8,
- * 45, 43.
- */
+/* The item out of its KHUMSAFIL_ITEM_FIELDS numbers, as khumsafil_items_at put them there. */
 KHUMSAFIL_LOOK_
-static inline khumsafil_item khumsafil_item_at(const uint8_t *payload, size_t payload_length, size_t at, unsigned number) {
-    uint64_t fields[KHUMSAFIL_ITEM_FIELDS] = {0, 0, 0, 0, 0, 0, 0, 0, 0, 0, 0, 0};
-    const uint16_t answer = khumsafil_raw_programme_item(payload, payload_length, at, khumsafil_narrow_(number), fields,
-                                                         KHUMSAFIL_ITEM_FIELDS);
+static inline khumsafil_item khumsafil_item_of(const uint64_t *fields) {
+    const uint16_t name = (uint16_t)fields[KHUMSAFIL_ITEM_NAME_PLACE];
+    const uint16_t descriptors = (uint16_t)fields[KHUMSAFIL_ITEM_DESCRIPTORS_PLACE];
     khumsafil_item item;
-    item.refusal = khumsafil_refusal_(answer);
-    item.found = (khumsafil_item_kind)(answer >> 8);
+    item.refusal = KHUMSAFIL_NOT_REFUSED;
+    item.found = KHUMSAFIL_ITEM_FOUND;
     item.content_linkage = (uint32_t)fields[KHUMSAFIL_ITEM_LINKAGE];
     item.flags = (uint16_t)fields[KHUMSAFIL_ITEM_FLAGS];
     item.has_playback_length = (item.flags & KHUMSAFIL_FLAG_PLAYBACK_LENGTH_INCLUDED) != 0;
@@ -768,12 +764,65 @@ static inline khumsafil_item khumsafil_item_at(const uint8_t *payload, size_t pa
     item.expiration = (uint32_t)fields[KHUMSAFIL_ITEM_EXPIRATION];
     item.has_content_size = (item.flags & KHUMSAFIL_FLAG_CONTENT_SIZE_INCLUDED) != 0;
     item.content_size = fields[KHUMSAFIL_ITEM_CONTENT_SIZE];
-    item.name = khumsafil_part_((uint16_t)fields[KHUMSAFIL_ITEM_NAME_PLACE], (uint16_t)fields[KHUMSAFIL_ITEM_NAME_BYTES]);
+    item.next = (size_t)fields[KHUMSAFIL_ITEM_NEXT];
+    /* The byte between the name and the descriptors counts these. Numbers that are all 0 have none. */
+    item.name = khumsafil_part_(name, descriptors > name ? (uint16_t)(descriptors - 1 - name) : (uint16_t)0);
     item.descriptors.count = (uint8_t)fields[KHUMSAFIL_ITEM_DESCRIPTORS];
-    item.descriptors.bytes = khumsafil_part_((uint16_t)fields[KHUMSAFIL_ITEM_DESCRIPTORS_PLACE],
-                                             (uint16_t)fields[KHUMSAFIL_ITEM_DESCRIPTORS_BYTES]);
-    item.next = item.found == KHUMSAFIL_ITEM_OVER ? at : (size_t)fields[KHUMSAFIL_ITEM_NEXT];
+    item.descriptors.bytes = khumsafil_part_(descriptors, (uint16_t)(item.next - descriptors));
     return item;
+}
+
+/*
+ * What stands at a place of a programme list, taken for the item of that number, from 0 on: the first at
+ * KHUMSAFIL_FIRST_ITEM, each other at the place after the one before. Any place and any number may be asked. Refused: 1 to 8,
+ * 45, 43.
+ */
+KHUMSAFIL_LOOK_
+static inline khumsafil_item khumsafil_item_at(const uint8_t *payload, size_t payload_length, size_t at, unsigned number) {
+    uint64_t fields[KHUMSAFIL_ITEM_FIELDS] = {0, 0, 0, 0, 0, 0, 0, 0, 0, 0};
+    const uint64_t answer = khumsafil_raw_programme_items(payload, payload_length, at, khumsafil_narrow_(number), fields,
+                                                          KHUMSAFIL_ITEM_FIELDS);
+    khumsafil_item item = khumsafil_item_of(fields);
+    item.refusal = khumsafil_refusal_(answer);
+    item.found = (khumsafil_item_kind)(uint8_t)(answer >> 8);
+    if (item.found == KHUMSAFIL_ITEM_OVER)
+        item.next = at;
+    return item;
+}
+
+/* What is said of several items of a programme list, whose numbers stand in what was lent for them. */
+typedef struct khumsafil_items {
+    khumsafil_refusal refusal;
+    khumsafil_item_kind found; /* KHUMSAFIL_ITEM_FOUND where one was, or several */
+    uint16_t count;            /* how many */
+    size_t next;               /* the place after the last of them; where the items are over, the place asked */
+} khumsafil_items;
+
+/*
+ * The items of a programme list from a place on, the one there taken for the item of that number, from 0 on: as many as there
+ * is room for at KHUMSAFIL_ITEM_FIELDS numbers each, up to the last or to the first that is refused. Numbers past theirs stay
+ * as they were. Any place and any number may be asked. Refused: 1 to 8, 45; 43 where the item at the place asked is; and 15
+ * where there is no room for it. A walk with room for some:
+ *
+ *   for (; (items = khumsafil_items_at(payload, length, at, n, fields, room)).found == KHUMSAFIL_ITEM_FOUND;
+ *        at = items.next, n += items.count)
+ *       for (i = 0; i < items.count; i++)
+ *           item = khumsafil_item_of(fields + i * KHUMSAFIL_ITEM_FIELDS);
+ *
+ * With room for KHUMSAFIL_MOST_ITEMS the first call has all up to one that is refused, and the second says that the items are
+ * over, or by which number the next one is refused.
+ */
+KHUMSAFIL_LOOK_
+static inline khumsafil_items khumsafil_items_at(const uint8_t *payload, size_t payload_length, size_t at, unsigned number,
+                                                 uint64_t *fields, size_t fields_length) {
+    const uint64_t answer = khumsafil_raw_programme_items(payload, payload_length, at, khumsafil_narrow_(number), fields,
+                                                          fields_length);
+    khumsafil_items items;
+    items.refusal = khumsafil_refusal_(answer);
+    items.found = (khumsafil_item_kind)(uint8_t)(answer >> 8);
+    items.count = (uint16_t)(answer >> 16);
+    items.next = items.found == KHUMSAFIL_ITEM_OVER ? at : (size_t)(answer >> 32);
+    return items;
 }
 
 /* The flags of an item that tell of no field; false where none was found. updates_available: it will be updated. */

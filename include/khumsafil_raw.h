@@ -32,8 +32,8 @@ extern "C" {
  *   a clock      KHUMSAFIL_CLOCK_RECORD numbers, and neither more nor fewer
  *   a table      room for KHUMSAFIL_TABLE_FIELDS numbers at least
  *   a trigger    room for KHUMSAFIL_TRIGGER_FIELDS numbers at least
- *   a list       of programmes: room for KHUMSAFIL_PROGRAMME_FIELDS numbers at least, for an item of it
- *                KHUMSAFIL_ITEM_FIELDS
+ *   a list       of programmes: room for KHUMSAFIL_PROGRAMME_FIELDS numbers at least; for each item of it
+ *                KHUMSAFIL_ITEM_FIELDS, and KHUMSAFIL_MOST_ITEMS times as many are enough for all of a section
  *   a section    room for KHUMSAFIL_LARGEST_SECTION bytes is enough, for a file KHUMSAFIL_LARGEST_FILE, for a file's
  *                list KHUMSAFIL_LARGEST_LIST, for the text of a file of programme lists KHUMSAFIL_PROGRAMME_TEXT
  *   a datagram   one byte more than KHUMSAFIL_LARGEST_SECTION or KHUMSAFIL_LARGEST_TRIGGER, so that a longer one is
@@ -47,7 +47,8 @@ extern "C" {
 #define KHUMSAFIL_TABLE_FIELDS 20
 #define KHUMSAFIL_TRIGGER_FIELDS 11
 #define KHUMSAFIL_PROGRAMME_FIELDS 4
-#define KHUMSAFIL_ITEM_FIELDS 12
+#define KHUMSAFIL_ITEM_FIELDS 10
+#define KHUMSAFIL_MOST_ITEMS 125
 #define KHUMSAFIL_LARGEST_SECTION 1024
 #define KHUMSAFIL_LARGEST_FILE 16418
 #define KHUMSAFIL_LARGEST_LIST 390
@@ -326,19 +327,20 @@ bool khumsafil_raw_trigger_belongs(const uint8_t *payload, size_t payload_length
 uint8_t khumsafil_raw_programme_read(const uint8_t *payload, size_t payload_length, uint32_t *fields,
                                      size_t fields_length);
 
-/* Where the numbers of an item stand. An optional field that is not there is 0; its flag tells. */
-#define KHUMSAFIL_ITEM_LINKAGE 0            /* content_linkage */
-#define KHUMSAFIL_ITEM_FLAGS 1              /* the ten flags, the first highest */
-#define KHUMSAFIL_ITEM_PLAYBACK_LENGTH 2    /* playback_length_in_seconds */
-#define KHUMSAFIL_ITEM_PLAYBACK_DELAY 3     /* playback_delay, in seconds */
-#define KHUMSAFIL_ITEM_EXPIRATION 4         /* expiration, in GPS seconds */
-#define KHUMSAFIL_ITEM_CONTENT_SIZE 5       /* content_size, in bytes */
-#define KHUMSAFIL_ITEM_NAME_PLACE 6         /* where the name lies in the payload */
-#define KHUMSAFIL_ITEM_NAME_BYTES 7         /* and how many bytes it is */
-#define KHUMSAFIL_ITEM_DESCRIPTORS 8        /* how many descriptors the item has */
-#define KHUMSAFIL_ITEM_DESCRIPTORS_PLACE 9  /* where they lie in the payload */
-#define KHUMSAFIL_ITEM_DESCRIPTORS_BYTES 10 /* and how many bytes they are */
-#define KHUMSAFIL_ITEM_NEXT 11              /* the place after the item */
+/*
+ * Where the numbers of an item stand. An optional field that is not there is 0; its flag tells. The name ends one byte before
+ * the descriptors, by the byte that counts these, and they end where the item does.
+ */
+#define KHUMSAFIL_ITEM_LINKAGE 0           /* content_linkage */
+#define KHUMSAFIL_ITEM_FLAGS 1             /* the ten flags, the first highest */
+#define KHUMSAFIL_ITEM_PLAYBACK_LENGTH 2   /* playback_length_in_seconds */
+#define KHUMSAFIL_ITEM_PLAYBACK_DELAY 3    /* playback_delay, in seconds */
+#define KHUMSAFIL_ITEM_EXPIRATION 4        /* expiration, in GPS seconds */
+#define KHUMSAFIL_ITEM_CONTENT_SIZE 5      /* content_size, in bytes */
+#define KHUMSAFIL_ITEM_NAME_PLACE 6        /* where the name lies in the payload */
+#define KHUMSAFIL_ITEM_DESCRIPTORS 7       /* how many descriptors the item has */
+#define KHUMSAFIL_ITEM_DESCRIPTORS_PLACE 8 /* where they lie in the payload */
+#define KHUMSAFIL_ITEM_NEXT 9              /* the place after the item */
 
 /* The bits of the flags, by Table 6.5's names. */
 #define KHUMSAFIL_FLAG_UPDATES_AVAILABLE 0x200
@@ -353,18 +355,21 @@ uint8_t khumsafil_raw_programme_read(const uint8_t *payload, size_t payload_leng
 #define KHUMSAFIL_FLAG_AVAILABLE_IN_BROADCAST 0x001
 
 /*
- * What stands at a place of a programme list, taken for the item of that number, from 0 on. Any place and any number may be
- * asked. Refuses as khumsafil_raw_programme_read does, then by 43 where no item can be at the place or the one that begins
- * there passes the end, and then by 15 where there is room for fewer than KHUMSAFIL_ITEM_FIELDS numbers.
+ * The items of a programme list from a place on, the one there taken for the item of that number, from 0 on: as many as there
+ * is room for, up to the last of the list or to the first that is refused. Any place and any number may be asked. Refuses as
+ * khumsafil_raw_programme_read does, then by 43 where no item can be at the place or the one that begins there passes the end,
+ * and then by 15 where there is room for fewer than KHUMSAFIL_ITEM_FIELDS numbers. An item further on that passes the end is
+ * refused when its own place is asked.
  *
  * payload: read, and left as it is.
- * fields: where an item is found the first KHUMSAFIL_ITEM_FIELDS become its numbers, and those past them stay as they were;
- * where none is, left as they were.
+ * fields: each item that is told takes KHUMSAFIL_ITEM_FIELDS, one behind the other from the front, and those past them stay as
+ * they were; where none is told, left as they were.
  *
- * Bits 8 to 15 are 1 where an item was found and 2 where the list has no item of that number, which is so at any place.
+ * Bits 8 to 15 are 1 where items were told and 2 where the list has no item of that number, which is so at any place. Of items
+ * that were told bits 16 to 31 are how many, 32 to 63 the place after the last of them.
  */
-uint16_t khumsafil_raw_programme_item(const uint8_t *payload, size_t payload_length, size_t at, uint8_t number,
-                                      uint64_t *fields, size_t fields_length);
+uint64_t khumsafil_raw_programme_items(const uint8_t *payload, size_t payload_length, size_t at, uint8_t number,
+                                       uint64_t *fields, size_t fields_length);
 
 /*
  * The table's own loop, whose number of descriptors stands at a place: the one after the last item. Any place may be asked.

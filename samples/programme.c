@@ -36,14 +36,18 @@ static void show(const uint8_t *payload, unsigned number, const khumsafil_item *
     descriptors(payload, item->descriptors);
 }
 
+/* How many items are asked for with one call. */
+#define AT_ONCE 16
+
 int main(void) {
     /* One byte more than the longest section, so that a longer one is refused and not clipped. */
     static uint8_t payload[KHUMSAFIL_LARGEST_SECTION + 1];
     const size_t length = fread(payload, 1, sizeof payload, stdin);
     const khumsafil_programme list = khumsafil_programme_read(payload, length);
     size_t at = KHUMSAFIL_FIRST_ITEM;
-    unsigned number = 0;
-    khumsafil_item item;
+    uint64_t fields[AT_ONCE * KHUMSAFIL_ITEM_FIELDS];
+    unsigned number = 0, i;
+    khumsafil_items items;
     khumsafil_own own;
     if (list.refusal) {
         printf("refused %u\n", (unsigned)list.refusal);
@@ -51,10 +55,15 @@ int main(void) {
     }
     printf("service %u start %" PRIu32 " minutes %u items %u\n", (unsigned)list.service_id, list.time_span_start,
            (unsigned)list.time_span_length, (unsigned)list.items);
-    for (; (item = khumsafil_item_at(payload, length, at, number)).found == KHUMSAFIL_ITEM_FOUND; at = item.next, number++)
-        show(payload, number, &item);
-    if (item.refusal) {
-        printf("refused %u at %u\n", (unsigned)item.refusal, (unsigned)at);
+    for (; (items = khumsafil_items_at(payload, length, at, number, fields, AT_ONCE * KHUMSAFIL_ITEM_FIELDS)).found ==
+           KHUMSAFIL_ITEM_FOUND;
+         at = items.next, number += items.count)
+        for (i = 0; i < items.count; i++) {
+            const khumsafil_item item = khumsafil_item_of(fields + i * KHUMSAFIL_ITEM_FIELDS);
+            show(payload, number + i, &item);
+        }
+    if (items.refusal) {
+        printf("refused %u at %u\n", (unsigned)items.refusal, (unsigned)at);
         return 0;
     }
     own = khumsafil_own_loop(payload, length, at);

@@ -85,8 +85,8 @@ static void belongs(void) {
 static void programme_read(void) {
     answer = khumsafil_raw_programme_read(nrt_it, sizeof nrt_it, programme, KHUMSAFIL_PROGRAMME_FIELDS);
 }
-static void programme_item(void) {
-    answer = khumsafil_raw_programme_item(nrt_it, sizeof nrt_it, KHUMSAFIL_FIRST_ITEM, 0, item, KHUMSAFIL_ITEM_FIELDS);
+static void programme_items(void) {
+    answer = khumsafil_raw_programme_items(nrt_it, sizeof nrt_it, KHUMSAFIL_FIRST_ITEM, 0, item, KHUMSAFIL_ITEM_FIELDS);
 }
 static void programme_own(void) { answer = khumsafil_raw_programme_own(nrt_it, sizeof nrt_it, sizeof nrt_it - 1); }
 static void programme_list(void) {
@@ -126,7 +126,7 @@ static const struct {
              {"khumsafil_raw_trigger_read", trigger_read},
              {"khumsafil_raw_trigger_belongs", belongs},
              {"khumsafil_raw_programme_read", programme_read},
-             {"khumsafil_raw_programme_item", programme_item},
+             {"khumsafil_raw_programme_items", programme_items},
              {"khumsafil_raw_programme_own", programme_own},
              {"khumsafil_raw_programme_list", programme_list},
              {"khumsafil_raw_clock_fresh", fresh},

@@ -133,14 +133,14 @@ extern "C" {
         fields: *mut u32,
         fields_length: usize,
     ) -> u8;
-    pub fn khumsafil_raw_programme_item(
+    pub fn khumsafil_raw_programme_items(
         payload: *const u8,
         payload_length: usize,
         at: usize,
         number: u8,
         fields: *mut u64,
         fields_length: usize,
-    ) -> u16;
+    ) -> u64;
     pub fn khumsafil_raw_programme_list(
         file: *const u8,
         file_length: usize,

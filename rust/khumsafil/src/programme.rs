@@ -34,13 +34,19 @@ pub const FIRST_ITEM: usize = 17;
 pub const FIELDS: usize = 4;
 
 /// How many numbers an item is answered in.
-pub const ITEM_FIELDS: usize = 12;
+pub const ITEM_FIELDS: usize = 10;
+
+/// The most items that a section has room for: with [`ITEM_FIELDS`] numbers for each one call takes all items of any section.
+pub const MOST_ITEMS: usize = 125;
 
 /// Room for any text of [`list`].
 pub const TEXT: usize = 327_737;
 
-/// What the answer has in bits 8 to 15 where a list has no item of the number asked.
-const OVER: u16 = 2 << 8;
+/// What the answer is where a list has no item of the number asked.
+const OVER: u64 = 2 << 8;
+
+/// How many items a walk takes with each call.
+const AT_ONCE: usize = 16;
 
 /// The fields of a programme list before its items.
 ///
@@ -112,97 +118,98 @@ impl<'a> Loop<'a> {
 #[derive(Clone, Copy)]
 pub struct Item<'a> {
     payload: &'a [u8],
-    content_linkage: u32,
-    flags: Flags,
-    playback_length: u32,
-    playback_delay: u32,
-    expiration: u32,
+    // As wide as the numbers that they are told in: a copy costs less than narrowing each.
+    content_linkage: u64,
+    flags: u64,
+    playback_length: u64,
+    playback_delay: u64,
+    expiration: u64,
     content_size: u64,
-    name: (u16, u8),
-    count: u8,
-    descriptors: (u16, u16),
-    next: u16,
+    name: u64,
+    count: u64,
+    descriptors: u64,
+    next: u64,
 }
 
 impl<'a> Item<'a> {
-    /// The item out of its numbers. No place of a section is above 1,024.
+    /// The item out of its numbers.
     #[inline]
     fn of(payload: &'a [u8], numbers: &[u64; ITEM_FIELDS]) -> Item<'a> {
         Item {
             payload,
-            content_linkage: numbers[0] as u32,
-            flags: Flags(numbers[1] as u16),
-            playback_length: numbers[2] as u32,
-            playback_delay: numbers[3] as u32,
-            expiration: numbers[4] as u32,
+            content_linkage: numbers[0],
+            flags: numbers[1],
+            playback_length: numbers[2],
+            playback_delay: numbers[3],
+            expiration: numbers[4],
             content_size: numbers[5],
-            name: (numbers[6] as u16, numbers[7] as u8),
-            count: numbers[8] as u8,
-            descriptors: (numbers[9] as u16, numbers[10] as u16),
-            next: numbers[11] as u16,
+            name: numbers[6],
+            count: numbers[7],
+            descriptors: numbers[8],
+            next: numbers[9],
         }
     }
 
     /// The number that links the item to its files.
     #[inline]
     pub fn content_linkage(&self) -> u32 {
-        self.content_linkage
+        self.content_linkage as u32
     }
 
     /// Its flags.
     #[inline]
     pub fn flags(&self) -> Flags {
-        self.flags
+        Flags(self.flags as u16)
     }
 
     /// How long it plays, in seconds, where it says so.
     #[inline]
     pub fn playback_length(&self) -> Option<u32> {
-        let there = self.flags.playback_length_included();
-        there.then_some(self.playback_length)
+        let there = self.flags().playback_length_included();
+        there.then_some(self.playback_length as u32)
     }
 
     /// How long playing waits for what is received, in seconds, where it says so.
     #[inline]
     pub fn playback_delay(&self) -> Option<u32> {
-        let there = self.flags.playback_delay_included();
-        there.then_some(self.playback_delay)
+        let there = self.flags().playback_delay_included();
+        there.then_some(self.playback_delay as u32)
     }
 
     /// When it expires, in GPS seconds, where it says so.
     #[inline]
     pub fn expiration(&self) -> Option<u32> {
-        let there = self.flags.expiration_included();
-        there.then_some(self.expiration)
+        let there = self.flags().expiration_included();
+        there.then_some(self.expiration as u32)
     }
 
     /// Its size in bytes, where it says so.
     #[inline]
     pub fn content_size(&self) -> Option<u64> {
-        let there = self.flags.content_size_included();
+        let there = self.flags().content_size_included();
         there.then_some(self.content_size)
     }
 
     /// The name, a multiple string structure of A/65, which the library does not read.
     #[inline]
     pub fn name(&self) -> &'a [u8] {
-        part(self.payload, self.name.0.into(), self.name.1.into())
+        // The byte between the name and the descriptors counts these.
+        part(self.payload, self.name, self.descriptors.saturating_sub(1))
     }
 
     /// Its descriptors.
     #[inline]
     pub fn descriptors(&self) -> Loop<'a> {
-        let (place, length) = self.descriptors;
         Loop {
-            count: self.count,
-            bytes: part(self.payload, place.into(), length.into()),
+            count: self.count as u8,
+            bytes: part(self.payload, self.descriptors, self.next),
         }
     }
 
     /// The place after the item.
     #[inline]
     pub fn next(&self) -> usize {
-        self.next.into()
+        self.next as usize
     }
 }
 
@@ -289,19 +296,30 @@ pub fn read(payload: &[u8]) -> Result<Programme<'_>, Refusal> {
     })
 }
 
-/// Puts the numbers of what stands at a place, taken for the item of that number from 0 on, at the front of `fields`, in the
-/// header's order, and answers whether there is an item of that number. Any place and any number may be asked. Refused: 1 to 8,
-/// 45, 43, and 15 where fewer than [`ITEM_FIELDS`] are lent for an item.
+/// How many items a call told.
+#[derive(Clone, Copy, Debug, PartialEq, Eq)]
+pub struct Told {
+    /// How many there are; 0 where the list has no item of the number asked.
+    pub count: usize,
+    /// The place after the last of them; where there is none, the place asked.
+    pub next: usize,
+}
+
+/// Puts the items from a place on, the one there taken for the item of that number from 0 on, at the front of `fields`, each in
+/// [`ITEM_FIELDS`] numbers in the header's order: as many as there is room for, up to the last of the list or to the first that
+/// is refused. Numbers past theirs stay as they were. Any place and any number may be asked. Refused: 1 to 8, 45; 43 where the
+/// item at the place asked is; and 15 where fewer than [`ITEM_FIELDS`] are lent for it. One further on that is refused is so when
+/// its own place is asked.
 #[inline]
 pub fn item_fields(
     payload: &[u8],
     at: usize,
     number: u8,
     fields: &mut [u64],
-) -> Result<bool, Refusal> {
+) -> Result<Told, Refusal> {
     // SAFETY: pointers and lengths are those of slices, and the one that is written is not part of the other.
     let answer = unsafe {
-        boundary::khumsafil_raw_programme_item(
+        boundary::khumsafil_raw_programme_items(
             payload.as_ptr(),
             payload.len(),
             at,
@@ -311,15 +329,20 @@ pub fn item_fields(
         )
     };
     match answer as u8 {
-        0 => Ok(answer != OVER),
+        0 if answer == OVER => Ok(Told { count: 0, next: at }),
+        0 => Ok(Told {
+            count: usize::from((answer >> 16) as u16),
+            next: (answer >> 32) as usize,
+        }),
         number => Err(Refusal::of(number)),
     }
 }
 
-/// A part of the payload. The library's places lie in it.
+/// The part of the payload from a place to another. The library's places lie in it.
 #[inline]
-fn part(payload: &[u8], place: usize, length: usize) -> &[u8] {
-    payload.get(place..place + length).unwrap_or_default()
+fn part(payload: &[u8], place: u64, end: u64) -> &[u8] {
+    let part = payload.get(place as usize..end as usize);
+    part.unwrap_or_default()
 }
 
 /// What stands at a place of a list, taken for the item of that number from 0 on: the first at [`FIRST_ITEM`], each other at the
@@ -327,11 +350,84 @@ fn part(payload: &[u8], place: usize, length: usize) -> &[u8] {
 #[inline]
 pub fn item_at(payload: &[u8], at: usize, number: u8) -> Result<Step<'_>, Refusal> {
     let mut numbers = [0; ITEM_FIELDS];
-    Ok(match item_fields(payload, at, number, &mut numbers)? {
-        true => Step::Item(Item::of(payload, &numbers)),
-        false => Step::Over,
+    let told = item_fields(payload, at, number, &mut numbers)?;
+    Ok(match told.count {
+        0 => Step::Over,
+        _ => Step::Item(Item::of(payload, &numbers)),
     })
 }
+
+/// The items from a place on, as [`item_fields`] puts them into `numbers`, of which each element has room for one; none where the
+/// list has no item of that number.
+///
+/// ```
+/// use khumsafil::programme::{self, FIRST_ITEM, ITEM_FIELDS, MOST_ITEMS};
+/// use khumsafil::Refusal;
+///
+/// // Two of the smallest items, of linkage 7 and 8.
+/// let payload = b"\xDF\x70\x1F\x10\x00\xC7\x00\x00\x0C\x50\x3B\x9A\xCD\x20\xFD\xA0\x02\
+///     \0\0\0\x07\0\0\0\0\0\0\0\x08\0\0\0\0\0";
+/// // All items of any section in one call.
+/// let mut numbers = [[0; ITEM_FIELDS]; MOST_ITEMS];
+/// let items = programme::items_at(payload, FIRST_ITEM, 0, &mut numbers)?;
+/// assert_eq!((items.len(), items.place()), (2, 33));
+/// assert!(items.map(|item| item.content_linkage()).eq([7, 8]));
+/// // With room for one it is a step, and the next goes on behind it.
+/// let first = programme::items_at(payload, FIRST_ITEM, 0, &mut numbers[..1])?;
+/// assert_eq!((first.len(), first.place()), (1, 25));
+/// let second = programme::items_at(payload, first.place(), 1, &mut numbers)?;
+/// assert!(second.map(|item| item.content_linkage()).eq([8]));
+/// # Ok::<(), Refusal>(())
+/// ```
+#[inline]
+pub fn items_at<'a, 'n>(
+    payload: &'a [u8],
+    at: usize,
+    number: u8,
+    numbers: &'n mut [[u64; ITEM_FIELDS]],
+) -> Result<Several<'a, 'n>, Refusal> {
+    let told = item_fields(payload, at, number, numbers.as_flattened_mut())?;
+    Ok(Several {
+        payload,
+        numbers: numbers.get(..told.count).unwrap_or_default().iter(),
+        place: told.next,
+    })
+}
+
+/// Items that one call told, in their order.
+#[derive(Clone, Debug)]
+pub struct Several<'a, 'n> {
+    payload: &'a [u8],
+    numbers: core::slice::Iter<'n, [u64; ITEM_FIELDS]>,
+    place: usize,
+}
+
+impl Several<'_, '_> {
+    /// The place after the last of them; where there was none, the place asked.
+    #[inline]
+    pub fn place(&self) -> usize {
+        self.place
+    }
+}
+
+impl<'a> Iterator for Several<'a, '_> {
+    type Item = Item<'a>;
+
+    #[inline]
+    fn next(&mut self) -> Option<Item<'a>> {
+        let numbers = self.numbers.next()?;
+        Some(Item::of(self.payload, numbers))
+    }
+
+    #[inline]
+    fn size_hint(&self) -> (usize, Option<usize>) {
+        self.numbers.size_hint()
+    }
+}
+
+impl ExactSizeIterator for Several<'_, '_> {}
+
+impl core::iter::FusedIterator for Several<'_, '_> {}
 
 /// The table's own loop, whose number of descriptors stands at a place: the one after the last item. Any place may be asked.
 /// Refused: 1 to 8, 45, 43, and 44 where bytes are left over after it.
@@ -341,14 +437,13 @@ pub fn own_loop_at(payload: &[u8], at: usize) -> Result<Loop<'_>, Refusal> {
     let word =
         unsafe { boundary::khumsafil_raw_programme_own(payload.as_ptr(), payload.len(), at) };
     match word as u8 {
-        0 => Ok(Loop {
-            count: (word >> 8) as u8,
-            bytes: part(
-                payload,
-                usize::from((word >> 16) as u16),
-                usize::from((word >> 32) as u16),
-            ),
-        }),
+        0 => {
+            let (place, length) = (word >> 16 & 0xFFFF, word >> 32);
+            Ok(Loop {
+                count: (word >> 8) as u8,
+                bytes: part(payload, place, place + length),
+            })
+        }
         number => Err(Refusal::of(number)),
     }
 }
@@ -362,6 +457,9 @@ impl<'a> Programme<'a> {
             at: FIRST_ITEM,
             number: 0,
             end: self.count,
+            told: 0,
+            taken: 0,
+            numbers: [[0; ITEM_FIELDS]; AT_ONCE],
         }
     }
 }
@@ -378,40 +476,56 @@ impl PartialEq for Programme<'_> {
 impl Eq for Programme<'_> {}
 
 /// A walk over the items of a list. It ends behind the last of them, or behind the first that is refused.
-#[derive(Clone, Debug)]
+///
+/// It asks for 16 items with one call, and keeps their numbers, which are 1,280 bytes; [`item_at`] asks for one.
+#[derive(Clone)]
 pub struct Items<'a> {
     payload: &'a [u8],
+    /// The place of the first item that was told.
     at: usize,
+    /// The number of the first item that was not asked for.
     number: u8,
     /// The number that the walk ends at.
     end: u8,
+    /// How many items were told, and how many of them have been taken.
+    told: usize,
+    taken: usize,
+    numbers: [[u64; ITEM_FIELDS]; AT_ONCE],
 }
 
 impl<'a> Items<'a> {
     /// The place of the next item; behind the last, of the table's own loop; after a refusal, of the item refused.
     #[inline]
     pub fn place(&self) -> usize {
-        self.at
+        // It is not kept, since a walk seldom asks for it.
+        match self.numbers.get(self.taken.wrapping_sub(1)) {
+            Some([.., next]) => *next as usize,
+            None => self.at,
+        }
     }
 
-    /// Goes over the next item, where there is one.
+    /// Asks for the items behind those that were told, which have been taken, and says how many are.
     #[inline]
-    fn pass(&mut self) -> Result<Step<'a>, Refusal> {
-        let step = item_at(self.payload, self.at, self.number)?;
-        if let Step::Item(item) = &step {
-            self.at = item.next();
-            // A list has at most 255 items, so this is no more than their count.
-            self.number = self.number.saturating_add(1);
-        }
-        Ok(step)
+    fn ask(&mut self) -> Result<usize, Refusal> {
+        let at = self.place();
+        let numbers = self.numbers.as_flattened_mut();
+        let told = item_fields(self.payload, at, self.number, numbers)?;
+        self.at = at;
+        (self.told, self.taken) = (told.count, 0);
+        // A list has at most 255 items, so this is no more than their count.
+        self.number = self.number.saturating_add(told.count as u8);
+        Ok(told.count)
     }
 
     /// The table's own loop, which stands behind the last item: items that the walk has not come to are passed over. Refused: 43
     /// where one of these is, or the loop; 44 where bytes are left over after it.
     pub fn own_loop(mut self) -> Result<Loop<'a>, Refusal> {
+        self.taken = self.told;
         // An item that was refused is so again.
-        while let Step::Item(_) = self.pass()? {}
-        own_loop_at(self.payload, self.at)
+        while self.ask()? > 0 {
+            self.taken = self.told;
+        }
+        own_loop_at(self.payload, self.place())
     }
 }
 
@@ -420,17 +534,31 @@ impl<'a> Iterator for Items<'a> {
 
     #[inline]
     fn next(&mut self) -> Option<Self::Item> {
-        if self.number == self.end {
-            return None;
-        }
-        match self.pass() {
-            Ok(Step::Item(item)) => Some(Ok(item)),
-            Ok(Step::Over) => None,
-            Err(refusal) => {
-                self.end = self.number;
-                Some(Err(refusal))
+        if self.taken == self.told {
+            if self.number == self.end {
+                return None;
+            }
+            match self.ask() {
+                Ok(0) => return None,
+                Ok(_) => {}
+                Err(refusal) => {
+                    self.end = self.number;
+                    return Some(Err(refusal));
+                }
             }
         }
+        let numbers = self.numbers.get(self.taken)?;
+        self.taken += 1;
+        Some(Ok(Item::of(self.payload, numbers)))
+    }
+}
+
+impl fmt::Debug for Items<'_> {
+    fn fmt(&self, f: &mut fmt::Formatter<'_>) -> fmt::Result {
+        f.debug_struct("Items")
+            .field("payload", &self.payload)
+            .field("place", &self.place())
+            .finish_non_exhaustive()
     }
 }
 

@@ -374,6 +374,86 @@ fn a_programme_list() {
     );
 }
 
+/// Items of 8 bytes and of linkage 0 and up, behind them an empty loop.
+fn of_smallest(items: u8, there: u8) -> Vec<u8> {
+    let mut rest: Vec<u8> = (0..there).flat_map(|n| [0, 0, 0, n, 0, 0, 0, 0]).collect();
+    rest.push(0);
+    let mut payload = listed(items, &rest);
+    payload[1] |= ((payload.len() - 3) >> 8) as u8;
+    payload
+}
+
+/// A walk that is left anywhere knows its place, and goes on from there as often as it is copied; its own loop is behind all items.
+#[test]
+fn a_walk_left_anywhere() {
+    for count in [0, 1, 15, 16, 17, 31, 32, 33, 40, 125] {
+        let payload = of_smallest(count, count);
+        let list = programme::read(&payload).expect("a list");
+        let mut walk = list.items();
+        for n in 0..=count {
+            let at = 17 + 8 * usize::from(n);
+            assert_eq!(walk.place(), at);
+            let rest = walk.clone().map(|item| item.expect("an item"));
+            let rest = rest.map(|item| item.content_linkage());
+            assert!(rest.eq(u32::from(n)..count.into()));
+            assert_eq!(walk.clone().own_loop().map(|own| own.count), Ok(0));
+            let next = walk.next().map(|item| item.expect("an item"));
+            let expected = (n < count).then_some((n.into(), at + 8));
+            assert_eq!(next.map(|i| (i.content_linkage(), i.next())), expected);
+        }
+        assert!(walk.next().is_none() && format!("{walk:?}").contains("place: "));
+    }
+}
+
+/// The same where an item is refused, before, at and behind the end of what a walk takes at once.
+#[test]
+fn a_walk_to_a_refused_item() {
+    for there in [0, 1, 15, 16, 17, 31, 32, 33] {
+        let payload = of_smallest(there + 2, there);
+        let list = programme::read(&payload).expect("a list");
+        let mut walk = list.items();
+        for n in 0..there {
+            let refused = walk.clone().own_loop();
+            assert_eq!(refused, Err(Refusal::PROGRAMME_PASSES_END));
+            let item = walk.next().expect("an item").expect("an item");
+            assert_eq!(item.content_linkage(), n.into());
+        }
+        assert_eq!(walk.next(), Some(Err(Refusal::PROGRAMME_PASSES_END)));
+        let at = 17 + 8 * usize::from(there);
+        assert_eq!((walk.next(), walk.place()), (None, at));
+        assert_eq!(walk.own_loop(), Err(Refusal::PROGRAMME_PASSES_END));
+    }
+}
+
+/// All items of a section in the numbers that are lent for them, some of them, and none.
+#[test]
+fn items_in_lent_numbers() {
+    use programme::{items_at, FIRST_ITEM, ITEM_FIELDS, MOST_ITEMS};
+    let payload = of_smallest(125, 125);
+    let mut numbers = [[7; ITEM_FIELDS]; MOST_ITEMS];
+    let all = items_at(&payload, FIRST_ITEM, 0, &mut numbers).expect("items");
+    assert_eq!((all.len(), all.place()), (125, 17 + 8 * 125));
+    let walked = programme::read(&payload).expect("a list").items();
+    assert!(all.clone().map(Ok).eq(walked));
+    assert!(all.map(|item| item.content_linkage()).eq(0..125));
+    let some = items_at(&payload, 25, 1, &mut numbers[..3]).expect("items");
+    assert_eq!((some.len(), some.place()), (3, 49));
+    assert!(some.map(|item| item.content_linkage()).eq(1..4));
+    // Those past what was lent, and all where none is told, stay.
+    let mut numbers = [[7; ITEM_FIELDS]; 4];
+    let last = items_at(&payload, 1_009, 124, &mut numbers).expect("an item");
+    assert_eq!((last.len(), last.place()), (1, 1_017));
+    assert_eq!(numbers[1..], [[7; ITEM_FIELDS]; 3]);
+    let mut numbers = [[7; ITEM_FIELDS]; 4];
+    let over = items_at(&payload, 1_017, 125, &mut numbers).expect("none");
+    assert_eq!((over.len(), over.place()), (0, 1_017));
+    let refused = items_at(&payload, 16, 0, &mut numbers).err();
+    assert_eq!(refused, Some(Refusal::PROGRAMME_PASSES_END));
+    let refused = items_at(&payload, FIRST_ITEM, 0, &mut []).err();
+    assert_eq!(refused, Some(Refusal::OUTPUT_TOO_SMALL));
+    assert_eq!(numbers, [[7; ITEM_FIELDS]; 4]);
+}
+
 /// A list of 255 items, which no section has room for, is walked as far as it goes.
 #[test]
 fn more_items_than_there_are() {

@@ -88,7 +88,7 @@ fn triggers(bytes: &[u8]) {
     beside::triggers::belongs_by_any(&payload, &fields, &application);
 }
 
-/// A list that is walked, and a place in it or past it that is asked for an item and for the table's own loop, with room for so
+/// A list that is walked, and a place in it or past it that is asked for items and for the table's own loop, with room for so
 /// many numbers; and the staff's text of a file that holds the list alone. Where the first byte is odd, the payload has the length
 /// that it has in its length field, and where the bit above is 1 the header of a programme list.
 fn programmes(bytes: &[u8]) {
@@ -111,7 +111,7 @@ fn programmes(bytes: &[u8]) {
     beside::programmes::walk(&payload, &mut Tally::default());
     beside::programmes::read(&payload, room);
     beside::programmes::step(&payload, at, number);
-    beside::programmes::step_in_room(&payload, at, number, room);
+    beside::programmes::in_room(&payload, at, number, room);
     beside::programmes::own(&payload, at);
     beside::programmes::text(&Parts::of(vec![payload]).bytes(), room);
 }

@@ -118,7 +118,7 @@ pub struct Call {
     pub with: Arguments,
     /// The faults that it has at once, of which the first is answered.
     pub faults: Option<(u8, u8)>,
-    /// In one spelling; lines of a text follow it.
+    /// In one spelling; lines of a text or items follow it.
     pub answer: String,
 }
 
@@ -201,6 +201,9 @@ pub fn parse(file: &str, text: &str) -> Vec<Vector> {
             ("line", Some(call)) if call.answer.starts_with("text") => {
                 call.answer = format!("{}\n{rest}", call.answer);
             }
+            ("item", Some(call)) if call.answer.starts_with("items=") => {
+                call.answer = format!("{}\n{line}", call.answer);
+            }
             ("lend", _) if !begun => vector.steps.push(Step::Lend(arguments())),
             ("place", _) if !begun => vector.steps.push(Step::Place(arguments())),
             ("clock", _) if !begun => vector.steps.push(Step::Clock(arguments())),
@@ -256,7 +259,8 @@ mod tests {
     use super::*;
 
     const TEXT: &str = "# a file\n\nvector one\nlend store=7\nfaults 17 18\ncall f a=1 b=C9+00*3 c=0:8+3:9\nanswer refused 17\n\
-        call g\nanswer bytes=00*2+ab\n\nvector two\ncall h\nanswer text\nline x y\nline z\n";
+        call g\nanswer bytes=00*2+ab\n\nvector two\ncall h\nanswer text\nline x y\nline z\n\
+        call i\nanswer items=1 next=2\nitem a=1\n";
 
     #[test]
     fn a_file_is_read() {
@@ -276,10 +280,8 @@ mod tests {
             (&calls[1].answer[..], calls[1].refused()),
             ("bytes=0000AB", None)
         );
-        assert_eq!(
-            found[1].calls().next().expect("a call").answer,
-            "text\nx y\nz"
-        );
+        let answers: Vec<_> = found[1].calls().map(|call| &call.answer[..]).collect();
+        assert_eq!(answers, ["text\nx y\nz", "items=1 next=2\nitem a=1"]);
         assert_eq!(spelt_held(&[0; 16]), "-");
     }
 
@@ -295,6 +297,8 @@ mod tests {
             ("lend store=7", "lend store"),
             ("a=1", "a=1 a=2"),
             ("line z", "z"),
+            ("line z", "item z"),
+            ("items=1 next=2", "over"),
             ("call h\n", ""),
             ("bytes=00*2+ab", "bytes=0*2"),
             ("bytes=00*2+ab", "bytes=+1"),

@@ -334,6 +334,26 @@ static int no_item(khumsafil_item item, khumsafil_refusal by, khumsafil_item_kin
     return 0;
 }
 
+/* All members of what is said of items that were not found are 0 but the place of those that are over. */
+static int no_items(khumsafil_items items, khumsafil_refusal by, khumsafil_item_kind found, size_t next) {
+    EXPECT(items.refusal == by && items.found == found && items.count == 0 && items.next == next);
+    return 0;
+}
+
+/* Two items that were found are one. */
+static int same_item(khumsafil_item a, khumsafil_item b) {
+    EXPECT(!a.refusal && !b.refusal && a.found == KHUMSAFIL_ITEM_FOUND && b.found == KHUMSAFIL_ITEM_FOUND);
+    EXPECT(a.content_linkage == b.content_linkage && a.flags == b.flags && a.next == b.next);
+    EXPECT(a.has_playback_length == b.has_playback_length && a.playback_length == b.playback_length);
+    EXPECT(a.has_playback_delay == b.has_playback_delay && a.playback_delay == b.playback_delay);
+    EXPECT(a.has_expiration == b.has_expiration && a.expiration == b.expiration);
+    EXPECT(a.has_content_size == b.has_content_size && a.content_size == b.content_size);
+    EXPECT(a.name.place == b.name.place && a.name.length == b.name.length && a.descriptors.count == b.descriptors.count);
+    EXPECT(a.descriptors.bytes.place == b.descriptors.bytes.place);
+    EXPECT(a.descriptors.bytes.length == b.descriptors.bytes.length);
+    return 0;
+}
+
 /* Every question about a list is refused by the number, and nothing else is said. */
 static int no_list(const uint8_t *payload, size_t length, khumsafil_refusal by) {
     const khumsafil_programme read = khumsafil_programme_read(payload, length);
@@ -343,6 +363,8 @@ static int no_list(const uint8_t *payload, size_t length, khumsafil_refusal by) 
     EXPECT(own.descriptors.bytes.place == 0 && own.descriptors.bytes.length == 0);
     EXPECT(no_item(khumsafil_item_at(payload, length, 17, 0), by, KHUMSAFIL_ITEM_NOTHING, 0) == 0);
     EXPECT(no_item(khumsafil_item_at(payload, length, 17, 255), by, KHUMSAFIL_ITEM_NOTHING, 0) == 0);
+    EXPECT(no_items(khumsafil_items_at(payload, length, 17, 0, NULL, 0), by, KHUMSAFIL_ITEM_NOTHING, 0) == 0);
+    EXPECT(no_items(khumsafil_items_at(payload, length, 17, 255, NULL, 0), by, KHUMSAFIL_ITEM_NOTHING, 0) == 0);
     return 0;
 }
 
@@ -371,9 +393,11 @@ static int programmes(void) {
     uint8_t other[sizeof list + 1];
     khumsafil_programme read = khumsafil_programme_read(list, sizeof list);
     khumsafil_item item = khumsafil_item_at(list, sizeof list, KHUMSAFIL_FIRST_ITEM, 0);
+    khumsafil_items items;
     khumsafil_own own;
-    size_t at, size;
-    unsigned n;
+    static uint64_t fields[KHUMSAFIL_MOST_ITEMS * KHUMSAFIL_ITEM_FIELDS];
+    size_t at, size, room;
+    unsigned n, i;
     EXPECT(!read.refusal && read.service_id == 3152 && read.time_span_start == 1000000800);
     EXPECT(read.time_span_length == 1440 && read.items == 2);
     EXPECT(!item.refusal && item.found == KHUMSAFIL_ITEM_FOUND && item.content_linkage == 66 && item.flags == 0x27D);
@@ -393,6 +417,26 @@ static int programmes(void) {
     EXPECT(item.descriptors.bytes.place == 67 && item.descriptors.bytes.length == 0 && item.next == 67);
     EXPECT(walked(list, item.descriptors) == 0 && khumsafil_item_is_on_internet(&item));
     EXPECT(!khumsafil_item_has_updates(&item) && !khumsafil_item_is_in_broadcast(&item));
+
+    /* With room for none, for each, for some and for all of any section; and a walk by such calls, as the header shows it. */
+    for (room = 0; room <= 2 * KHUMSAFIL_ITEM_FIELDS + 3; room++) {
+        const unsigned fit = (unsigned)(room / KHUMSAFIL_ITEM_FIELDS);
+        items = khumsafil_items_at(list, sizeof list, KHUMSAFIL_FIRST_ITEM, 0, fields, room);
+        if (fit == 0)
+            EXPECT(no_items(items, KHUMSAFIL_REFUSED_OUTPUT_TOO_SMALL, KHUMSAFIL_ITEM_NOTHING, 0) == 0);
+        else
+            EXPECT(!items.refusal && items.found == KHUMSAFIL_ITEM_FOUND && items.count == fit &&
+                   items.next == (fit == 1 ? 59 : 67));
+    }
+    for (room = KHUMSAFIL_ITEM_FIELDS; room <= sizeof fields / sizeof *fields; room++) {
+        at = KHUMSAFIL_FIRST_ITEM, n = 0;
+        for (; (items = khumsafil_items_at(list, sizeof list, at, n, fields, room)).found == KHUMSAFIL_ITEM_FOUND;
+             at = items.next, n += items.count)
+            for (i = 0; i < items.count; i++)
+                EXPECT(same_item(khumsafil_item_of(fields + i * KHUMSAFIL_ITEM_FIELDS),
+                                 khumsafil_item_at(list, sizeof list, n + i == 0 ? 17 : 59, n + i)) == 0);
+        EXPECT(n == 2 && at == 67 && no_items(items, KHUMSAFIL_NOT_REFUSED, KHUMSAFIL_ITEM_OVER, 67) == 0);
+    }
 
     /* The walk as the header shows it, and the loop behind it. */
     at = KHUMSAFIL_FIRST_ITEM, n = 0;
@@ -438,6 +482,12 @@ static int programmes(void) {
                    KHUMSAFIL_ITEM_NOTHING, 0) == 0);
     EXPECT(no_item(khumsafil_item_at(list, sizeof list, SIZE_MAX, 1), KHUMSAFIL_REFUSED_PROGRAMME_PASSES_END,
                    KHUMSAFIL_ITEM_NOTHING, 0) == 0);
+    EXPECT(no_items(khumsafil_items_at(list, sizeof list, 17, 256, fields, 10), KHUMSAFIL_NOT_REFUSED, KHUMSAFIL_ITEM_OVER,
+                    17) == 0);
+    EXPECT(no_items(khumsafil_items_at(list, sizeof list, SIZE_MAX, 2, NULL, 0), KHUMSAFIL_NOT_REFUSED, KHUMSAFIL_ITEM_OVER,
+                    SIZE_MAX) == 0);
+    EXPECT(no_items(khumsafil_items_at(list, sizeof list, SIZE_MAX, 1, fields, 10), KHUMSAFIL_REFUSED_PROGRAMME_PASSES_END,
+                    KHUMSAFIL_ITEM_NOTHING, 0) == 0);
     EXPECT(khumsafil_own_loop(list, sizeof list, SIZE_MAX).refusal == KHUMSAFIL_REFUSED_PROGRAMME_PASSES_END);
     EXPECT(khumsafil_own_loop(list, sizeof list, 16).refusal == KHUMSAFIL_REFUSED_PROGRAMME_PASSES_END);
 

@@ -34,8 +34,8 @@ static int empty_buffers(void) {
     EXPECT(!khumsafil_raw_trigger_belongs(NULL, 0, of(0, 2, 5, 0), KHUMSAFIL_TRIGGER_FIELDS, NULL, 0));
     EXPECT(khumsafil_raw_trigger_belongs(p10, sizeof p10, of(sizeof p10, 2, 5, 0), KHUMSAFIL_TRIGGER_FIELDS, NULL, 0));
     EXPECT(khumsafil_raw_programme_read(NULL, 0, NULL, 0) == KHUMSAFIL_REFUSED_PAYLOAD_SHORT);
-    EXPECT(khumsafil_raw_programme_item(NULL, 0, 0, 0, NULL, 0) == KHUMSAFIL_REFUSED_PAYLOAD_SHORT);
-    EXPECT(khumsafil_raw_programme_item(NULL, 0, SIZE_MAX, 255, NULL, 0) == KHUMSAFIL_REFUSED_PAYLOAD_SHORT);
+    EXPECT(khumsafil_raw_programme_items(NULL, 0, 0, 0, NULL, 0) == KHUMSAFIL_REFUSED_PAYLOAD_SHORT);
+    EXPECT(khumsafil_raw_programme_items(NULL, 0, SIZE_MAX, 255, NULL, 0) == KHUMSAFIL_REFUSED_PAYLOAD_SHORT);
     EXPECT(khumsafil_raw_programme_own(NULL, 0, 0) == KHUMSAFIL_REFUSED_PAYLOAD_SHORT);
     EXPECT(khumsafil_raw_programme_own(NULL, 0, SIZE_MAX) == KHUMSAFIL_REFUSED_PAYLOAD_SHORT);
     EXPECT(khumsafil_raw_file_table(NULL, 0, NULL, 0) == KHUMSAFIL_REFUSED_BAD_NUMBER);
@@ -471,12 +471,28 @@ static const uint8_t list[] = {0xDF, 0x70, 0x25, 0x10, 0x00, 0xC7, 0x00, 0x00, 0
                                0x02, 'A',  'B',  0x01, 0xC6, 0x00, 0x02, 0x05, 0x01, 0x07, 0x05, 0x00};
 #define LIST sizeof list
 
+/* The same with a second item behind it, the smallest, of linkage 7; and with that item cut off. */
+static const uint8_t of_two[] = {0xDF, 0x70, 0x28, 0x10, 0x00, 0xC7, 0x00, 0x00, 0x0C, 0x50, 0x3B, 0x9A, 0xCD, 0x20, 0xFD,
+                                 0xA0, 0x02, 0x00, 0x00, 0x00, 0x42, 0x01, 0x3F, 0x00, 0x00, 0x00, 0x00, 0x09, 0x02, 'A',
+                                 'B',  0x01, 0xC6, 0x00, 0x00, 0x00, 0x00, 0x07, 0x00, 0x3F, 0x00, 0x00, 0x00};
+static const uint8_t cut_off[] = {0xDF, 0x70, 0x26, 0x10, 0x00, 0xC7, 0x00, 0x00, 0x0C, 0x50, 0x3B, 0x9A, 0xCD, 0x20,
+                                  0xFD, 0xA0, 0x02, 0x00, 0x00, 0x00, 0x42, 0x01, 0x3F, 0x00, 0x00, 0x00, 0x00, 0x09,
+                                  0x02, 'A',  'B',  0x01, 0xC6, 0x00, 0x00, 0x00, 0x00, 0x07, 0x00, 0x3F, 0x00};
+
+/* What is answered where there is room for so many items, which end before a place. */
+static uint64_t told(unsigned count, size_t next) {
+    if (count == 0)
+        return KHUMSAFIL_REFUSED_OUTPUT_TOO_SMALL;
+    return (uint64_t)next << 32 | (uint64_t)count << 16 | KHUMSAFIL_ITEM_FOUND << 8;
+}
+
 /* Fewer numbers than a list or an item has stay as they were; of more, those behind do. What is refused or over leaves all. */
 static int room_for_a_list(void) {
     static const uint32_t of_list[KHUMSAFIL_PROGRAMME_FIELDS] = {3152, 1000000800, 1440, 1};
-    static const uint64_t of_item[KHUMSAFIL_ITEM_FIELDS] = {66, 4, 0, 0, 0, 9, 29, 2, 1, 32, 2, 34};
+    static const uint64_t of_items[2 * KHUMSAFIL_ITEM_FIELDS] = {66, 4, 0, 0, 0, 9, 29, 1, 32, 34,
+                                                                 7,  0, 0, 0, 0, 0, 41, 0, 42, 42};
     uint32_t read[8];
-    uint64_t item[16];
+    uint64_t item[32];
     size_t room, i;
     for (room = 0; room <= 8; room++) {
         const size_t from = room < KHUMSAFIL_PROGRAMME_FIELDS ? 0 : KHUMSAFIL_PROGRAMME_FIELDS;
@@ -490,25 +506,32 @@ static int room_for_a_list(void) {
             EXPECT(read[i] == (i < from ? of_list[i] : 0xABCD));
     }
     EXPECT(khumsafil_raw_programme_read(list, LIST, NULL, 0) == KHUMSAFIL_REFUSED_OUTPUT_TOO_SMALL);
-    for (room = 0; room <= 16; room++) {
-        const size_t from = room < KHUMSAFIL_ITEM_FIELDS ? 0 : KHUMSAFIL_ITEM_FIELDS;
-        for (i = 0; i < 16; i++)
+    for (room = 0; room <= 32; room++) {
+        /* How many there is room for, of a list of one item, also where a second is refused, and of a list of two. */
+        const unsigned one = room < KHUMSAFIL_ITEM_FIELDS ? 0 : 1;
+        const unsigned two = room < 2 * KHUMSAFIL_ITEM_FIELDS ? one : 2;
+        for (i = 0; i < 32; i++)
             item[i] = 0xABCD;
         /* 15 is given only where an item is there. */
-        EXPECT(khumsafil_raw_programme_item(list, LIST - 1, 17, 0, item, room) == KHUMSAFIL_REFUSED_LONGER_THAN_PAYLOAD);
-        EXPECT(khumsafil_raw_programme_item(list, LIST, 16, 0, item, room) == KHUMSAFIL_REFUSED_PROGRAMME_PASSES_END);
-        EXPECT(khumsafil_raw_programme_item(list, LIST, SIZE_MAX, 0, item, room) == KHUMSAFIL_REFUSED_PROGRAMME_PASSES_END);
-        EXPECT(khumsafil_raw_programme_item(list, LIST, 17, 1, item, room) == KHUMSAFIL_ITEM_OVER << 8);
-        EXPECT(khumsafil_raw_programme_item(list, LIST, SIZE_MAX, 255, item, room) == KHUMSAFIL_ITEM_OVER << 8);
-        for (i = 0; i < 16; i++)
+        EXPECT(khumsafil_raw_programme_items(list, LIST - 1, 17, 0, item, room) == KHUMSAFIL_REFUSED_LONGER_THAN_PAYLOAD);
+        EXPECT(khumsafil_raw_programme_items(list, LIST, 16, 0, item, room) == KHUMSAFIL_REFUSED_PROGRAMME_PASSES_END);
+        EXPECT(khumsafil_raw_programme_items(list, LIST, SIZE_MAX, 0, item, room) == KHUMSAFIL_REFUSED_PROGRAMME_PASSES_END);
+        EXPECT(khumsafil_raw_programme_items(list, LIST, 17, 1, item, room) == KHUMSAFIL_ITEM_OVER << 8);
+        EXPECT(khumsafil_raw_programme_items(list, LIST, SIZE_MAX, 255, item, room) == KHUMSAFIL_ITEM_OVER << 8);
+        EXPECT(khumsafil_raw_programme_items(cut_off, sizeof cut_off, 34, 1, item, room) ==
+               KHUMSAFIL_REFUSED_PROGRAMME_PASSES_END);
+        for (i = 0; i < 32; i++)
             EXPECT(item[i] == 0xABCD);
-        EXPECT(khumsafil_raw_programme_item(list, LIST, 17, 0, item, room) ==
-               (from == 0 ? KHUMSAFIL_REFUSED_OUTPUT_TOO_SMALL : KHUMSAFIL_ITEM_FOUND << 8));
-        for (i = 0; i < 16; i++)
-            EXPECT(item[i] == (i < from ? of_item[i] : 0xABCD));
+        EXPECT(khumsafil_raw_programme_items(list, LIST, 17, 0, item, room) == told(one, 34));
+        EXPECT(khumsafil_raw_programme_items(cut_off, sizeof cut_off, 17, 0, item, room) == told(one, 34));
+        for (i = 0; i < 32; i++)
+            EXPECT(item[i] == (i < one * KHUMSAFIL_ITEM_FIELDS ? of_items[i] : 0xABCD));
+        EXPECT(khumsafil_raw_programme_items(of_two, sizeof of_two, 17, 0, item, room) == told(two, two == 2 ? 42 : 34));
+        for (i = 0; i < 32; i++)
+            EXPECT(item[i] == (i < two * KHUMSAFIL_ITEM_FIELDS ? of_items[i] : 0xABCD));
     }
-    EXPECT(khumsafil_raw_programme_item(list, LIST, 17, 0, NULL, 0) == KHUMSAFIL_REFUSED_OUTPUT_TOO_SMALL);
-    EXPECT(khumsafil_raw_programme_item(list, LIST, 17, 1, NULL, 0) == KHUMSAFIL_ITEM_OVER << 8);
+    EXPECT(khumsafil_raw_programme_items(list, LIST, 17, 0, NULL, 0) == KHUMSAFIL_REFUSED_OUTPUT_TOO_SMALL);
+    EXPECT(khumsafil_raw_programme_items(list, LIST, 17, 1, NULL, 0) == KHUMSAFIL_ITEM_OVER << 8);
     return 0;
 }
 
@@ -521,7 +544,7 @@ static int places_of_a_list(void) {
     EXPECT(khumsafil_raw_programme_own(list, LIST, LIST) == KHUMSAFIL_REFUSED_PROGRAMME_PASSES_END);
     EXPECT(khumsafil_raw_programme_own(list, LIST, LIST - 1) == (uint64_t)LIST << 16);
     for (less = 0; less < 600; less++) {
-        EXPECT(khumsafil_raw_programme_item(list, LIST, SIZE_MAX - less, 0, item, KHUMSAFIL_ITEM_FIELDS) ==
+        EXPECT(khumsafil_raw_programme_items(list, LIST, SIZE_MAX - less, 0, item, KHUMSAFIL_ITEM_FIELDS) ==
                KHUMSAFIL_REFUSED_PROGRAMME_PASSES_END);
         EXPECT(khumsafil_raw_programme_own(list, LIST, SIZE_MAX - less) == KHUMSAFIL_REFUSED_PROGRAMME_PASSES_END);
         EXPECT(khumsafil_raw_programme_own(list, LIST, LIST + less) == KHUMSAFIL_REFUSED_PROGRAMME_PASSES_END);

@@ -184,7 +184,7 @@ fn as_cpp() {
 }
 
 /// A call of each function that answers in a structure, by that function's name.
-const ANSWERS: [(&str, &str); 27] = [
+const ANSWERS: [(&str, &str); 29] = [
     ("section_read", "bytes, 8"),
     ("shelf_begin", "&shelf"),
     ("shelf_offer", "&shelf, bytes, 8"),
@@ -201,7 +201,9 @@ const ANSWERS: [(&str, &str); 27] = [
     ("descriptor_step", "bytes, 8, 0"),
     ("trigger_read", "bytes, 8"),
     ("programme_read", "bytes, 8"),
+    ("item_of", "fields"),
     ("item_at", "bytes, 8, 17, 0"),
+    ("items_at", "bytes, 8, 17, 0, fields, 10"),
     ("own_loop", "bytes, 8, 17"),
     ("programme_list", "bytes, 4, bytes + 4, 4"),
     ("clock_fresh", "&clock"),
@@ -221,7 +223,8 @@ fn takes(statement: &str) -> bool {
          uint32_t tried(khumsafil_key key, khumsafil_label label, khumsafil_activation activation);\n\
          uint32_t tried(khumsafil_key key, khumsafil_label label, khumsafil_activation activation) {{\n\
          static khumsafil_shelf shelf;\nstatic khumsafil_clock clock;\nstatic uint8_t bytes[8];\n\
-         uint32_t number = shelf.store[0] + clock.record[0] + bytes[0] + key.table_id + label.version + activation.event;\n\
+         static uint64_t fields[KHUMSAFIL_ITEM_FIELDS];\n\
+         uint32_t number = shelf.store[0] + clock.record[0] + bytes[0] + (uint8_t)fields[0] + key.table_id + label.version + activation.event;\n\
          {statement}\nreturn number;\n}}\n"
     );
     let mut child = compiler()

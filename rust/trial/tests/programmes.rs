@@ -1,8 +1,10 @@
 //! Programme lists: the library beside the independent program.
 
-use khumsafil::programme;
+use khumsafil::programme::{self, ITEM_FIELDS, MOST_ITEMS};
 use std::collections::BTreeMap;
-use trial::beside::programmes::{own, read, step, step_in_room, text, walk, ITEM, OVER, OWN};
+use trial::beside::programmes::{
+    in_room, own, read, step, text, walk, walk_in_room, ITEM, OVER, OWN,
+};
 use trial::files;
 use trial::programmes::{self, Made, Shape, KINDS, MOST, SMALLEST};
 use trial::random::Random;
@@ -20,6 +22,15 @@ const ANSWERS: [u8; 12] = [0, 1, 2, 3, 4, 5, 6, 7, 8, 43, 44, 45];
 /// What a step can answer, and the table's own loop.
 const STEPS: [u8; 14] = [ITEM, OVER, OWN, 1, 2, 3, 4, 5, 6, 7, 8, 43, 44, 45];
 
+/// What a call for items can answer.
+const SEVERAL: [u8; 13] = [ITEM, OVER, 1, 2, 3, 4, 5, 6, 7, 8, 15, 43, 45];
+
+/// How many numbers are lent for items: fewer than one takes, those of one, some or all, and numbers that are part of none.
+fn room(random: &mut Random) -> usize {
+    let items = random.pick(&[0, 1, 1, 2, 3, 16, 124, MOST_ITEMS, 126, 255]);
+    items * ITEM_FIELDS + random.pick(&[0, 0, 1, 5, 9])
+}
+
 #[test]
 fn random_lists() {
     let mut random = Random::new(SEED);
@@ -36,13 +47,96 @@ fn random_lists() {
             let number = random.pick(&[0, 0, 1, any]);
             found.note("any place", step(&payload, at, number));
             found.note("any own loop", own(&payload, at));
-            step_in_room(&payload, at, number, random.below(20));
+            in_room(&payload, at, number, room(&mut random));
             read(&payload, random.below(20));
         }
     }
     common(tally.total(), 300_000);
     tally.show(&format!("lists, seed {SEED:#018X}"), &ANSWERS);
     found.show("lists, each answer", &STEPS);
+}
+
+/// Calls for several items of any list from the place of any of its items and from any other, taken for any number, in any room.
+#[test]
+fn several_items() {
+    let mut random = Random::new(SEED);
+    let mut found = Tally::default();
+    for kind in KINDS {
+        for _ in 0..share(8_000) {
+            let mut payload = programmes::payload(&mut random, kind);
+            // A list without items is over everywhere, so fewer of those.
+            for _ in 0..3 {
+                if payload.get(16) == Some(&0) {
+                    payload = programmes::payload(&mut random, kind);
+                }
+            }
+            let mut places = vec![17];
+            if let Ok(items) = opinion::programme::items(&payload) {
+                places.extend(items.flatten().map(|item| item.next));
+            }
+            for _ in 0..4 {
+                // Mostly an item's place and number; sometimes those behind the last.
+                let behind = places.len() - 1;
+                let n = match random.below(8) {
+                    0 => behind,
+                    _ => random.below(behind.max(1)),
+                };
+                let inside = random.below(payload.len() + 2);
+                let at = random.pick(&[places[n], places[n], places[n], inside, 16, usize::MAX]);
+                let any = random.byte();
+                let number = random.pick(&[n as u8, n as u8, n as u8, 0, any]);
+                found.note(kind, in_room(&payload, at, number, room(&mut random)));
+            }
+            found.note("walks", walk_in_room(&payload, 1 + random.below(130)));
+        }
+    }
+    common(found.total(), 500_000);
+    found.show(&format!("several items, seed {SEED:#018X}"), &SEVERAL);
+}
+
+/// An item in the middle that is refused: those before it are told from any of their places in any room, it is refused at its own
+/// place, and those behind it are told at theirs.
+#[test]
+fn a_refused_item_in_the_middle() {
+    let mut random = Random::new(SEED);
+    let mut found = Tally::default();
+    for _ in 0..share(60) {
+        // Items of 8 bytes, so few that a name of 255 bytes passes the end from any of them.
+        let count = 2 + random.below(28);
+        let mut payload = vec![0xDF, 0x70, 0, 0x10, 0, 0xC7, 0, 0];
+        payload.extend(random.bytes(8));
+        payload.push(count as u8);
+        payload.resize(17 + 8 * count, 0);
+        payload.push(0);
+        programmes::mend(&mut payload);
+        let at = |n: usize| 17 + 8 * n;
+        for refused in 0..count {
+            let mut payload = payload.clone();
+            payload[at(refused) + 6] = 255;
+            for first in 0..count {
+                let lent = room(&mut random);
+                let fit = lent / ITEM_FIELDS;
+                let met = in_room(&payload, at(first), first as u8, lent);
+                let expected = match first {
+                    _ if first == refused => 43,
+                    _ if fit == 0 => 15,
+                    _ => ITEM,
+                };
+                assert_eq!(met, expected, "{first} of {payload:02X?}");
+                found.note("from each item", met);
+                let mut numbers = vec![[0; ITEM_FIELDS]; fit];
+                if let Ok(told) =
+                    programme::items_at(&payload, at(first), first as u8, &mut numbers)
+                {
+                    let end = if first < refused { refused } else { count };
+                    assert_eq!(told.len(), fit.min(end - first));
+                    assert_eq!(told.place(), at(first + told.len()));
+                }
+            }
+            found.note("walks", walk_in_room(&payload, 1 + random.below(40)));
+        }
+    }
+    found.show("a refused item", &[ITEM, 15, 43]);
 }
 
 /// Each sound list shortened to every length, with the length that it then has: every field and every descriptor is cut at each
@@ -110,7 +204,7 @@ fn steps_at_every_place() {
                 let number = random.pick(&numbers);
                 found.note("step", step(&payload, at, number));
                 found.note("own loop", own(&payload, at));
-                step_in_room(&payload, at, number, random.below(20));
+                in_room(&payload, at, number, random.below(40));
             }
         }
     }
@@ -152,7 +246,7 @@ fn of_1024_bytes() {
         }
     }
     // 17 bytes, 125 items of 8, and the own loop's number and 6 bytes of its descriptors.
-    assert_eq!(most, 125);
+    assert_eq!(usize::from(most), MOST_ITEMS);
     found.show("lists of 1,024 bytes", &[ITEM, OVER, OWN, 3]);
 }
 

@@ -311,19 +311,19 @@ fn ours(lent: &mut Lent, call: &Call) -> String {
                 |read| list_said([read[0], read[1], read[2], read[3]]),
             )
         }
-        "programme_item" => {
+        "programme_items" => {
             let mut out = vec![u64::from(UNWRITTEN_NUMBER); with.number("room")];
             let (payload, at) = (with.bytes("payload"), with.number("at"));
             let answer = programme::item_fields(&payload, at, with.number("number"), &mut out);
-            match answer {
-                Ok(false) => {
-                    numbered(Ok(()), &out, 0).expect("nothing written");
-                    "over".to_string()
+            let count = answer.map_or(0, |told| told.count);
+            let size = count * programme::ITEM_FIELDS;
+            match numbered(answer.map(|_| ()), &out, size) {
+                Ok(fields) => {
+                    let items = fields.chunks_exact(programme::ITEM_FIELDS).map(item_of);
+                    let next = answer.map_or(0, |told| told.next);
+                    items_said(&items.collect::<Vec<_>>(), next)
                 }
-                answer => {
-                    let answer = numbered(answer.map(|_| ()), &out, programme::ITEM_FIELDS);
-                    answer.map_or_else(|refused| refused, item_said)
-                }
+                Err(refused) => refused,
             }
         }
         "programme_own" => {
@@ -434,24 +434,62 @@ fn list_said(read: [u32; 4]) -> String {
     )
 }
 
-/// An item's twelve numbers as a vector spells them. A field that is not there is 0.
-fn item_said(fields: &[u64]) -> String {
-    let [linkage, flags, playback, delay, expires, size, name, named, count, at, bytes, next] =
-        fields.try_into().expect("twelve numbers");
-    let optional = |bit: u64, value: u64| match flags >> bit & 1 {
+/// An item out of its ten numbers: the byte before its descriptors counts them, and they end where it does.
+fn item_of(fields: &[u64]) -> opinion::programme::Item {
+    let [linkage, flags, playback, delay, expires, size, name, count, at, next] =
+        fields.try_into().expect("ten numbers");
+    opinion::programme::Item {
+        content_linkage: linkage as u32,
+        flags: flags as u16,
+        playback_length: playback as u32,
+        playback_delay: delay as u32,
+        expiration: expires as u32,
+        content_size: size,
+        name_place: name as usize,
+        name_length: (at - 1 - name) as usize,
+        descriptors: opinion::programme::Loop {
+            count: count as u8,
+            place: at as usize,
+            length: (next - at) as usize,
+        },
+        next: next as usize,
+    }
+}
+
+/// Items and the place after them, as a vector spells them.
+fn items_said(items: &[opinion::programme::Item], next: usize) -> String {
+    if items.is_empty() {
+        return "over".to_string();
+    }
+    let said: String = items.iter().map(item_said).collect();
+    format!("items={} next={next}{said}", items.len())
+}
+
+/// An item as a line of a vector spells it. A field that is not there is 0.
+fn item_said(item: &opinion::programme::Item) -> String {
+    let optional = |bit: u16, value: u64| match item.flags >> bit & 1 {
         1 => value.to_string(),
         _ => {
             assert_eq!(value, 0, "a field that is not there");
             "-".to_string()
         }
     };
+    let own = item.descriptors;
     format!(
-        "item content_linkage={linkage} flags={flags} playback_length={} playback_delay={} expiration={} content_size={} \
-         name={name}:{named} descriptors={count}:{at}:{bytes} next={next}",
-        optional(5, playback),
-        optional(4, delay),
-        optional(3, expires),
-        optional(2, size)
+        "\nitem content_linkage={} flags={} playback_length={} playback_delay={} expiration={} content_size={} \
+         name={}:{} descriptors={}:{}:{} next={}",
+        item.content_linkage,
+        item.flags,
+        optional(5, item.playback_length.into()),
+        optional(4, item.playback_delay.into()),
+        optional(3, item.expiration.into()),
+        optional(2, item.content_size),
+        item.name_place,
+        item.name_length,
+        own.count,
+        own.place,
+        own.length,
+        item.next
     )
 }
 
@@ -618,13 +656,12 @@ fn theirs(lent: &mut Lent, call: &Call) -> Option<String> {
             ]),
             Err(number) => refused_by(number),
         },
-        "programme_item" => {
-            use opinion::programme::Step;
+        "programme_items" => {
             let (payload, at) = (with.bytes("payload"), with.number("at"));
-            match opinion::programme::item(&payload, at, with.number("number")) {
-                Ok(Step::Over) => "over".to_string(),
-                Ok(Step::Item(_)) if !enough(with, programme::ITEM_FIELDS) => return None,
-                Ok(Step::Item(item)) => item_said(&trial::beside::programmes::numbers(&item)),
+            let (number, room) = (with.number("number"), with.number("room"));
+            match trial::beside::programmes::their_items(&payload, at, number, room) {
+                Ok((items, next)) => items_said(&items, next),
+                Err(15) => return None,
                 Err(number) => refused_by(number),
             }
         }

@@ -1,7 +1,9 @@
 //! Programme lists.
 
 use crate::tally::Tally;
-use khumsafil::programme::{self, Flags, Item, Loop, Step, FIELDS, ITEM_FIELDS, TEXT};
+use khumsafil::programme::{
+    self, Flags, Item, Loop, Step, FIELDS, FIRST_ITEM, ITEM_FIELDS, MOST_ITEMS, TEXT,
+};
 use khumsafil::Refusal;
 use opinion::programme as theirs;
 
@@ -59,10 +61,8 @@ pub fn numbers(item: &theirs::Item) -> [u64; ITEM_FIELDS] {
         item.expiration.into(),
         item.content_size,
         item.name_place as u64,
-        item.name_length as u64,
         item.descriptors.count.into(),
         item.descriptors.place as u64,
-        item.descriptors.length as u64,
         item.next as u64,
     ]
 }
@@ -125,33 +125,110 @@ pub fn step(payload: &[u8], at: usize, number: u8) -> u8 {
     }
 }
 
-/// The same in numbers, with room for so many: where an item is there fewer than its numbers are 15, and nothing is written but
-/// an item's numbers.
-pub fn step_in_room(payload: &[u8], at: usize, number: u8, room: usize) -> u8 {
-    let mut out = [UNWRITTEN; ITEM_FIELDS + 4];
-    let room = room % (out.len() + 1);
-    let answer = programme::item_fields(payload, at, number, &mut out[..room]);
-    let told = match answer.map_err(Refusal::number) {
-        Err(number) => number,
-        Ok(true) => ITEM,
-        Ok(false) => OVER,
+/// The items from a place on as the independent program says them one by one, and the place after them: as many as fit in so many
+/// numbers, up to the last or to the first that is refused.
+pub fn their_items(
+    payload: &[u8],
+    at: usize,
+    number: u8,
+    room: usize,
+) -> Result<(Vec<theirs::Item>, usize), u8> {
+    let (mut items, mut place) = (Vec::new(), at);
+    let mut asked = number;
+    loop {
+        match theirs::item(payload, place, asked) {
+            Ok(theirs::Step::Item(item)) if room / ITEM_FIELDS > items.len() => {
+                place = item.next;
+                items.push(item);
+                // It was below the list's count.
+                asked += 1;
+            }
+            Ok(theirs::Step::Item(_)) if items.is_empty() => return Err(15),
+            Err(number) if items.is_empty() => return Err(number),
+            _ => return Ok((items, place)),
+        }
+    }
+}
+
+/// Asks both for the items from a place on in so many numbers, fails where they differ in an item, in how many there are, in the
+/// place after them or in a number past theirs, and gives what both said.
+pub fn in_room(payload: &[u8], at: usize, number: u8, room: usize) -> u8 {
+    let asked = || format!("{room} for item {number} at {at} of {payload:02X?}");
+    let expected = their_items(payload, at, number, room);
+    // An item more than is lent, which no call may touch.
+    let mut out = vec![UNWRITTEN; room + ITEM_FIELDS];
+    let told = programme::item_fields(payload, at, number, &mut out[..room]);
+    let (written, rest) = match (told, &expected) {
+        (Ok(told), Ok((items, next))) => {
+            assert_eq!((told.count, told.next), (items.len(), *next), "{}", asked());
+            out.split_at(items.len() * ITEM_FIELDS)
+        }
+        (Err(refusal), Err(number)) if refusal.number() == *number => out.split_at(0),
+        (ours, other) => panic!("{ours:?} is not {other:?}: {}", asked()),
     };
-    let (expected, written) = match theirs::item(payload, at, number) {
-        Err(number) => (number, 0),
-        Ok(theirs::Step::Over) => (OVER, 0),
-        Ok(theirs::Step::Item(_)) if room < ITEM_FIELDS => (15, 0),
-        Ok(theirs::Step::Item(item)) => {
-            assert_eq!(out[..ITEM_FIELDS], numbers(&item), "{at} of {payload:02X?}");
-            (ITEM, ITEM_FIELDS)
+    assert!(rest.iter().all(|n| *n == UNWRITTEN), "{}", asked());
+    let Ok((items, next)) = expected else {
+        return told.expect_err("a refusal").number();
+    };
+    let numbers: Vec<_> = items.iter().flat_map(numbers).collect();
+    assert_eq!(written, numbers, "{}", asked());
+    let mut out = vec![[UNWRITTEN; ITEM_FIELDS]; room / ITEM_FIELDS];
+    let several = programme::items_at(payload, at, number, &mut out);
+    let several = several.expect("what was told before");
+    assert_eq!((several.len(), several.place()), (items.len(), next));
+    for (a, b) in several.zip(&items) {
+        assert!(same_item(&a, b, payload), "{a:?} is not {b:?}: {}", asked());
+    }
+    match items.is_empty() {
+        true => OVER,
+        false => ITEM,
+    }
+}
+
+/// Goes through the items by calls with room for so many, each from where the one before ended, beside the independent program's
+/// walk from the first, fails where they differ, and gives what both ended with.
+pub fn walk_in_room(payload: &[u8], room: usize) -> u8 {
+    let mut numbers = vec![[UNWRITTEN; ITEM_FIELDS]; room];
+    let (mut at, mut number) = (FIRST_ITEM, 0);
+    let mut others = match theirs::items(payload) {
+        Ok(items) => items,
+        Err(number) => {
+            let ours = programme::items_at(payload, at, 0, &mut numbers);
+            assert_eq!(ours.err().map(Refusal::number), Some(number));
+            return number;
         }
     };
-    assert_eq!(
-        told, expected,
-        "{room} for item {number} at {at} of {payload:02X?}"
-    );
-    let kept = out[written..].iter().all(|n| *n == UNWRITTEN);
-    assert!(kept, "{room}: past the answer of {at} of {payload:02X?}");
-    told
+    loop {
+        let several = match programme::items_at(payload, at, number, &mut numbers) {
+            Ok(several) => several,
+            Err(refusal) => {
+                assert_eq!(others.next(), Some(Err(refusal.number())), "{payload:02X?}");
+                assert_eq!(others.place(), at, "{payload:02X?}");
+                return refusal.number();
+            }
+        };
+        at = several.place();
+        number += several.len() as u8;
+        let count = several.len();
+        assert!(count <= room, "{count} in {room}: {payload:02X?}");
+        for item in several {
+            match others.next() {
+                Some(Ok(other)) => assert!(same_item(&item, &other, payload), "{payload:02X?}"),
+                other => panic!("{item:?} is not {other:?}: {payload:02X?}"),
+            }
+        }
+        assert_eq!(others.place(), at, "{payload:02X?}");
+        // Where fewer are told than there is room for, no other can be.
+        let next = others.clone().next();
+        assert!(
+            count == room || !matches!(next, Some(Ok(_))),
+            "{count} in {room}: {payload:02X?}"
+        );
+        if count == 0 {
+            assert_eq!(next, None, "{payload:02X?}");
+            return OVER;
+        }
+    }
 }
 
 /// Asks both for the table's own loop from a place, fails where they differ, and gives what both said.
@@ -181,12 +258,17 @@ pub fn walk(payload: &[u8], found: &mut Tally) -> u8 {
     let list = programme::read(payload).expect("a list that was read");
     let mut ours = list.items();
     let mut others = theirs::items(payload).expect("a list that was read");
+    // All in one call, and by calls for some at a time.
+    let all = walk_in_room(payload, MOST_ITEMS);
+    let some = walk_in_room(payload, 1 + payload.len() % 20);
+    assert_eq!(some, all, "{payload:02X?}");
     for number in 0..=255 {
         assert_eq!(ours.place(), others.place(), "{payload:02X?}");
         let at = ours.place();
         let met = step(payload, at, number);
         found.note("walk", met);
-        step_in_room(payload, at, number, at + usize::from(number));
+        // Up to four items, and numbers that are part of none.
+        in_room(payload, at, number, (at + usize::from(number)) % 48);
         match (ours.next(), others.next()) {
             (Some(Ok(a)), Some(Ok(b))) => {
                 assert!(met == ITEM && same_item(&a, &b, payload), "{payload:02X?}");
@@ -196,10 +278,11 @@ pub fn walk(payload: &[u8], found: &mut Tally) -> u8 {
                 assert_eq!((ours.place(), others.place()), (at, at), "{payload:02X?}");
                 assert!(ours.next().is_none() && others.next().is_none());
                 assert_eq!(ours.own_loop(), Err(a), "behind a refused item");
+                assert_eq!(all, met, "{payload:02X?}");
                 return met;
             }
             (None, None) => {
-                assert_eq!(met, OVER, "{payload:02X?}");
+                assert_eq!((met, all), (OVER, OVER), "{payload:02X?}");
                 assert_eq!(number, list.count, "{payload:02X?}");
                 break;
             }

@@ -2,7 +2,7 @@
 
 use crate::timing::race;
 use crate::{Table, SEED};
-use khumsafil::programme::{self, FIRST_ITEM, ITEM_FIELDS, TEXT};
+use khumsafil::programme::{self, FIRST_ITEM, ITEM_FIELDS, MOST_ITEMS, TEXT};
 use std::hint::black_box;
 use trial::files::Parts;
 use trial::programmes::{mend, MOST, TABLE};
@@ -12,15 +12,27 @@ pub fn table() -> Table {
     let mut table = Table::new(
         "Programme lists",
         "A walk over all items of a section of 1,024 bytes, 16 such sections in a list: 125 items of 8 bytes, or 25 of 39 with all\n\
-         fields, a name of 5 bytes and two descriptors. The library is called for each item, and reads the section anew each time;\n\
-         the independent program reads it once. A text for staff is of a file that holds all 16.",
+         fields, a name of 5 bytes and two descriptors. Each raw call reads the section anew and tells as many items as there is\n\
+         room for; the last one says that they are over. The wrapper makes an item of the numbers of each: told by one call into\n\
+         numbers that are lent for all, or by its walk, which reads the list first and asks for 16 at a time. The independent\n\
+         program reads the section once. A text for staff is of a file that holds all 16.",
     );
     for (what, item) in [
         ("smallest items", smallest as Maker),
         ("items with all fields", with_all),
     ] {
-        table.row(&format!("{what}, raw calls"), move || raw(&lists(item)));
-        table.row(&format!("{what}, wrapper"), move || wrapped(&lists(item)));
+        for room in [MOST_ITEMS, 16, 1] {
+            table.row(&format!("{what}, raw calls, room for {room}"), move || {
+                raw(&lists(item), room)
+            });
+        }
+        table.row(
+            &format!("{what}, wrapper, numbers lent for all"),
+            move || lent(&lists(item)),
+        );
+        table.row(&format!("{what}, wrapper's walk"), move || {
+            walked(&lists(item))
+        });
     }
     table.row("reading alone", || reading(&lists(smallest)));
     table.row("text of a full file, smallest items", || text(smallest));
@@ -89,17 +101,22 @@ fn their_walk(lists: &[Vec<u8>]) {
     }
 }
 
-/// One call for each item and one behind the last, each item left in the lent numbers.
-fn raw(lists: &[Vec<u8>]) -> (f64, f64) {
+/// Calls with room for so many items, the last one behind all of them; each item is left in the lent numbers.
+fn raw(lists: &[Vec<u8>], room: usize) -> (f64, f64) {
+    let mut fields = vec![0; room * ITEM_FIELDS];
     let ours = || {
         for payload in lists {
             let payload = black_box(payload);
-            let mut fields = [0; ITEM_FIELDS];
             let (mut at, mut number) = (FIRST_ITEM, 0);
-            while let Ok(true) = programme::item_fields(payload, at, number, &mut fields) {
-                black_box(&fields);
-                at = fields[ITEM_FIELDS - 1] as usize;
-                number += 1;
+            while let Ok(told) = programme::item_fields(payload, at, number, &mut fields) {
+                if told.count == 0 {
+                    break;
+                }
+                for item in fields[..told.count * ITEM_FIELDS].chunks_exact(ITEM_FIELDS) {
+                    black_box(item);
+                }
+                at = told.next;
+                number += told.count as u8;
             }
             black_box(at);
         }
@@ -107,8 +124,22 @@ fn raw(lists: &[Vec<u8>]) -> (f64, f64) {
     race(lists.len(), 4, ours, || their_walk(lists))
 }
 
-/// A reading and then each item with its parts.
-fn wrapped(lists: &[Vec<u8>]) -> (f64, f64) {
+/// One call of the wrapper for all items of a section, of which each is then made out of its numbers.
+fn lent(lists: &[Vec<u8>]) -> (f64, f64) {
+    let mut numbers = vec![[0; ITEM_FIELDS]; MOST_ITEMS];
+    let ours = || {
+        for payload in lists {
+            let told = programme::items_at(black_box(payload), FIRST_ITEM, 0, &mut numbers);
+            for item in told.expect("a list") {
+                black_box(&item);
+            }
+        }
+    };
+    race(lists.len(), 4, ours, || their_walk(lists))
+}
+
+/// A reading and then each item.
+fn walked(lists: &[Vec<u8>]) -> (f64, f64) {
     let ours = || {
         for payload in lists {
             let list = programme::read(black_box(payload)).expect("a list");
