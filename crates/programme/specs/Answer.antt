@@ -17,7 +17,7 @@ abbrev pub readingTold : Reading → Told
 readingTold (Reading.Programme p) = told 0 (programmeNumbers p)
 readingTold (Reading.Refused n) = told n []
 
--- an item's twelve numbers
+-- an item's twelve numbers. A host gets ten of them, out of which the others come back (`programme_items`, `specs/Items.antt`)
 abbrev pub itemNumbers : Item → List ℕ
 itemNumbers i =
     i .linkage ∷ i .flags ∷ i .playback ∷ i .delay ∷ i .expires ∷ i .size

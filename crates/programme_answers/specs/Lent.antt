@@ -1,7 +1,7 @@
 -- How the boundary answers about an NRT-IT section: a number of refusal in the low 8 bits, and values in a lent buffer or above it.
 use Prim.Native.Nat.{ℕ, zero, suc, _+_, _*_, _/_, _%_, _^_, _<_, _≤_}
 use mathlib.Core.Path.{_≡_}
-use mathlib.Core.List.{List, [], _∷_}
+use mathlib.Core.List.{List, [], _∷_, _++_}
 use mathlib.Core.Logic.{_↔_}
 use lib.Dec.{eqb}
 use lib.ListN.{length, getD, drop}
@@ -24,8 +24,8 @@ use Rattle.programme_items.specs.declared.Walk.{Walk}
 unfoldable pub readLent : List ℕ → List ℕ → Out
 readLent s fields = puts (readingTold (readOf s)) fields
 
--- items are kind 1, from bit 8 up, with how many they are from bit 16 and the place after the last from bit 32; that all items are
--- behind is kind 2
+-- items are kind 1, from bit 8 up, with how many they are from bit 16 and the place after the last from bit 32; that the section has no
+-- item of that number is kind 2
 abbrev pub itemsKind : ℕ
 itemsKind = 1 * 2 ^ 8
 
@@ -69,7 +69,7 @@ ownBack code =
     then Own.Loop (record { count = code / 2 ^ 8 % 2 ^ 8; place = code / 2 ^ 16 % 2 ^ 16; length = code / 2 ^ 32 })
     else Own.Refused code
 
--- Of a payload `s`, a place and a number asked:
+-- Of a payload `s` and the lent numbers `fields`; and of a place and a number asked:
 module _ (s fields : List ℕ) where
   -- a refused reading leaves the buffer as it was
   abbrev pub Read-Untouched : Type 0
@@ -92,9 +92,15 @@ module _ (s fields : List ℕ) where
   Read-Comes-Back = readLent s fields .code ≡ 0 → readOf s ≡ Reading.Programme (programmeBack (readLent s fields .out))
 
   module _ (at k : ℕ) where
-    -- the kind of the answer
+    -- bits 0 to 15 of the answer, the refusal and the kind; how many items it says; the place after them
     abbrev pub kind : ℕ
     kind = itemsLent s at k fields .code % 2 ^ 16
+
+    abbrev pub many : ℕ
+    many = itemsLent s at k fields .code / 2 ^ 16 % 2 ^ 16
+
+    abbrev pub after : ℕ
+    after = itemsLent s at k fields .code / 2 ^ 32
 
     -- where no items are handed out the buffer is as it was
     abbrev pub Items-Untouched : Type 0
@@ -112,16 +118,25 @@ module _ (s fields : List ℕ) where
     abbrev pub Items-15 : Type 0
     Items-15 = (itemsLent s at k fields .code ≡ 15) ↔ (((i : Item) × (stepOf s at k ≡ Step.Item i)) × (length fields < 10))
 
-    -- kind 2 exactly when all items are behind
+    -- kind 2 exactly when the section has no item of that number
     abbrev pub Items-Over : Type 0
     Items-Over = (itemsLent s at k fields .code ≡ overKind) ↔ (stepOf s at k ≡ Step.Over)
 
-    -- and of kind 1 the items come back out of the buffer, as many as the answer says, and the place after the last out of the answer
+    -- of kind 1 the items come back out of the buffer, as many as the answer says, and the place after the last out of the answer
     abbrev pub Items-Come-Back : Type 0
     Items-Come-Back =
-        Octets s → kind ≡ itemsKind
-        → (itemsFrom (length fields / 10) s at k ≡ itemsBack (itemsLent s at k fields .code / 2 ^ 16 % 2 ^ 16) (itemsLent s at k fields .out))
-        × (placeAfter at (itemsFrom (length fields / 10) s at k) ≡ itemsLent s at k fields .code / 2 ^ 32)
+        kind ≡ itemsKind
+        → (itemsFrom (length fields / 10) s at k ≡ itemsBack many (itemsLent s at k fields .out)) × (placeAfter at (itemsFrom (length fields / 10) s at k) ≡ after)
+
+    -- the numbers behind theirs are as they were
+    abbrev pub Items-Rest : Type 0
+    Items-Rest =
+        kind ≡ itemsKind
+        → (drop (10 * many) (itemsLent s at k fields .out) ≡ drop (10 * many) fields) × (length (itemsLent s at k fields .out) ≡ length fields)
+
+    -- there is one at least, and each has eight bytes or more, so that a host that goes on comes to an end
+    abbrev pub Items-On : Type 0
+    Items-On = kind ≡ itemsKind → (1 ≤ many) × (at + 8 * many ≤ after)
 
 -- Of the items from a place on, the one there taken for item k, and n at most:
 module _ (n : ℕ) (s : List ℕ) (at k : ℕ) where
@@ -130,6 +145,13 @@ module _ (n : ℕ) (s : List ℕ) (at k : ℕ) where
   Items-Longest =
       length (itemsFrom n s at k) < n
       → (i : Item) → ¬ (stepOf s (placeAfter at (itemsFrom n s at k)) (k + length (itemsFrom n s at k)) ≡ Step.Item i)
+
+  -- a host that goes on behind them, with the number that follows, gets what it had got with more room
+  abbrev pub Items-Go-On : Type 0
+  Items-Go-On =
+      (m : ℕ)
+      → itemsFrom (n + m) s at k
+      ≡ itemsFrom n s at k ++ itemsFrom m s (placeAfter at (itemsFrom n s at k)) (k + length (itemsFrom n s at k))
 
   -- they are never more than 125, so that 1,250 numbers have room for the items of any section
   abbrev pub Items-Few : Type 0

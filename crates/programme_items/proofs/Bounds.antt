@@ -2,6 +2,7 @@
 --   step-there                       what an item that a step finds says of the list
 --   chain-within, chain-apart        items lie in the payload, each behind the one before
 --   from-over, from-refused, from-next     what is handed out, by what a step finds
+--   items-most, items-some                 at most so many, and one at least
 --   reaches, items-few, handed-within      so they are few, and the answer fits its bits
 use mathlib.Core.Path.{_≡_, refl, sym, ap, _∙_}
 use mathlib.Core.List.{List, [], _∷_}
@@ -77,6 +78,7 @@ module _ (n : ℕ) (s : List ℕ) (at k : ℕ) where
   pub record Reach (is : List Item) : Type 0 where
     pub few : length is ≤ 125
     pub after : placeAfter at is ≤ 1024
+    pub apart : at + 8 * length is ≤ placeAfter at is
 
   pub reaches : (i : Item) → stepOf s at k ≡ Step.Item i → Reach (itemsFrom n s at k)
   reaches i e =
@@ -88,7 +90,7 @@ module _ (n : ℕ) (s : List ℕ) (at k : ℕ) where
       let w = chain-within (min n (h .programme .items - k)) s at (omega arith) in
       let within : placeAfter at (chain (min n (h .programme .items - k)) s at) ≤ length s = w .0 in
       let far : at + 8 * length (chain (min n (h .programme .items - k)) s at) ≤ placeAfter at (chain (min n (h .programme .items - k)) s at) = w .1 in
-      rw (counted n s (h .programme) (h .reads) at k) (record { few = omega arith; after = omega arith })
+      rw (counted n s (h .programme) (h .reads) at k) (record { few = omega arith; after = omega arith; apart = far })
 
 -- what is handed out, by what a step finds
 module _ (s : List ℕ) (at k : ℕ) where
@@ -117,6 +119,20 @@ items-few n s at k = go (stepOf s at k) refl
     go (Step.Item i) q = reaches n s at k i q .few
     go Step.Over q = rw (from-over s at k n q) (omega arith)
     go (Step.Refused m) q = rw (from-refused s at k n q) (omega arith)
+
+-- no more than asked for, and one at least where a step finds one
+pub items-most : (n : ℕ) (s : List ℕ) (at k : ℕ) → length (itemsFrom n s at k) ≤ n
+items-most zero s at k = rw (from-none s at k) (omega arith)
+items-most (suc n) s at k = go (λ to. items-most n s to (k + 1)) (stepOf s at k) refl
+  where
+    go : ((to : ℕ) → length (itemsFrom n s to (k + 1)) ≤ n) → (x : Step) → stepOf s at k ≡ x → length (itemsFrom (suc n) s at k) ≤ suc n
+    go ih (Step.Item i) q = let h : length (itemsFrom n s (i .next) (k + 1)) ≤ n = ih (i .next) in rw (from-next s at k n i q) (omega arith)
+    go ih Step.Over q = rw (from-over s at k (suc n) q) (omega arith)
+    go ih (Step.Refused m) q = rw (from-refused s at k (suc n) q) (omega arith)
+
+pub items-some : (n : ℕ) (s : List ℕ) (at k : ℕ) (i : Item) → stepOf s at k ≡ Step.Item i → 0 < n → 1 ≤ length (itemsFrom n s at k)
+items-some zero s at k i e l = absurd (omega arith)
+items-some (suc n) s at k i e l = rw (from-next s at k n i e) (omega arith)
 
 -- the answer fits its bits
 pub handed-within : (s : List ℕ) (at k : ℕ) (f : List ℕ) {p : Passed} {exit : List ℕ} → walked (Walk.Items p) exit ≡ walkOf s at k f → (p .count < 65536) × (p .next < 65536)

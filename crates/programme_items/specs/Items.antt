@@ -11,7 +11,7 @@ use Rattle.programme_items.specs.declared.Passed.{Passed}
 use Rattle.programme_items.specs.declared.Walk.{Walk}
 
 -- an item's ten numbers: its fixed fields and those that its flags include, else 0; where its name begins; how many descriptors it has
--- and where they begin; the place after it. Their number stands between the name and the descriptors, and they end with the item.
+-- and where they begin; the place after it. The byte that counts the descriptors stands between the name and them, and they end with the item.
 abbrev pub numbersOf : Item → List ℕ
 numbersOf i =
     i .linkage ∷ i .flags ∷ i .playback ∷ i .delay ∷ i .expires ∷ i .size
@@ -41,7 +41,8 @@ onward (Step.Item i) rest = i ∷ rest i
 onward Step.Over rest = []
 onward (Step.Refused n) rest = []
 
--- the items from a place on, the one there taken for item k, up to the last of the list or the first that is refused, and n at most
+-- the items from a place on, the one there taken for item k: n at most, up to and with the last of the section, or up to the first that
+-- is refused, without it
 unfoldable pub itemsFrom : ℕ → List ℕ → ℕ → ℕ → List Item
 itemsFrom zero s at k = []
 itemsFrom (suc n) s at k = onward (stepOf s at k) (λ i. itemsFrom n s (i .next) (k + 1))

@@ -1,12 +1,14 @@
 -- A host loses nothing of the items that cross the boundary (`programme_answers`, `specs/Lent.antt` has the words).
---   items-untouched, items-refused, items-handed, items-15, items-over, items-come-back
---   items-longest, items-few
+--   items-untouched, items-refused, items-handed, items-15, items-over, items-come-back, items-rest, items-on
+--   items-go-on, items-longest, items-few
+--   handed-walk     they are those of the walk (`specs/Theorems.antt`)
 use mathlib.Core.Path.{_≡_, refl, sym, ap, subst, _∙_}
 use mathlib.Core.List.{List, [], _∷_, _++_}
-use Prim.Native.Nat.{ℕ, zero, suc, _+_, _*_, _/_, _%_, _^_, _<_, _≤_}
+use Prim.Native.Nat.{ℕ, zero, suc, _+_, _-_, _*_, _/_, _%_, _^_, _<_, _≤_}
 use native.Mathlib.Omega.{arith}
 use lib.Dec.{ltb}
-use lib.ListN.{length, drop}
+use lib.ListN.{length, drop, length-drop, length-append}
+use lib.Seq.{drop-at}
 use borrow.Author.Tests.{ltb-true, ltb-false}
 use Rattle.base.proofs.Cases.{by}
 use Rattle.answers.specs.Answers.{Out, out}
@@ -16,11 +18,14 @@ use Rattle.programme.specs.declared.Step.{Step}
 use Rattle.programme_items.specs.Items.{itemsFrom, allNumbers, placeAfter, itemBack, numbersOf}
 use Rattle.programme_items.specs.declared.Passed.{Passed}
 use Rattle.programme_items.proofs.Handed.{walk-refused, walk-over, walk-short, walk-there}
+use Rattle.programme_items.proofs.Chains.{all-long}
 use Rattle.programme_items.proofs.Narrows.{back}
 use Rattle.programme_items.proofs.Bounds as bounds
 use Rattle.programme_answers.specs.Lent.{itemsKind, overKind, passedCode, itemsLent, itemsBack}
-use Rattle.programme_answers.specs.Lent.{Items-Untouched, Items-Refused, Items-Handed, Items-15, Items-Over, Items-Come-Back, Items-Longest, Items-Few}
+use Rattle.programme_answers.specs.Lent.{Items-Untouched, Items-Refused, Items-Handed, Items-15, Items-Over, Items-Come-Back, Items-Rest, Items-On, Items-Go-On, Items-Longest, Items-Few}
 use Rattle.programme_answers.proofs.Laws.{lent}
+use Rattle.programme_laws.specs.Walk.{walk}
+use Rattle.programme_laws.specs.Theorems.{Handed-Walk}
 use Rattle.programme_laws.proofs.ExactlyWhen as when
 use Rattle.programme_laws.proofs.Hosts.{Number, numbered}
 
@@ -128,7 +133,7 @@ module _ (s fields : List ℕ) (at k : ℕ) where
   )
 
   pub items-come-back : Items-Come-Back s fields at k
-  items-come-back b =
+  items-come-back =
       each
       (λ o. o .code % 2 ^ 16 ≡ itemsKind
       → (itemsFrom (length fields / 10) s at k ≡ itemsBack (o .code / 2 ^ 16 % 2 ^ 16) (o .out))
@@ -139,6 +144,65 @@ module _ (s fields : List ℕ) (at k : ℕ) where
       (λ i e h z.
       let p = parts (length (itemsFrom (length fields / 10) s at k)) (placeAfter at (itemsFrom (length fields / 10) s at k)) (few i e) in
       (all-back (length fields / 10) s at k (drop (10 * length (itemsFrom (length fields / 10) s at k)) fields) ∙ ap (λ n. itemsBack n put) (sym (p .1 .0)), sym (p .1 .1)))
+
+  pub items-rest : Items-Rest s fields at k
+  items-rest =
+      each
+      (λ o. o .code % 2 ^ 16 ≡ itemsKind
+      → (drop (10 * (o .code / 2 ^ 16 % 2 ^ 16)) (o .out) ≡ drop (10 * (o .code / 2 ^ 16 % 2 ^ 16)) fields) × (length (o .out) ≡ length fields))
+      (λ n e h z. absurd (let l : n < 256 = h .high in omega arith))
+      (λ e z. absurd (omega arith))
+      (λ i e h z. absurd (omega arith))
+      (λ i e h z.
+      let p = parts (length (itemsFrom (length fields / 10) s at k)) (placeAfter at (itemsFrom (length fields / 10) s at k)) (few i e) in
+      let long : length (allNumbers (itemsFrom (length fields / 10) s at k)) ≡ 10 * length (itemsFrom (length fields / 10) s at k) = all-long (itemsFrom (length fields / 10) s at k) in
+      let most : length (itemsFrom (length fields / 10) s at k) ≤ length fields / 10 = bounds.items-most (length fields / 10) s at k in
+      let left : length (drop (10 * length (itemsFrom (length fields / 10) s at k)) fields) ≡ length fields - 10 * length (itemsFrom (length fields / 10) s at k) = length-drop _ fields in
+      (rw (p .1 .0) (drop-at (allNumbers (itemsFrom (length fields / 10) s at k)) _ _ long), simp length-append (omega (arith, long, most, left))))
+
+  pub items-on : Items-On s fields at k
+  items-on =
+      each (λ o. o .code % 2 ^ 16 ≡ itemsKind → (1 ≤ o .code / 2 ^ 16 % 2 ^ 16) × (at + 8 * (o .code / 2 ^ 16 % 2 ^ 16) ≤ o .code / 2 ^ 32))
+      (λ n e h z. absurd (let l : n < 256 = h .high in omega arith))
+      (λ e z. absurd (omega arith))
+      (λ i e h z. absurd (omega arith))
+      (λ i e h z.
+      let p = parts (length (itemsFrom (length fields / 10) s at k)) (placeAfter at (itemsFrom (length fields / 10) s at k)) (few i e) in
+      let r = bounds.reaches (length fields / 10) s at k i e in
+      let some : 0 < length fields / 10 = omega arith in
+      rw (p .1 .0, p .1 .1) (bounds.items-some (length fields / 10) s at k i e some, r .apart))
+
+pub items-go-on : (n : ℕ) (s : List ℕ) (at k : ℕ) → Items-Go-On n s at k
+unfolding placeAfter
+items-go-on zero s at k m =
+    let z : 0 + m ≡ m = omega arith in let y : k + 0 ≡ k = omega arith in rw (z, bounds.from-none s at k, y)
+items-go-on (suc n) s at k m = go (λ to. items-go-on n s to (k + 1) m) (stepOf s at k) refl
+  where
+    more : suc n + m ≡ suc (n + m)
+    more = omega arith
+
+    same : k + 0 ≡ k
+    same = omega arith
+
+    go : ((to : ℕ) → itemsFrom (n + m) s to (k + 1) ≡ itemsFrom n s to (k + 1) ++ itemsFrom m s (placeAfter to (itemsFrom n s to (k + 1))) (k + 1 + length (itemsFrom n s to (k + 1))))
+        → (x : Step) → stepOf s at k ≡ x
+        → itemsFrom (suc n + m) s at k ≡ itemsFrom (suc n) s at k ++ itemsFrom m s (placeAfter at (itemsFrom (suc n) s at k)) (k + length (itemsFrom (suc n) s at k))
+    go ih (Step.Item i) q =
+        let z : k + suc (length (itemsFrom n s (i .next) (k + 1))) ≡ k + 1 + length (itemsFrom n s (i .next) (k + 1)) = omega arith in
+        rw (more, bounds.from-next s at k (n + m) i q, bounds.from-next s at k n i q, z) (ap (λ is. i ∷ is) (ih (i .next)))
+    go ih Step.Over q = rw (bounds.from-over s at k (suc n + m) q, bounds.from-over s at k (suc n) q, same) (sym (bounds.from-over s at k m q))
+    go ih (Step.Refused x) q = rw (bounds.from-refused s at k (suc n + m) q, bounds.from-refused s at k (suc n) q, same) (sym (bounds.from-refused s at k m q))
+
+-- the items handed out are those of the walk, and the place after them is where it comes to
+pub handed-walk : (n : ℕ) (s : List ℕ) (at k : ℕ) → Handed-Walk n s at k
+unfolding walk placeAfter
+handed-walk zero s at k = rw (bounds.from-none s at k) (refl, refl)
+handed-walk (suc n) s at k = go (λ to. handed-walk n s to (k + 1)) (stepOf s at k) refl
+  where
+    go : ((to : ℕ) → Handed-Walk n s to (k + 1)) → (x : Step) → stepOf s at k ≡ x → Handed-Walk (suc n) s at k
+    go ih (Step.Item i) q = let h = ih (i .next) in rw (bounds.from-next s at k n i q, q) (ap (λ is. i ∷ is) (h .0), h .1)
+    go ih Step.Over q = rw (bounds.from-over s at k (suc n) q, q) (refl, refl)
+    go ih (Step.Refused m) q = rw (bounds.from-refused s at k (suc n) q, q) (refl, refl)
 
 pub items-longest : (n : ℕ) (s : List ℕ) (at k : ℕ) → Items-Longest n s at k
 unfolding placeAfter

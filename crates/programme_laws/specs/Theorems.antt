@@ -20,7 +20,8 @@ use Rattle.programme.specs.declared.Loop.{Loop}
 use Rattle.programme.specs.declared.Item.{Item}
 use Rattle.programme.specs.declared.Step.{Step}
 use Rattle.programme.specs.declared.Own.{Own}
-use Rattle.programme_laws.specs.Walk.{walk, walkOf, reached, tiles, Answers, answersTo, Unrefused, Counted}
+use Rattle.programme_items.specs.Items.{itemsFrom, placeAfter}
+use Rattle.programme_laws.specs.Walk.{walk, walkOf, reached, tiles, Answers, answersTo, Unrefused, Counted, itemsOf}
 use Rattle.programme_laws.specs.Layout.{Body, FitBody, bodyOf, answersOf}
 
 module _ (s : List ℕ) where
@@ -206,3 +207,7 @@ Stays s t =
     → part s at (i .next - at) ≡ part t at (i .next - at)
     → j < programmeOf t .items
     → stepOf t at j ≡ Step.Item i
+
+-- what a call for n items hands out are the items of a walk of n steps from there, and the place after them is the one that it comes to
+abbrev pub Handed-Walk : ℕ → List ℕ → ℕ → ℕ → Type 0
+Handed-Walk n s at k = (itemsOf (walk n s at k) ≡ itemsFrom n s at k) × (reached at (walk n s at k) ≡ placeAfter at (itemsFrom n s at k))

@@ -8,6 +8,7 @@ use Rattle.programme.specs.Table.{firstItemAt, numContentItems}
 use Rattle.programme.specs.Reading.{readOf, stepOf, ownOf}
 use Rattle.programme.specs.Answer.{readingTold, stepTold, ownTold}
 use Rattle.programme.specs.declared.Reading.{Reading}
+use Rattle.programme.specs.declared.Item.{Item}
 use Rattle.programme.specs.declared.Step.{Step}
 use Rattle.programme.specs.declared.Own.{Own}
 
@@ -32,6 +33,13 @@ reached at [] = at
 reached at (Step.Item i ∷ xs) = reached (i .next) xs
 reached at (Step.Over ∷ xs) = at
 reached at (Step.Refused n ∷ xs) = at
+
+-- its items
+abbrev pub itemsOf : List Step → List Item
+itemsOf [] = []
+itemsOf (Step.Item i ∷ xs) = i ∷ itemsOf xs
+itemsOf (Step.Over ∷ xs) = itemsOf xs
+itemsOf (Step.Refused n ∷ xs) = itemsOf xs
 
 -- what a host is answered about a section. The table's own loop is asked for where the walk came to, which is behind the last item where
 -- no step is refused
