@@ -252,8 +252,8 @@ static inline khumsafil_refusal khumsafil_refusal_(uint64_t answer) {
     return (khumsafil_refusal)(answer & 0xFF);
 }
 
-/* A number that 8 bits cannot hold is no place, application, version or number of a section, and must not become one by losing the
-   rest. */
+/* A number that 8 bits cannot hold is no place, application, version or number of a section or an item, and must not become one by
+   losing the rest. */
 static inline uint8_t khumsafil_narrow_(unsigned number) {
     return number > 0xFF ? (uint8_t)0xFF : (uint8_t)number;
 }
@@ -675,8 +675,8 @@ typedef struct khumsafil_programme {
     khumsafil_refusal refusal;
     uint16_t service_id;
     uint32_t time_span_start;  /* in GPS seconds; 0: from the indefinite past */
-    uint16_t time_span_length; /* in minutes; 0: into the indefinite future */
-    uint8_t items;             /* how many items the list has */
+    uint16_t time_span_length; /* in minutes; 0: into the indefinite future; without meaning where the start is 0 */
+    uint8_t items;             /* how many items the section has */
 } khumsafil_programme;
 
 /* Reads the payload, a section of an NRT-IT, as a programme list. Refused: 1 to 8, 45, 43. */
@@ -703,7 +703,7 @@ typedef struct khumsafil_loop {
 typedef enum khumsafil_item_kind {
     KHUMSAFIL_ITEM_NOTHING = 0, /* it was refused */
     KHUMSAFIL_ITEM_FOUND = 1,   /* the item at the place asked */
-    KHUMSAFIL_ITEM_OVER = 2     /* the list has no item of that number */
+    KHUMSAFIL_ITEM_OVER = 2     /* the section has no item of that number */
 } khumsafil_item_kind;
 
 /*
@@ -720,8 +720,8 @@ typedef enum khumsafil_item_kind {
  *   if (!item.refusal)
  *       own = khumsafil_own_loop(payload, length, at);
  *
- * khumsafil_items_at has several with one call, of which khumsafil_item_of makes each. The descriptors of an item are walked
- * as any loop is:
+ * khumsafil_items_at has several with one call, and khumsafil_item_of makes each out of its numbers. The descriptors of an item
+ * are walked as any loop is:
  *
  *   loop = khumsafil_part_of(payload, item.descriptors.bytes), size = item.descriptors.bytes.length;
  *   for (d = 0; (step = khumsafil_descriptor_step(loop, size, d)).found == KHUMSAFIL_STEP_DESCRIPTOR; d = step.next)
@@ -746,7 +746,10 @@ typedef struct khumsafil_item {
     size_t next; /* the place after the item; where the items are over, the place asked */
 } khumsafil_item;
 
-/* The item out of its KHUMSAFIL_ITEM_FIELDS numbers, as khumsafil_items_at put them there. */
+/*
+ * The item out of its KHUMSAFIL_ITEM_FIELDS numbers, as khumsafil_items_at put them there: one of the first `count` of a call that
+ * was not refused. Of other numbers name and descriptors may lie outside the payload.
+ */
 KHUMSAFIL_LOOK_
 static inline khumsafil_item khumsafil_item_of(const uint64_t *fields) {
     const uint16_t name = (uint16_t)fields[KHUMSAFIL_ITEM_NAME_PLACE];
@@ -765,10 +768,11 @@ static inline khumsafil_item khumsafil_item_of(const uint64_t *fields) {
     item.has_content_size = (item.flags & KHUMSAFIL_FLAG_CONTENT_SIZE_INCLUDED) != 0;
     item.content_size = fields[KHUMSAFIL_ITEM_CONTENT_SIZE];
     item.next = (size_t)fields[KHUMSAFIL_ITEM_NEXT];
-    /* The byte between the name and the descriptors counts these. Numbers that are all 0 have none. */
+    /* The byte between the name and the descriptors counts these. Numbers that no call put there may say less than nothing. */
     item.name = khumsafil_part_(name, descriptors > name ? (uint16_t)(descriptors - 1 - name) : (uint16_t)0);
     item.descriptors.count = (uint8_t)fields[KHUMSAFIL_ITEM_DESCRIPTORS];
-    item.descriptors.bytes = khumsafil_part_(descriptors, (uint16_t)(item.next - descriptors));
+    item.descriptors.bytes =
+        khumsafil_part_(descriptors, item.next > descriptors ? (uint16_t)(item.next - descriptors) : (uint16_t)0);
     return item;
 }
 
@@ -800,17 +804,18 @@ typedef struct khumsafil_items {
 
 /*
  * The items of a programme list from a place on, the one there taken for the item of that number, from 0 on: as many as there
- * is room for at KHUMSAFIL_ITEM_FIELDS numbers each, up to the last or to the first that is refused. Numbers past theirs stay
- * as they were. Any place and any number may be asked. Refused: 1 to 8, 45; 43 where the item at the place asked is; and 15
- * where there is no room for it. A walk with room for some:
+ * is room for at KHUMSAFIL_ITEM_FIELDS numbers each, up to and with the section's last, or up to the first that is refused,
+ * without it. Numbers past theirs stay as they were. Any place and any number may be asked. Refused: 1 to 8, 45; 43 where the
+ * fields before the items, or the item at the place asked, pass the end; and last 15 where there is no room for that item. A walk
+ * with room for some, where fields_length counts numbers:
  *
- *   for (; (items = khumsafil_items_at(payload, length, at, n, fields, room)).found == KHUMSAFIL_ITEM_FOUND;
+ *   for (; (items = khumsafil_items_at(payload, length, at, n, fields, fields_length)).found == KHUMSAFIL_ITEM_FOUND;
  *        at = items.next, n += items.count)
  *       for (i = 0; i < items.count; i++)
  *           item = khumsafil_item_of(fields + i * KHUMSAFIL_ITEM_FIELDS);
  *
- * With room for KHUMSAFIL_MOST_ITEMS the first call has all up to one that is refused, and the second says that the items are
- * over, or by which number the next one is refused.
+ * With room for KHUMSAFIL_MOST_ITEMS the first call has all up to one that is refused, where there is one, and the next says that
+ * the items are over, or by which number the one there is refused.
  */
 KHUMSAFIL_LOOK_
 static inline khumsafil_items khumsafil_items_at(const uint8_t *payload, size_t payload_length, size_t at, unsigned number,

@@ -328,8 +328,8 @@ uint8_t khumsafil_raw_programme_read(const uint8_t *payload, size_t payload_leng
                                      size_t fields_length);
 
 /*
- * Where the numbers of an item stand. An optional field that is not there is 0; its flag tells. The name ends one byte before
- * the descriptors, by the byte that counts these, and they end where the item does.
+ * Where the numbers of an item stand. An optional field that is not there is 0; its flag tells. The descriptors end where the
+ * item does, so they have [9] - [8] bytes; the byte that counts them stands before them, so the name has [8] - 1 - [6].
  */
 #define KHUMSAFIL_ITEM_LINKAGE 0           /* content_linkage */
 #define KHUMSAFIL_ITEM_FLAGS 1             /* the ten flags, the first highest */
@@ -355,26 +355,27 @@ uint8_t khumsafil_raw_programme_read(const uint8_t *payload, size_t payload_leng
 #define KHUMSAFIL_FLAG_AVAILABLE_IN_BROADCAST 0x001
 
 /*
- * The items of a programme list from a place on, the one there taken for the item of that number, from 0 on: as many as there
- * is room for, up to the last of the list or to the first that is refused. Any place and any number may be asked. Refuses as
- * khumsafil_raw_programme_read does, then by 43 where no item can be at the place or the one that begins there passes the end,
- * and then by 15 where there is room for fewer than KHUMSAFIL_ITEM_FIELDS numbers. An item further on that passes the end is
- * refused when its own place is asked.
+ * The items of a programme list from a place on, the one there taken for the item of that number of the section, from 0 on: as
+ * many as there is room for, up to and with the section's last, or up to the first that is refused, without it. Any place and any
+ * number may be asked. Refuses by 1 to 8, 45 and 43 as khumsafil_raw_programme_read does; then, where the section has an item of
+ * that number, by 43 where no item can be at the place or the one that begins there passes the end; and last by 15 where there is
+ * room for fewer than KHUMSAFIL_ITEM_FIELDS numbers. An item further on that passes the end is refused when its own place is
+ * asked.
  *
  * payload: read, and left as it is.
  * fields: each item that is told takes KHUMSAFIL_ITEM_FIELDS, one behind the other from the front, and those past them stay as
  * they were; where none is told, left as they were.
  *
- * Bits 8 to 15 are 1 where items were told and 2 where the list has no item of that number, which is so at any place. Of items
- * that were told bits 16 to 31 are how many, 32 to 63 the place after the last of them.
+ * Bits 8 to 15 are 1 where items were told and 2 where the section has no item of that number, at any place and with any room.
+ * Of items that were told bits 16 to 31 are how many, 32 to 63 the place after the last of them.
  */
 uint64_t khumsafil_raw_programme_items(const uint8_t *payload, size_t payload_length, size_t at, uint8_t number,
                                        uint64_t *fields, size_t fields_length);
 
 /*
  * The table's own loop, whose number of descriptors stands at a place: the one after the last item. Any place may be asked.
- * Refuses as khumsafil_raw_programme_read does, then by 43 where the loop passes the end, and by 44 where bytes are left over
- * after it.
+ * Refuses by 1 to 8, 45 and 43 as khumsafil_raw_programme_read does, then by 43 where the loop passes the end, and by 44 where
+ * bytes are left over after it.
  *
  * payload: read, and left as it is.
  *

@@ -58,7 +58,7 @@ pub struct Programme<'a> {
     pub service_id: u16,
     /// When the time span begins, in GPS seconds; 0 for the indefinite past.
     pub time_span_start: u32,
-    /// Its length in minutes; 0 for the indefinite future.
+    /// Its length in minutes; 0 for the indefinite future. Without meaning where the start is 0.
     pub time_span_length: u16,
     /// How many items the list has.
     pub count: u8,
@@ -248,7 +248,7 @@ impl fmt::Debug for Item<'_> {
 pub enum Step<'a> {
     /// The item at the place asked.
     Item(Item<'a>),
-    /// The list has no item of that number.
+    /// The section has no item of that number.
     Over,
 }
 
@@ -299,17 +299,17 @@ pub fn read(payload: &[u8]) -> Result<Programme<'_>, Refusal> {
 /// How many items a call told.
 #[derive(Clone, Copy, Debug, PartialEq, Eq)]
 pub struct Told {
-    /// How many there are; 0 where the list has no item of the number asked.
+    /// How many there are; 0 where the section has no item of the number asked.
     pub count: usize,
     /// The place after the last of them; where there is none, the place asked.
     pub next: usize,
 }
 
 /// Puts the items from a place on, the one there taken for the item of that number from 0 on, at the front of `fields`, each in
-/// [`ITEM_FIELDS`] numbers in the header's order: as many as there is room for, up to the last of the list or to the first that
-/// is refused. Numbers past theirs stay as they were. Any place and any number may be asked. Refused: 1 to 8, 45; 43 where the
-/// item at the place asked is; and 15 where fewer than [`ITEM_FIELDS`] are lent for it. One further on that is refused is so when
-/// its own place is asked.
+/// [`ITEM_FIELDS`] numbers in the header's order: as many as there is room for, up to and with the section's last, or up to the
+/// first that is refused, without it. Numbers past theirs stay as they were. Any place and any number may be asked. Refused: 1 to
+/// 8, 45; 43 where the fields before the items, or the item at the place asked, pass the end; and last 15 where fewer than
+/// [`ITEM_FIELDS`] are lent for that item. One further on that is refused is so when its own place is asked.
 #[inline]
 pub fn item_fields(
     payload: &[u8],
@@ -358,7 +358,7 @@ pub fn item_at(payload: &[u8], at: usize, number: u8) -> Result<Step<'_>, Refusa
 }
 
 /// The items from a place on, as [`item_fields`] puts them into `numbers`, of which each element has room for one; none where the
-/// list has no item of that number.
+/// section has no item of that number.
 ///
 /// ```
 /// use khumsafil::programme::{self, FIRST_ITEM, ITEM_FIELDS, MOST_ITEMS};
