@@ -4,4 +4,3 @@ pub mod Puts
 pub mod Chains
 pub mod Narrows
 pub mod Handed
-pub mod Bounds

@@ -43,7 +43,7 @@ pub struct Passed {
 
 pub enum Walk {
     Items(Passed),
-    // All items are behind.
+    // The section has no item of that number.
     Over,
     Refused(u8),
 }
@@ -90,7 +90,7 @@ fn past_included(size: usize, from: usize, flags: u16) -> Run
     requires { ⌜ (from ≤ size) × (size ≤ 65535) ⌝ }
     ensures { λ r. ⌜ r ≡ upTo size (from + included flags) ⌝ }
 {
-    // Most items have none of them.
+    // The quick way where none of the four is there.
     if flags / CONTENT_SIZE % 16 == 0 {
         return Run::Ends(from);
     }
@@ -201,7 +201,7 @@ fn put_included(bytes: &[u8], at: usize, flags: u16, fields: &mut [u64], to: usi
     requires { ⌜ (at + included flags ≤ length (now bytes)) × (to + 4 ≤ length (now fields)) ⌝ }
     ensures { λ _. ⌜ now (fields .exit) ≡ sets (now (fields .entry)) to (includedNumbers (now (bytes .entry)) at flags) ⌝ }
 {
-    // Most items have none of them.
+    // The quick way where none of the four is there.
     if flags / CONTENT_SIZE % 16 == 0 {
         fields[to] = 0;
         fields[to + 1] = 0;

@@ -20,7 +20,7 @@ use Rattle.programme_items.specs.declared.Passed.{Passed}
 use Rattle.programme_items.proofs.Handed.{walk-refused, walk-over, walk-short, walk-there}
 use Rattle.programme_items.proofs.Chains.{all-long}
 use Rattle.programme_items.proofs.Narrows.{back}
-use Rattle.programme_items.proofs.Bounds as bounds
+use Rattle.programme_answers.proofs.Bounds as bounds
 use Rattle.programme_answers.specs.Lent.{itemsKind, overKind, passedCode, itemsLent, itemsBack}
 use Rattle.programme_answers.specs.Lent.{Items-Untouched, Items-Refused, Items-Handed, Items-15, Items-Over, Items-Come-Back, Items-Rest, Items-On, Items-Go-On, Items-Longest, Items-Few}
 use Rattle.programme_answers.proofs.Laws.{lent}

@@ -1,7 +1,7 @@
 -- `programme_items` meets its promise: in each arm the answer is the one that `programme_items::items_at` promises.
 use mathlib.Core.Path.{refl, sym, ap, _∙_}
 use Rattle.programme_items.specs.Items.{walked}
-use Rattle.programme_items.proofs.Bounds.{handed-within}
+use Rattle.programme_answers.proofs.Bounds.{handed-within}
 use Rattle.programme_answers.proofs.Laws.{lent}
 use borrow.Author.Needs.{needs}
 use Rattle.programme_answers.proofs.programme_items.Statement.{statement}
