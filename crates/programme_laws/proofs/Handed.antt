@@ -1,6 +1,7 @@
 -- A host loses nothing of the items that cross the boundary (`programme_answers`, `specs/Lent.antt` has the words).
 --   items-untouched, items-refused, items-handed, items-15, items-over, items-come-back, items-rest, items-on
 --   items-go-on, items-longest, items-few
+--   one-walk
 --   handed-walk     they are those of the walk (`specs/Theorems.antt`)
 use mathlib.Core.Path.{_≡_, refl, sym, ap, subst, _∙_}
 use mathlib.Core.List.{List, [], _∷_, _++_}
@@ -15,7 +16,7 @@ use Rattle.answers.specs.Answers.{Out, out}
 use Rattle.programme.specs.Reading.{stepOf}
 use Rattle.programme.specs.declared.Item.{Item}
 use Rattle.programme.specs.declared.Step.{Step}
-use Rattle.programme_items.specs.Items.{itemsFrom, allNumbers, placeAfter, itemBack, numbersOf}
+use Rattle.programme_items.specs.Items.{itemsFrom, allNumbers, placeAfter, itemBack, numbersOf, Walked}
 use Rattle.programme_items.specs.declared.Passed.{Passed}
 use Rattle.programme_items.proofs.Handed.{walk-refused, walk-over, walk-short, walk-there}
 use Rattle.programme_items.proofs.Chains.{all-long}
@@ -25,7 +26,7 @@ use Rattle.programme_answers.specs.Lent.{itemsKind, overKind, passedCode, items
 use Rattle.programme_answers.specs.Lent.{Items-Untouched, Items-Refused, Items-Handed, Items-15, Items-Over, Items-Come-Back, Items-Rest, Items-On, Items-Go-On, Items-Longest, Items-Few}
 use Rattle.programme_answers.proofs.Laws.{lent}
 use Rattle.programme_laws.specs.Walk.{walk}
-use Rattle.programme_laws.specs.Theorems.{Handed-Walk}
+use Rattle.programme_laws.specs.Theorems.{Handed-Walk, One-Walk}
 use Rattle.programme_laws.proofs.ExactlyWhen as when
 use Rattle.programme_laws.proofs.Hosts.{Number, numbered}
 
@@ -203,6 +204,9 @@ handed-walk (suc n) s at k = go (λ to. handed-walk n s to (k + 1)) (stepOf s at
     go ih (Step.Item i) q = let h = ih (i .next) in rw (bounds.from-next s at k n i q, q) (ap (λ is. i ∷ is) (h .0), h .1)
     go ih Step.Over q = rw (bounds.from-over s at k (suc n) q, q) (refl, refl)
     go ih (Step.Refused m) q = rw (bounds.from-refused s at k (suc n) q, q) (refl, refl)
+
+pub one-walk : (s : List ℕ) (at k : ℕ) (fields : List ℕ) → One-Walk s at k fields
+one-walk s at k fields x y f g p q = (ap (λ (w : Walked). w .walk) (p ∙ sym q), ap (λ (w : Walked). w .fields) (p ∙ sym q))
 
 pub items-longest : (n : ℕ) (s : List ℕ) (at k : ℕ) → Items-Longest n s at k
 unfolding placeAfter

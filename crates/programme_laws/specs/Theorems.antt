@@ -20,7 +20,9 @@ use Rattle.programme.specs.declared.Loop.{Loop}
 use Rattle.programme.specs.declared.Item.{Item}
 use Rattle.programme.specs.declared.Step.{Step}
 use Rattle.programme.specs.declared.Own.{Own}
-use Rattle.programme_items.specs.Items.{itemsFrom, placeAfter}
+use Rattle.programme_items.specs.Items as handing
+use Rattle.programme_items.specs.Items.{itemsFrom, placeAfter, walked}
+use Rattle.programme_items.specs.declared.Walk.{Walk}
 use Rattle.programme_laws.specs.Walk.{walk, walkOf, reached, tiles, Answers, answersTo, Unrefused, Counted, itemsOf}
 use Rattle.programme_laws.specs.Layout.{Body, FitBody, bodyOf, answersOf}
 
@@ -211,3 +213,8 @@ Stays s t =
 -- what a call for n items hands out are the items of a walk of n steps from there, and the place after them is the one that it comes to
 abbrev pub Handed-Walk : ℕ → List ℕ → ℕ → ℕ → Type 0
 Handed-Walk n s at k = (itemsOf (walk n s at k) ≡ itemsFrom n s at k) × (reached at (walk n s at k) ≡ placeAfter at (itemsFrom n s at k))
+
+-- one answer, and one buffer after it, for one place, number and buffer
+abbrev pub One-Walk : List ℕ → ℕ → ℕ → List ℕ → Type 0
+One-Walk s at k fields =
+    (x y : Walk) (f g : List ℕ) → walked x f ≡ handing.walkOf s at k fields → walked y g ≡ handing.walkOf s at k fields → (x ≡ y) × (f ≡ g)
