@@ -11,15 +11,15 @@ use lib.ListN.{length, take}
 use lib.Seq.{take-append-seam}
 use Rattle.base.specs.Bytes.{byte, part}
 use Rattle.programme.specs.Field.{number}
-use Rattle.programme.specs.Table.{contentLinkage, flags, playbackLengthIncluded, playbackDelayIncluded, expirationIncluded, contentSizeIncluded}
-use Rattle.programme.specs.Table.{playbackLengthAt, playbackDelayAt, expirationAt, contentSizeAt, contentNameLength, contentNameAt, numContentDescriptors, contentDescriptorsAt}
+use Rattle.programme.specs.Table.{flags, playbackLengthIncluded, playbackDelayIncluded, expirationIncluded, contentSizeIncluded}
+use Rattle.programme.specs.Table.{contentNameLength, numContentDescriptors, contentDescriptorsAt}
 use Rattle.programme_laws.specs.Layout.{Descriptor, loopBytes, Optional, included, optionalBytes, FitOptional, Content, flagsOf, nameBytes, contentThen, contentBytes, contentsThen, Body, bodyOf, FitContent, FitContents, FitBody, pastAll}
 use Rattle.programme_laws.specs.Theorems.{One-List}
 use Rattle.programme_laws.proofs.From.{From, next, byte-of, first-byte}
 use Rattle.programme_laws.proofs.Digits.{field-says}
 use Rattle.programme_laws.proofs.Loops.{loop-more, step-behind}
 use Rattle.programme_laws.proofs.Optionals.{optionalFrom}
-use Rattle.programme_laws.proofs.Contents.{size-on, expires-on, delay-on, playback-on, linkage-says, at-flags, flags-say, at-playback, is-playback, at-delay, is-delay, at-expires, is-expires, at-size, is-size, at-name, name-says, count-says, at-loop, item-behind, flags-small}
+use Rattle.programme_laws.proofs.Contents.{contentAt, size-on, expires-on, delay-on, playback-on, linkage-says, at-flags, flags-say, at-playback, is-playback, at-delay, is-delay, at-expires, is-expires, at-size, is-size, at-name, name-says, count-says, at-loop, item-behind, flags-small}
 use Rattle.programme_laws.proofs.Contents.{flag-updates, flag-fragment, flag-security, flag-master, flag-internet, flag-broadcast}
 use Rattle.programme_laws.proofs.Whole.{items-on, minutes-on, start-on, at-service, at-start, at-minutes, at-first, items-say, all-behind}
 
@@ -52,65 +52,7 @@ opt-is n bits t (Optional.there reserved value) r f e h =
     rw (e, field-says n (reserved * 2 ^ bits + value) r f (h .1), digits-div reserved (h .0), digits-mod reserved (h .0))
 
 abbrev contentFrom : List ℕ → ℕ → Content
-contentFrom s at =
-    record {
-      linkage = contentLinkage s at;
-      updates = flags s at / 2 ^ 9 % 2;
-      fragment = flags s at / 2 ^ 8 % 2;
-      security = flags s at / 2 ^ 7 % 2;
-      master = flags s at / 2 ^ 6 % 2;
-      playback = optionalFrom (playbackLengthIncluded s at) 3 20 s (playbackLengthAt s at);
-      delay = optionalFrom (playbackDelayIncluded s at) 3 20 s (playbackDelayAt s at);
-      expires = optionalFrom (expirationIncluded s at) 4 32 s (expirationAt s at);
-      size = optionalFrom (contentSizeIncluded s at) 5 40 s (contentSizeAt s at);
-      internet = flags s at / 2 % 2;
-      broadcast = flags s at % 2;
-      reserved = number s (at + 4) 2 % 2 ^ 6;
-      name = part s (contentNameAt s at) (contentNameLength s at);
-      descriptors = loopFrom (numContentDescriptors s at) s (contentDescriptorsAt s at);
-    }
-
-abbrev content : ℕ → ℕ → ℕ → ℕ → ℕ → Optional → Optional → Optional → Optional → ℕ → ℕ → ℕ → List ℕ → List Descriptor → Content
-content a b c d e f g h i j k l m n =
-    record {
-      linkage = a;
-      updates = b;
-      fragment = c;
-      security = d;
-      master = e;
-      playback = f;
-      delay = g;
-      expires = h;
-      size = i;
-      internet = j;
-      broadcast = k;
-      reserved = l;
-      name = m;
-      descriptors = n;
-    }
-
-same-content :
-    {a a' b b' c c' d d' e e' : ℕ}
-    {f f' g g' h h' i i' : Optional}
-    {j j' k k' l l' : ℕ}
-    {m m' : List ℕ}
-    {n n' : List Descriptor}
-    → a ≡ a'
-    → b ≡ b'
-    → c ≡ c'
-    → d ≡ d'
-    → e ≡ e'
-    → f ≡ f'
-    → g ≡ g'
-    → h ≡ h'
-    → i ≡ i'
-    → j ≡ j'
-    → k ≡ k'
-    → l ≡ l'
-    → m ≡ m'
-    → n ≡ n'
-    → content a b c d e f g h i j k l m n ≡ content a' b' c' d' e' f' g' h' i' j' k' l' m' n'
-same-content e0 e1 e2 e3 e4 e5 e6 e7 e8 e9 e10 e11 e12 e13 = rw (e0, e1, e2, e3, e4, e5, e6, e7, e8, e9, e10, e11, e12, e13)
+contentFrom s at = contentAt s at (loopFrom (numContentDescriptors s at) s (contentDescriptorsAt s at))
 
 content-is : (c : Content) (h : FitContent c) {s : List ℕ} {at : ℕ} (r : List ℕ) → From s at (contentThen c r) → contentFrom s at ≡ c
 content-is c h {s} {at} r f =
@@ -120,21 +62,22 @@ content-is c h {s} {at} r f =
     let fits : c .reserved < 2 ^ 6 = h .reserved in
     let both : number s (at + 4) 2 ≡ flagsOf c * 2 ^ 6 + c .reserved = field-says 2 (flagsOf c * 2 ^ 6 + c .reserved) (playback-on c r) (at-flags c h r f) (omega arith) in
     omega arith) in
-    same-content
-    (linkage-says c h r f)
-    (ap (λ x. x / 2 ^ 9 % 2) flagged ∙ flag-updates c h)
-    (ap (λ x. x / 2 ^ 8 % 2) flagged ∙ flag-fragment c h)
-    (ap (λ x. x / 2 ^ 7 % 2) flagged ∙ flag-security c h)
-    (ap (λ x. x / 2 ^ 6 % 2) flagged ∙ flag-master c h)
-    (opt-is 3 20 (playbackLengthIncluded s at) (c .playback) (delay-on c r) (at-playback c h r f) (is-playback c h r f) (h .playback))
-    (opt-is 3 20 (playbackDelayIncluded s at) (c .delay) (expires-on c r) (at-delay c h r f) (is-delay c h r f) (h .delay))
-    (opt-is 4 32 (expirationIncluded s at) (c .expires) (size-on c r) (at-expires c h r f) (is-expires c h r f) (h .expires))
-    (opt-is 5 40 (contentSizeIncluded s at) (c .size) (nameBytes c r) (at-size c h r f) (is-size c h r f) (h .size))
-    (ap (λ x. x / 2 % 2) flagged ∙ flag-internet c h)
-    (ap (λ x. x % 2) flagged ∙ flag-broadcast c h)
-    spare
-    (part-is (c .name) _ (contentNameLength s at) (next _ _ (at-name c h r f)) (name-says c h r f))
-    (ap (λ n. loopFrom n s (contentDescriptorsAt s at)) (count-says c h r f) ∙ loop-is (c .descriptors) r (at-loop c h r f))
+    rw (
+      linkage-says c h r f,
+      ap (λ x. x / 2 ^ 9 % 2) flagged ∙ flag-updates c h,
+      ap (λ x. x / 2 ^ 8 % 2) flagged ∙ flag-fragment c h,
+      ap (λ x. x / 2 ^ 7 % 2) flagged ∙ flag-security c h,
+      ap (λ x. x / 2 ^ 6 % 2) flagged ∙ flag-master c h,
+      opt-is 3 20 (playbackLengthIncluded s at) (c .playback) (delay-on c r) (at-playback c h r f) (is-playback c h r f) (h .playback),
+      opt-is 3 20 (playbackDelayIncluded s at) (c .delay) (expires-on c r) (at-delay c h r f) (is-delay c h r f) (h .delay),
+      opt-is 4 32 (expirationIncluded s at) (c .expires) (size-on c r) (at-expires c h r f) (is-expires c h r f) (h .expires),
+      opt-is 5 40 (contentSizeIncluded s at) (c .size) (nameBytes c r) (at-size c h r f) (is-size c h r f) (h .size),
+      ap (λ x. x / 2 % 2) flagged ∙ flag-internet c h,
+      ap (λ x. x % 2) flagged ∙ flag-broadcast c h,
+      spare,
+      part-is (c .name) _ (contentNameLength s at) (next _ _ (at-name c h r f)) (name-says c h r f),
+      ap (λ n. loopFrom n s (contentDescriptorsAt s at)) (count-says c h r f) ∙ loop-is (c .descriptors) r (at-loop c h r f),
+    )
 
 -- so many items from a place
 abbrev contentsFrom : ℕ → List ℕ → ℕ → List Content

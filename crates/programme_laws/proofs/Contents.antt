@@ -20,10 +20,9 @@ use Rattle.programme.specs.Table.{contentNameLengthAt, contentNameLength, conte
 use Rattle.programme.specs.Run.{runOf}
 use Rattle.programme.specs.Reading.{itemRun, itemAt}
 use Rattle.programme.specs.declared.Run.{Run}
-use Rattle.programme.specs.declared.Item.{Item}
 use Rattle.programme.specs.declared.Step.{Step}
 use Rattle.programme.proofs.Items.{itemTo, item-reads}
-use Rattle.programme_laws.specs.Layout.{digits, loopBytes, included, optionalBytes, Content, flagsOf, frontBytes, nameBytes, contentThen, contentBytes, FitContent}
+use Rattle.programme_laws.specs.Layout.{digits, Descriptor, loopBytes, included, optionalBytes, Content, flagsOf, frontBytes, nameBytes, contentThen, contentBytes, FitContent}
 use Rattle.programme_laws.specs.Layout.{nameIn, itemIn}
 use Rattle.programme_laws.proofs.From.{From, long, after, next, first-byte}
 use Rattle.programme_laws.proofs.Digits.{field-says, field-after, field-reads, number-fits}
@@ -41,39 +40,6 @@ module _ (c : Content) (r : List ℕ) where
   pub content-split : contentThen c r ≡ contentBytes c ++ r
   unfolding contentThen
   content-split = simp (append-assoc, append-nil)
-
--- an item by its twelve numbers
-abbrev item : ℕ → ℕ → ℕ → ℕ → ℕ → ℕ → ℕ → ℕ → ℕ → ℕ → ℕ → ℕ → Item
-item a b c d e f g h i j k l =
-    record {
-      linkage = a;
-      flags = b;
-      playback = c;
-      delay = d;
-      expires = e;
-      size = f;
-      nameat = g;
-      named = h;
-      descriptors = record { count = i; place = j; length = k };
-      next = l;
-    }
-
-same-item :
-    {a a' b b' c c' d d' e e' f f' g g' h h' i i' j j' k k' l l' : ℕ}
-    → a ≡ a'
-    → b ≡ b'
-    → c ≡ c'
-    → d ≡ d'
-    → e ≡ e'
-    → f ≡ f'
-    → g ≡ g'
-    → h ≡ h'
-    → i ≡ i'
-    → j ≡ j'
-    → k ≡ k'
-    → l ≡ l'
-    → item a b c d e f g h i j k l ≡ item a' b' c' d' e' f' g' h' i' j' k' l'
-same-item e0 e1 e2 e3 e4 e5 e6 e7 e8 e9 e10 e11 = rw (e0, e1, e2, e3, e4, e5, e6, e7, e8, e9, e10, e11)
 
 -- the flags of an item that is written
 module _ (c : Content) (h : FitContent c) where
@@ -242,21 +208,24 @@ module _ (c : Content) (h : FitContent c) {s : List ℕ} {at : ℕ} (r : List �
   loop-place = ap (λ x. x + 1 + contentNameLength s at + 1) name-place ∙ ap (λ x. nameIn at c + x + 1) name-says
 
   -- what is read there
+  -- from the last field to the first, since each place is told by the fields before it
   is-item : itemTo s at (contentDescriptorsAt s at + length (loopBytes (c .descriptors))) ≡ itemIn at c
   is-item =
-      same-item
-      linkage-says
-      flags-say
-      (opt-says 3 20 (playbackLengthIncluded s at) (c .playback) (delay-on c r) at-playback is-playback (h .playback))
-      (opt-says 3 20 (playbackDelayIncluded s at) (c .delay) (expires-on c r) at-delay is-delay (h .delay))
-      (opt-says 4 32 (expirationIncluded s at) (c .expires) (size-on c r) at-expires is-expires (h .expires))
-      (opt-says 5 40 (contentSizeIncluded s at) (c .size) (nameBytes c r) at-size is-size (h .size))
-      (ap (λ x. x + 1) name-place)
-      name-says
-      count-says
-      loop-place
-      (omega arith)
-      end-place
+      let size : contentDescriptorsAt s at + length (loopBytes (c .descriptors)) - contentDescriptorsAt s at ≡ length (loopBytes (c .descriptors)) = omega arith in
+      rw (
+        size,
+        end-place,
+        loop-place,
+        count-says,
+        name-says,
+        ap (λ x. x + 1) name-place,
+        opt-says 5 40 (contentSizeIncluded s at) (c .size) (nameBytes c r) at-size is-size (h .size),
+        opt-says 4 32 (expirationIncluded s at) (c .expires) (size-on c r) at-expires is-expires (h .expires),
+        opt-says 3 20 (playbackDelayIncluded s at) (c .delay) (expires-on c r) at-delay is-delay (h .delay),
+        opt-says 3 20 (playbackLengthIncluded s at) (c .playback) (delay-on c r) at-playback is-playback (h .playback),
+        flags-say,
+        linkage-says,
+      )
 
   pub item-written : 17 ≤ at → itemAt s at ≡ Step.Item (itemIn at c)
   item-written l =
@@ -266,6 +235,26 @@ module _ (c : Content) (h : FitContent c) {s : List ℕ} {at : ℕ} (r : List �
 
   pub item-behind : From s (at + length (contentBytes c)) r
   item-behind = rw (← end-place) at-end
+
+-- the item whose fields stand at a place, with these descriptors
+abbrev pub contentAt : List ℕ → ℕ → List Descriptor → Content
+contentAt s at descriptors =
+    record {
+      linkage = contentLinkage s at;
+      updates = flags s at / 2 ^ 9 % 2;
+      fragment = flags s at / 2 ^ 8 % 2;
+      security = flags s at / 2 ^ 7 % 2;
+      master = flags s at / 2 ^ 6 % 2;
+      playback = optionalFrom (playbackLengthIncluded s at) 3 20 s (playbackLengthAt s at);
+      delay = optionalFrom (playbackDelayIncluded s at) 3 20 s (playbackDelayAt s at);
+      expires = optionalFrom (expirationIncluded s at) 4 32 s (expirationAt s at);
+      size = optionalFrom (contentSizeIncluded s at) 5 40 s (contentSizeAt s at);
+      internet = flags s at / 2 % 2;
+      broadcast = flags s at % 2;
+      reserved = number s (at + 4) 2 % 2 ^ 6;
+      name = part s (contentNameAt s at) (contentNameLength s at);
+      descriptors = descriptors;
+    }
 
 -- an item that stands from a place to another
 pub record Found (s : List ℕ) (at end : ℕ) : Type 0 where
@@ -282,23 +271,7 @@ module _ (s : List ℕ) (b : Octets s) (at : ℕ) (within : contentDescriptorsAt
 
   -- the item
   abbrev said : Content
-  said =
-      record {
-        linkage = contentLinkage s at;
-        updates = x / 2 ^ 9 % 2;
-        fragment = x / 2 ^ 8 % 2;
-        security = x / 2 ^ 7 % 2;
-        master = x / 2 ^ 6 % 2;
-        playback = optionalFrom (playbackLengthIncluded s at) 3 20 s (playbackLengthAt s at);
-        delay = optionalFrom (playbackDelayIncluded s at) 3 20 s (playbackDelayAt s at);
-        expires = optionalFrom (expirationIncluded s at) 4 32 s (expirationAt s at);
-        size = optionalFrom (contentSizeIncluded s at) 5 40 s (contentSizeAt s at);
-        internet = x / 2 % 2;
-        broadcast = x % 2;
-        reserved = number s (at + 4) 2 % 2 ^ 6;
-        name = part s (contentNameAt s at) (contentNameLength s at);
-        descriptors = loop .loop;
-      }
+  said = contentAt s at (loop .loop)
 
   named : length (part s (contentNameAt s at) (contentNameLength s at)) ≡ contentNameLength s at
   named = length-part s (contentNameAt s at) (contentNameLength s at) (omega arith)
