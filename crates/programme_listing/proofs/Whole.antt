@@ -9,7 +9,6 @@ use mathlib.Core.Bool.{Bool, true, false}
 use mathlib.Core.List.{List, [], _++_}
 use mathlib.Core.Logic.{⊎-elim}
 use Prim.Native.Nat.{ℕ, _+_, _<_, _≤_, _^_}
-use native.Mathlib.Nat.{zero-add}
 use native.Mathlib.Omega.{arith}
 use lib.ListN.{length, getD}
 use borrow.Author.Tests.{eq-eqb, ne-eqb, lt-ltb, le-ltb}
@@ -23,7 +22,7 @@ use Rattle.file_listing.specs.Words.{lines, newline}
 use Rattle.file_listing.specs.Listing.{headLine, missingOf, refusedLine}
 use Rattle.text.specs.Words.{field}
 use Rattle.text.specs.Over.{Wrote}
-use Rattle.text.proofs.Writing.{then, at-front, over-nothing}
+use Rattle.text.proofs.Writing.{then, behind-front, at-front, over-nothing}
 use Rattle.text.proofs.Short.{same-decimal}
 use Rattle.programme_lines.specs.Lines.{otherLine, wholeLine, notWholeLine}
 use Rattle.programme_listing.specs.Inside.{AllInside}
@@ -78,12 +77,12 @@ lies file scanned e h a =
 
 -- the two passes
 module _ (file out : List ℕ) (size : ℕ) where
-  small : 0 + length (textOf file) < 2 ^ 64
+  small : length (textOf file) < 2 ^ 64
   small = omega (arith, text-short file)
 
   -- written over nothing, the text is counted, and nothing is left
   pub counted : {left : List ℕ} → Wrote (textOf file) [] 0 left size → (size ≡ length (textOf file)) × (left ≡ [])
-  counted w = (w .behind small ∙ zero-add (length (textOf file)), w .leaves small ∙ over-nothing (textOf file) 0)
+  counted w = (w .place ∙ behind-front (textOf file) small, w .leaves ∙ over-nothing (textOf file) 0)
 
   module _ {left : List ℕ} (counts : Wrote (textOf file) [] 0 left size) where
     pub too-small : length (left ++ out) < size → listing (Listed.Refused 15) (left ++ out) ≡ listOf file out
@@ -100,6 +99,6 @@ module _ (file out : List ℕ) (size : ℕ) where
         let none : left ≡ [] = counted counts .1 in
         let is : size ≡ length (textOf file) = counted counts .0 in
         let room : size ≤ length out = rw none at l in
-        let stands = rw none at (w .leaves small) in
+        let stands = rw none at (w .leaves) in
         rw (← is, le-ltb (length out) size room)
-        (ap (listing (Listed.Bytes size)) (stands ∙ at-front (textOf file) out (omega arith) ∙ rw (← is)))
+        (ap (listing (Listed.Bytes size)) (stands ∙ at-front (textOf file) out small (omega arith) ∙ rw (← is)))

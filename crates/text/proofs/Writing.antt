@@ -2,47 +2,48 @@
 --   nothing, one       no bytes, and one
 --   then, then-two     one piece after another is their join; so is one after a piece of two
 --   Left               what is still to be written of a whole, as a loop keeps it; `all-left`, `step`, `finish`
+--   behind-front       the place behind bytes at an output's front, where it can be told
 --   at-front           a text that fits stands at the output's front, which past it stays as it was
 --   over-nothing       over no bytes nothing is left
-use mathlib.Core.Path.{_≡_, refl, sym, ap, _∙_}
+use mathlib.Core.Path.{_≡_, refl, sym, _∙_}
 use mathlib.Core.List.{List, [], _∷_, _++_, append-assoc}
-use Prim.Native.Nat.{ℕ, suc, _+_, _<_, _≤_, _%_, _^_}
-use native.Mathlib.Nat.{add-zero, add-suc, suc-add, zero-add}
+use Prim.Native.Nat.{ℕ, suc, _+_, _-_, _<_, _≤_, _^_}
+use native.Mathlib.Nat.{add-zero, zero-add}
+use native.Mathlib.Numerals.{add-one}
 use native.Mathlib.Omega.{arith}
-use lib.ListN.{length, drop, set, length-append}
+use borrow.Author.Tests.{lt-ltb}
+use lib.ListN.{length, drop, set}
 use lib.Seq.{sets, set-out, sets-eq}
-use Rattle.text.specs.Over.{over, Wrote}
+use Rattle.text.specs.Over.{nextPlace, over, behind, Wrote}
 
 pub nothing : (out : List ℕ) (at : ℕ) → Wrote [] out at out at
-unfolding over
-nothing out at = record { behind = λ _. sym (add-zero at); leaves = λ _. refl }
+unfolding over behind
+nothing out at = record { place = refl; leaves = refl }
 
-module _ (out : List ℕ) (at b r : ℕ) (e : r ≡ (at + 1) % 2 ^ 64) where
-  counted : at + 1 < 2 ^ 64 → r ≡ at + 1
-  counted h = omega arith
-
+module _ (out : List ℕ) (at b r : ℕ) (e : r ≡ nextPlace at) where
   pub one : Wrote (b ∷ []) out at (set out at b) r
-  unfolding over
-  one = record { behind = counted; leaves = λ _. refl }
+  unfolding over behind
+  one = record { place = e; leaves = refl }
 
   pub no-room : length out ≤ at → Wrote (b ∷ []) out at out r
-  unfolding over
-  no-room l = record { behind = counted; leaves = λ _. sym (set-out out at b l) }
+  unfolding over behind
+  no-room l = record { place = e; leaves = sym (set-out out at b l) }
 
-sets-append : (a b out : List ℕ) (at : ℕ) → sets out at (a ++ b) ≡ sets (sets out at a) (at + length a) b
-sets-append [] b out at = rw add-zero
-sets-append (x ∷ a) b out at = rw (add-suc, ← suc-add) (sets-append a b (set out at x) (suc at))
+behind-append : (a b : List ℕ) (at : ℕ) → behind at (a ++ b) ≡ behind (behind at a) b
+unfolding behind
+behind-append [] b at = refl
+behind-append (x ∷ a) b at = behind-append a b (nextPlace at)
+
+over-append : (a b out : List ℕ) (at : ℕ) → over out at (a ++ b) ≡ over (over out at a) (behind at a) b
+unfolding over behind
+over-append [] b out at = refl
+over-append (x ∷ a) b out at = over-append a b (set out at x) (nextPlace at)
 
 pub then : {a b out mid after : List ℕ} {at between end : ℕ} → Wrote a out at mid between → Wrote b mid between after end → Wrote (a ++ b) out at after end
-unfolding over
 then {a} {b} {out} {mid} {after} {at} {between} {end} v w =
     record {
-      behind = λ h. let l = rw length-append at h in let p = v .behind (omega arith) in rw length-append (omega (arith, w .behind (omega arith)));
-      leaves =
-          λ h.
-          let l = rw length-append at h in
-          let p = v .behind (omega arith) in
-          w .leaves (omega arith) ∙ rw (v .leaves (omega arith), p) (sym (sets-append a b out at));
+      place = w .place ∙ rw (v .place) (sym (behind-append a b at));
+      leaves = w .leaves ∙ rw (v .leaves, v .place) (sym (over-append a b out at));
     }
 
 pub then-two : (a b : List ℕ) {c out mid after : List ℕ} {at between end : ℕ} → Wrote (a ++ b) out at mid between → Wrote c mid between after end
@@ -66,11 +67,28 @@ module _ {whole out now : List ℕ} {at here : ℕ} where
   pub none-left : Left whole out at [] now here → Wrote whole out at now here
   none-left l = l .ends now here (nothing now here)
 
-pub at-front : (bytes out : List ℕ) → length bytes ≤ length out → over out 0 bytes ≡ bytes ++ drop (length bytes) out
+-- a place that is not the highest
+counted : (at : ℕ) → at + 1 < 2 ^ 64 → nextPlace at ≡ at + 1
+unfolding nextPlace
+counted at l = rw (lt-ltb at (2 ^ 64 - 1) (omega arith))
+
+over-sets : (bytes out : List ℕ) (at : ℕ) → at + length bytes < 2 ^ 64 → over out at bytes ≡ sets out at bytes
 unfolding over
-at-front bytes out l = sets-eq bytes out 0 (omega arith) ∙ rw zero-add
+over-sets [] out at l = refl
+over-sets (b ∷ bytes) out at l = rw (counted at (omega arith), add-one) (over-sets bytes (set out at b) (suc at) (omega arith))
+
+behind-sum : (bytes : List ℕ) (at : ℕ) → at + length bytes < 2 ^ 64 → behind at bytes ≡ at + length bytes
+unfolding behind
+behind-sum [] at l = sym (add-zero at)
+behind-sum (b ∷ bytes) at l = rw (counted at (omega arith)) (behind-sum bytes (at + 1) (omega arith) ∙ omega arith)
+
+pub behind-front : (bytes : List ℕ) → length bytes < 2 ^ 64 → behind 0 bytes ≡ length bytes
+behind-front bytes s = behind-sum bytes 0 (omega arith) ∙ zero-add (length bytes)
+
+pub at-front : (bytes out : List ℕ) → length bytes < 2 ^ 64 → length bytes ≤ length out → over out 0 bytes ≡ bytes ++ drop (length bytes) out
+at-front bytes out s l = over-sets bytes out 0 (omega arith) ∙ sets-eq bytes out 0 (omega arith) ∙ rw zero-add
 
 pub over-nothing : (bytes : List ℕ) (at : ℕ) → over [] at bytes ≡ []
 unfolding over
 over-nothing [] at = refl
-over-nothing (b ∷ bytes) at = over-nothing bytes (suc at)
+over-nothing (b ∷ bytes) at = over-nothing bytes (nextPlace at)

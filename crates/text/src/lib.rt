@@ -5,7 +5,7 @@ ghost use mathlib.Core.List.{[], _∷_, _++_};
 ghost use Prim.Native.Nat.{_<_};
 ghost use Rattle.file_listing.specs.Words.{place as placeOf, newline};
 ghost use Rattle.text.specs.Words.{decimal, hexDigit, plain as plainByte, shown as shownByte, escaped as escapedName};
-ghost use Rattle.text.specs.Over.{Wrote};
+ghost use Rattle.text.specs.Over.{nextPlace, Wrote};
 
 pub const NEWLINE: u8 = 10;
 
@@ -14,15 +14,28 @@ const POWERS: u8 = 12;
 
 const HIGHEST: u64 = 1000000000000;
 
-// A byte, where there is room for it. The place behind it is counted in either case, and no text of any file is so long that it wraps.
+// The highest place that there is.
+const HIGHEST_PLACE: usize = 18446744073709551615;
+
+// The place behind a byte. The highest one stays: no output reaches it, and no text of any file.
+fn next_place(at: usize) -> usize
+    ensures { λ r. ⌜ r ≡ nextPlace at ⌝ }
+{
+    if at < HIGHEST_PLACE {
+        return at + 1;
+    }
+    at
+}
+
+// A byte, where there is room for it; the place behind it is answered in either case.
 pub fn put(out: &mut [u8], at: usize, b: u8) -> usize
     ensures { λ r. ⌜ Wrote (b ∷ []) (now (out .entry)) at (now (out .exit)) r ⌝ }
 {
     if at < out.len() {
         out[at] = b;
-        return std::num::wrapping_add_usize(at, 1);
+        return next_place(at);
     }
-    std::num::wrapping_add_usize(at, 1)
+    next_place(at)
 }
 
 pub fn word(out: &mut [u8], at: usize, w: &[u8]) -> usize

@@ -460,7 +460,7 @@ fn two_do_not_build_at_once() {
     assert_eq!(calls, one.repeat(2), "one began before the other ended");
 }
 
-/// What the toolchain itself proves goes by, and nothing where all is proved.
+/// What the toolchain itself proves goes by, and nothing where all is proved, but for that it is another one than tools/kit names.
 #[test]
 fn the_names_of_what_is_proved_go_by() {
     let _alone = alone();
@@ -469,7 +469,11 @@ fn the_names_of_what_is_proved_go_by() {
         command.arg("lister");
         let done = ended(command);
         assert!(done.status.success(), "{}", text(&done.stderr));
-        text(&done.stderr)
+        let told = text(&done.stderr);
+        match told.split_once('\n') {
+            Some((first, rest)) if first.contains("; the toolchain here is ") => rest.to_string(),
+            _ => told,
+        }
     };
     build();
     assert_eq!(build(), "");

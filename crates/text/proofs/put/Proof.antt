@@ -7,28 +7,28 @@ use Rattle.text.proofs.put.Tie as tie
 slice-write-out : tie.Need-slice-write-out
 slice-write-out c = search needs
 
-wrapping-add-usize-requires : tie.Need-wrapping-add-usize-requires
-wrapping-add-usize-requires c κs = search needs
+next-place-requires : tie.Need-next-place-requires
+next-place-requires c κs = search needs
 
 same-length : tie.Need-same-length
 same-length c = search needs
 
 returns : tie.Need-returns
-returns c = one _ _ _ _ (c .wrapping-add-usize .ensures)
+returns c = one _ _ _ _ (c .next-place .ensures)
 
-wrapping-add-usize-requires-2 : tie.Need-wrapping-add-usize-requires-2
-wrapping-add-usize-requires-2 c κs = search needs
+next-place-requires-2 : tie.Need-next-place-requires-2
+next-place-requires-2 c κs = search needs
 
 returns-2 : tie.Need-returns-2
-returns-2 c = no-room _ _ _ _ (c .wrapping-add-usize2 .ensures) (c .before .if1 .left)
+returns-2 c = no-room _ _ _ _ (c .next-place2 .ensures) (c .before .if1 .left)
 
 pub put-spec : {M : Type 1} → statement M
 put-spec =
     tie.close
     (tie.spec
     slice-write-out
-    wrapping-add-usize-requires
+    next-place-requires
     same-length
     returns
-    wrapping-add-usize-requires-2
+    next-place-requires-2
     returns-2)
