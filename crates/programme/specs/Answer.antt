@@ -25,7 +25,7 @@ itemNumbers i =
     ∷ i .descriptors .count ∷ i .descriptors .place ∷ i .descriptors .length
     ∷ i .next ∷ []
 
--- what a step found comes first: 1, an item, or 2, that all items are behind
+-- what a step found comes first: 1, an item, or 2, that the section has no item of that number
 abbrev pub stepTold : Step → Told
 stepTold (Step.Item i) = told 0 (1 ∷ itemNumbers i)
 stepTold Step.Over = told 0 (2 ∷ [])

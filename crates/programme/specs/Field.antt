@@ -16,11 +16,11 @@ number s at (suc n) = number s at n * 256 + byte s (at + n)
 unfoldable pub numberIn : ℕ → List ℕ → ℕ
 numberIn n field = if ltb (length field) n then 0 else number field 0 n
 
--- what is there only where its flag is 1: a field's bytes, and its value; else none, and 0
+-- a number where a flag is 1, else 0: how many bytes a field has that the flag includes, and its value
 abbrev pub only : Bool → ℕ → ℕ
 only true n = n
 only false n = 0
 
--- a field of so many bits at the end of n bytes; the bits above it are reserved, and disregarded
+-- a field of so many bits at the end of n bytes; bits above it, where there are any, are reserved, and disregarded
 abbrev pub low : List ℕ → ℕ → ℕ → ℕ → ℕ
 low s at n bits = number s at n % 2 ^ bits

@@ -74,7 +74,7 @@ pub struct Item {
 
 pub enum Step {
     Item(Item),
-    // All items are behind.
+    // The section has no item of that number.
     Over,
     Refused(u8),
 }

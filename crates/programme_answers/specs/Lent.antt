@@ -75,19 +75,19 @@ module _ (s fields : List ℕ) where
   abbrev pub Read-Untouched : Type 0
   Read-Untouched = ¬ (readLent s fields .code ≡ 0) → readLent s fields .out ≡ fields
 
-  -- any number but 0 and 15 is the code exactly when the fields are refused by it
+  -- any number but 0 and 15 is the code exactly when the fields before the items are refused by it
   abbrev pub Read-Refused : Type 0
   Read-Refused = (n : ℕ) → ¬ (n ≡ 0) → ¬ (n ≡ 15) → (readLent s fields .code ≡ n) ↔ (readOf s ≡ Reading.Refused n)
 
-  -- it is accepted exactly when the fields are read and the buffer has room
+  -- it is accepted exactly when these are read and the buffer has room for them
   abbrev pub Read-Accepted : Type 0
   Read-Accepted = (readLent s fields .code ≡ 0) ↔ (((p : Programme) × (readOf s ≡ Reading.Programme p)) × (4 ≤ length fields))
 
-  -- 15 exactly when they are read and the buffer has less
+  -- 15 exactly when these are read and the buffer has less
   abbrev pub Read-15 : Type 0
   Read-15 = (readLent s fields .code ≡ 15) ↔ (((p : Programme) × (readOf s ≡ Reading.Programme p)) × (length fields < 4))
 
-  -- and where it is accepted they come back out of the buffer
+  -- and where it is accepted these come back out of the buffer
   abbrev pub Read-Comes-Back : Type 0
   Read-Comes-Back = readLent s fields .code ≡ 0 → readOf s ≡ Reading.Programme (programmeBack (readLent s fields .out))
 

@@ -49,7 +49,7 @@ fn passed_code(p: Passed) -> u64
 }
 
 // The items from a place of the payload on, the one there taken for item `number` of its list, as many as there is room for: their
-// numbers at the front of the buffer, how many they are and the place after the last; that all items are behind; or the refusal.
+// numbers at the front of the buffer, how many they are and the place after the last; that it has no item of that number; or the refusal.
 pub fn programme_items(payload: &[u8], at: usize, number: u8, fields: &mut [u64]) -> u64
     ensures { λ r. ⌜ outOf r (now (fields .exit)) ≡ itemsLent (now (payload .entry)) at number (now (fields .entry)) ⌝ }
 {

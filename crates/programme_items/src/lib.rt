@@ -308,7 +308,7 @@ fn item_of(numbers: &[u64]) -> Item
     }
 }
 
-// What stands at a place of the payload, taken for item `number` of its list: the item, that all items are behind, or the refusal.
+// What stands at a place of the payload, taken for item `number` of its list: the item, that it has no item of that number, or the refusal.
 // Any place and any number may be asked.
 pub fn item_at(payload: &[u8], at: usize, number: u8) -> Step
     ensures { λ r. ⌜ r ≡ stepOf (now (payload .entry)) at number ⌝ }
@@ -330,7 +330,7 @@ pub fn item_at(payload: &[u8], at: usize, number: u8) -> Step
 }
 
 // The items from a place on, the one there taken for item `number` of the list, as many as the numbers have room for: how many they are
-// and the place after the last, that all items are behind, or the refusal. Any place and any number may be asked.
+// and the place after the last, that it has no item of that number, or the refusal. Any place and any number may be asked.
 pub fn items_at(payload: &[u8], at: usize, number: u8, fields: &mut [u64]) -> Walk
     ensures { λ r. ⌜ walked r (now (fields .exit)) ≡ walkOf (now (payload .entry)) at number (now (fields .entry)) ⌝ }
 {

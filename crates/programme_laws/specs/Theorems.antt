@@ -50,7 +50,7 @@ module _ (s : List ℕ) where
   abbrev pub Read-45 : Type 0
   Read-45 = (readOf s ≡ Reading.Refused 45) ↔ SoundWith (λ id. ¬ (id ≡ 0xDF))
 
-  -- 43 exactly when it is a sound section of an NRT-IT, and ends inside the fields before the items
+  -- 43 exactly when it is a sound section of an NRT-IT that ends before place 17, where the fields before the items end
   abbrev pub Read-43 : Type 0
   Read-43 = (readOf s ≡ Reading.Refused 43) ↔ (OfNrtIt × (length s < 17))
 
@@ -62,7 +62,7 @@ module _ (s : List ℕ) where
   abbrev pub Read-Range : Type 0
   Read-Range = (n : ℕ) → readOf s ≡ Reading.Refused n → ((1 ≤ n) × (n ≤ 8)) ⊎ ((n ≡ 43) ⊎ (n ≡ 45))
 
-  -- one of n counted descriptors from a place passes the end: behind some of them, whose run ends at a place, stands one that does
+  -- one of n counted descriptors from a place passes the end: the first `before` of them end at the place `at`, and the next one passes it
   pub record LoopPasses (n from : ℕ) : Type 0 where
     pub before : ℕ
     pub fewer : before < n
@@ -129,7 +129,7 @@ module _ (s : List ℕ) where
           → stepOf s at k ≡ Step.Item i
           → Counted (i .descriptors .count) (loops.walkOf (part s (i .descriptors .place) (i .descriptors .length)))
 
-      -- two answers that keep the promise of `programme::item_at` are equal
+      -- two answers that keep the promise of `programme_items::item_at` are equal
       abbrev pub One-Step : Type 0
       One-Step = (x y : Step) → x ≡ stepOf s at k → y ≡ stepOf s at k → x ≡ y
 
@@ -137,7 +137,7 @@ module _ (s : List ℕ) where
     abbrev pub Own-First : Type 0
     Own-First = (n : ℕ) → readOf s ≡ Reading.Refused n → ownOf s at ≡ Own.Refused n
 
-    -- 43 exactly when it passes the end
+    -- 43 exactly when no loop can begin there, or it passes the end
     abbrev pub Own-43 : Type 0
     Own-43 = Begun → (ownOf s at ≡ Own.Refused 43) ↔ OwnPasses
 
@@ -172,11 +172,12 @@ module _ (s : List ℕ) where
   abbrev pub Items-Tile : Type 0
   Items-Tile = tiles s 17 (walkOf s) ++ drop (reached 17 (walkOf s)) s ≡ drop 17 s
 
-  -- more steps answer no more: a walk ends with its last item, or at a refusal
+  -- more steps answer no more: a walk is over behind its last item, or ends at a refusal
   abbrev pub Settled : Type 0
   Settled = (j : ℕ) → walk (j + (numContentItems s + 1)) s 17 0 ≡ walkOf s
 
-  -- where nothing is refused, the fields before the items, the items, and the table's own loop with its count tile the body
+  -- where the own loop is read at the place that the walk came to, and so wherever nothing is refused, the fields before the items, the
+  -- items, and the own loop with its count tile the body
   abbrev pub Tiling : Type 0
   Tiling =
       (l : Loop)
@@ -199,8 +200,8 @@ module _ (s : List ℕ) where
 abbrev pub One-List : Type 0
 One-List = (b c : Body) → FitBody b → FitBody c → bodyOf b ≡ bodyOf c → b ≡ c
 
--- the items before a bad one stay readable: an item is read so wherever its bytes stand at its place, whatever stands before and behind
--- them, and whichever number it is asked by
+-- the items before a bad one stay readable: an item is read the same wherever its bytes stand at its place, whatever stands before and
+-- behind them, by any number that the other section has an item of
 abbrev pub Stays : List ℕ → List ℕ → Type 0
 Stays s t =
     Octets s → Begun s → Begun t

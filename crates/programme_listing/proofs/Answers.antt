@@ -1,5 +1,5 @@
 -- A host loses nothing by the answer in one number (`specs/Theorems.antt` has the words).
---   one-list, list-comes-back, list-fills
+--   one-listing, list-comes-back, list-fills
 --   list-told        what listing promised, told in this number
 use mathlib.Core.Path.{_≡_, refl, sym, ap, _∙_}
 use mathlib.Core.List.{List, [], _∷_, _++_}
@@ -12,15 +12,15 @@ use Rattle.base.proofs.Cases.{by}
 use Rattle.answers.specs.Answers.{out, sizeOr}
 use Rattle.programme_listing.specs.Listing.{textOf, Listing, listing, listOf}
 use Rattle.programme_listing.specs.Answer.{longCode, listedCode, listOut, listLent}
-use Rattle.programme_listing.specs.Theorems.{Filled, One-List, List-Comes-Back, List-Fills}
+use Rattle.programme_listing.specs.Theorems.{Filled, One-Listing, List-Comes-Back, List-Fills}
 use Rattle.programme_listing.specs.declared.Listed.{Listed}
 
 pub long-back : {A : Type 0} (bytes refused : ℕ → A) (n : ℕ) → sizeOr bytes refused (longCode n) ≡ bytes n
 long-back bytes refused n = rw (eq-eqb (longCode n % 2 ^ 8) 0 (omega arith)) (ap bytes (omega arith))
 
 module _ (file old : List ℕ) where
-  pub one-list : One-List file old
-  one-list r q after after' e f = (ap (λ l. l .said) (e ∙ sym f), ap (λ l. l .out) (e ∙ sym f))
+  pub one-listing : One-Listing file old
+  one-listing r q after after' e f = (ap (λ l. l .said) (e ∙ sym f), ap (λ l. l .out) (e ∙ sym f))
 
   pub list-comes-back : List-Comes-Back file old
   unfolding listLent listOf

@@ -37,8 +37,8 @@ module _ (file : List ℕ) where
         → listOf file old ≡ listing (Listed.Bytes (length (textOf file))) (textOf file ++ drop (length (textOf file)) old)
 
     -- two answers that keep the promise are equal
-    abbrev pub One-List : Type 0
-    One-List =
+    abbrev pub One-Listing : Type 0
+    One-Listing =
         (r q : Listed) (after after' : List ℕ) → listing r after ≡ listOf file old → listing q after' ≡ listOf file old
         → (r ≡ q) × (after ≡ after')
 

@@ -28,7 +28,7 @@ module _ (n : ℕ) (s : List ℕ) where
   abbrev pub stepText : ℕ → ℕ → Step → (ℕ → List ℕ) → List ℕ
   stepText k at (Step.Item i) follow = itemText (part s (i .nameat) (i .named)) k i ++ follow (i .next)
   stepText k at (Step.Refused number) follow = refusedAt n number at
-  -- not while items are left
+  -- which cannot be while items are left
   stepText k at Step.Over follow = []
 
   -- so many items, from item k at a place on, and the table's own loop behind them

@@ -1,4 +1,5 @@
 pub mod Clean
 pub mod Ended
+pub mod Names
 pub mod Read
 pub mod Whole

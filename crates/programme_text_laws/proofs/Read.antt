@@ -1,5 +1,5 @@
 -- What it means that a section is read (`specs/Theorems.antt` has the words).
---   read-exactly
+--   section-read
 use mathlib.Core.Path.{_≡_, refl, sym, ap}
 use mathlib.Core.Bool.{true}
 use mathlib.Core.List.{List, _∷_}
@@ -19,7 +19,7 @@ use Rattle.programme.proofs.Items as items
 use Rattle.programme_laws.specs.Walk.{onward, walk, walkOf, reached, Accepted, Unrefused, answersTo}
 use Rattle.programme_laws.proofs.ExactlyWhen as when
 use Rattle.programme_section.specs.Section.{ownRead, stepRead, itemsRead, readRead, sectionRead}
-use Rattle.programme_text_laws.specs.Theorems.{Read-Exactly}
+use Rattle.programme_text_laws.specs.Theorems.{Section-Read}
 
 module _ (s : List ℕ) where
   -- no refusal's number is 0
@@ -72,9 +72,9 @@ module _ (s : List ℕ) where
             (λ f. absurd (unlike (sym f)), λ a. absurd (let l : 1 ≤ m = step-above at k m o in let z : m ≡ 0 = a .0 .0 in omega arith))
         go ih Step.Over o = absurd (not-over at k left q o)
 
-  pub read-exactly : Read-Exactly s
+  pub section-read : Section-Read s
   unfolding sectionRead
-  read-exactly = go (readOf s) refl
+  section-read = go (readOf s) refl
     where
       go : (r : Reading) → readOf s ≡ r → (readRead s r ≡ true) ↔ Unrefused (answersTo s)
       go (Reading.Refused n) e =

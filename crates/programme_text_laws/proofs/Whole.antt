@@ -20,7 +20,7 @@ use Rattle.programme_section.specs.Section.{sectionRead}
 use Rattle.programme_listing.specs.Listing.{endLine, payloadOf, sectionOf, wholeAt, listText, tableText, textOf}
 use Rattle.programme_text_laws.specs.Theorems.{LastLine, EachRead, ListFile, Whole-Exactly, Not-Whole-Exactly}
 use Rattle.programme_text_laws.proofs.Ended.{Line, before-last}
-use Rattle.programme_text_laws.proofs.Read.{read-exactly}
+use Rattle.programme_text_laws.proofs.Read.{section-read}
 
 -- no text has both for its last line: 7 bytes from the end stands a newline in the one, and a space in the other
 apart : {t : List ℕ} → LastLine wholeLine t → LastLine notWholeLine t → ⊥
@@ -64,14 +64,14 @@ module _ (file : List ℕ) (h : Header) (list : ListFile file h) where
   each t n l =
       let both = every-each (wholeAt file starts lengths) (h .last + 1) n (omega arith) t in
       let read = and-right (foundAt lengths n) (sectionRead (payloadOf file starts lengths n)) both in
-      (and-left (foundAt lengths n) (sectionRead (payloadOf file starts lengths n)) both, read-exactly (payloadOf file starts lengths n) .0 read)
+      (and-left (foundAt lengths n) (sectionRead (payloadOf file starts lengths n)) both, section-read (payloadOf file starts lengths n) .0 read)
 
   all : EachRead file (h .last) → whole ≡ true
   unfolding wholeAt
   all e = every-all (wholeAt file starts lengths) (h .last + 1) go
     where
       go : (n : ℕ) → n < h .last + 1 → wholeAt file starts lengths n ≡ true
-      go n l = let both = e n (omega arith) in rw (both .0) (read-exactly (payloadOf file starts lengths n) .1 (both .1))
+      go n l = let both = e n (omega arith) in rw (both .0) (section-read (payloadOf file starts lengths n) .1 (both .1))
 
   pub says-whole : whole ≡ true → LastLine wholeLine (textOf file)
   says-whole t = rw t at last-line

@@ -9,6 +9,7 @@ use Rattle.section.specs.declared.Header.{Header}
 use Rattle.file.specs.Scan.{scanOf, foundAt}
 use Rattle.file.specs.declared.Scan.{Scan}
 use Rattle.text.specs.Clean.{Clean}
+use Rattle.text.specs.Words.{escaped}
 use Rattle.programme_laws.specs.Walk.{answersTo, Unrefused}
 use Rattle.programme_lines.specs.Lines.{wholeLine, notWholeLine}
 use Rattle.programme_section.specs.Section.{sectionRead}
@@ -18,9 +19,13 @@ use Rattle.programme_listing.specs.Listing.{payloadOf, textOf}
 abbrev pub LastLine : List ℕ → List ℕ → Type 0
 LastLine line t = (u : List ℕ) × (t ≡ u ++ (10 ∷ line))
 
+-- the bytes of a name can be told back: no two names are shown alike
+abbrev pub Name-Told : Type 0
+Name-Told = (a b : List ℕ) → Octets a → Octets b → escaped a ≡ escaped b → a ≡ b
+
 -- the text calls a payload read exactly when nothing that a host is answered about it is refused: its fields, its steps and its own loop
-abbrev pub Read-Exactly : List ℕ → Type 0
-Read-Exactly s = (sectionRead s ≡ true) ↔ Unrefused (answersTo s)
+abbrev pub Section-Read : List ℕ → Type 0
+Section-Read s = (sectionRead s ≡ true) ↔ Unrefused (answersTo s)
 
 module _ (file : List ℕ) where
   -- no byte of the text of a file of bytes can disturb a terminal
