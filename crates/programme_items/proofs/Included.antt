@@ -2,7 +2,7 @@
 --   stops, finishes      a field passes the end, or none does
 --   whole, nothing       how many bytes a field has
 --   there, missing       the place behind a field that a flag includes, or not
---   none-included        where none of the four flags is 1
+--   none-included, all-included   where none of the four flags is 1, and where all are
 use mathlib.Core.Path.{_≡_, ap}
 use mathlib.Core.List.{List, [], _∷_}
 use Prim.Native.Nat.{ℕ, _+_, _/_, _%_, _<_, _≤_}
@@ -58,6 +58,15 @@ none f e =
 
 pub none-included : (f : ℕ) → f / 4 % 16 ≡ 0 → included f ≡ 0
 none-included f e = let n = none f e in rw (n .length, n .delay, n .expires, n .size)
+
+pub all-included : (f : ℕ) → f / 4 % 16 ≡ 15 → included f ≡ 15
+all-included f e =
+    rw (
+      eq-eqb (f / 32 % 2) 1 (omega arith),
+      eq-eqb (f / 16 % 2) 1 (omega arith),
+      eq-eqb (f / 8 % 2) 1 (omega arith),
+      eq-eqb (f / 4 % 2) 1 (omega arith),
+    )
 
 pub no-numbers : (s : List ℕ) (at f : ℕ) → f / 4 % 16 ≡ 0 → includedNumbers s at f ≡ 0 ∷ 0 ∷ 0 ∷ 0 ∷ []
 no-numbers s at f e = let n = none f e in rw (n .length, n .delay, n .expires, n .size)

@@ -32,6 +32,9 @@ const EXPIRATION: u16 = 8;
 
 const CONTENT_SIZE: u16 = 4;
 
+// The bytes of all four fields.
+const ALL_FOUR: usize = 15;
+
 // How many numbers tell an item.
 pub const NUMBERS: usize = 10;
 
@@ -85,15 +88,11 @@ fn least(a: usize, b: usize) -> usize
     a
 }
 
-// Where fields end that flags include, from a place on, or that one of them passes the end.
-fn past_included(size: usize, from: usize, flags: u16) -> Run
+// Where fields end that flags include, from a place on, or that one of them passes the end: field by field.
+fn past_each(size: usize, from: usize, flags: u16) -> Run
     requires { ⌜ (from ≤ size) × (size ≤ 65535) ⌝ }
     ensures { λ r. ⌜ r ≡ upTo size (from + included flags) ⌝ }
 {
-    // The quick way where none of the four is there.
-    if flags / CONTENT_SIZE % 16 == 0 {
-        return Run::Ends(from);
-    }
     let mut at = from;
     if flags / PLAYBACK_LENGTH % 2 == 1 {
         at += 3;
@@ -120,6 +119,25 @@ fn past_included(size: usize, from: usize, flags: u16) -> Run
         }
     }
     Run::Ends(at)
+}
+
+// The same, with a quick way where none of the four is there and where all are.
+fn past_included(size: usize, from: usize, flags: u16) -> Run
+    requires { ⌜ (from ≤ size) × (size ≤ 65535) ⌝ }
+    ensures { λ r. ⌜ r ≡ upTo size (from + included flags) ⌝ }
+{
+    let there = flags / CONTENT_SIZE % 16;
+    if there == 0 {
+        return Run::Ends(from);
+    }
+    if there == 15 {
+        let end = from + ALL_FOUR;
+        if size < end {
+            return Run::Past;
+        }
+        return Run::Ends(end);
+    }
+    past_each(size, from, flags)
 }
 
 // Where the parts of the item at a place lie, or that one of them passes the end.

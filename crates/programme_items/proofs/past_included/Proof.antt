@@ -1,8 +1,6 @@
--- `programme_items::past_included` meets its contract: where two ways meet, the place is the one behind the field, there or not.
+-- `programme_items::past_included` meets its contract by each of its three ways.
 use native.Mathlib.Omega.{arith}
-use mathlib.Core.Logic.{⊎-elim}
-use Prim.Native.Nat.{_/_, _%_}
-use Rattle.programme_items.proofs.Included.{stops, finishes, whole, nothing, Behind, there, missing, none-included}
+use Rattle.programme_items.proofs.Included.{stops, finishes, none-included, all-included}
 use borrow.Author.Needs.{needs}
 use Rattle.programme_items.proofs.past_included.Statement.{statement}
 use Rattle.programme_items.proofs.past_included.Tie as tie
@@ -13,83 +11,27 @@ returns c =
     let n = none-included (a .flags) (c .if1 .taken) in
     finishes (a .size) (a .from) (a .flags) _ (omega (arith, n)) (c .before .pre .0)
 
-add-at : tie.Need-add-at
-add-at c = search needs
+add-end : tie.Need-add-end
+add-end c = search needs
 
 returns-2 : tie.Need-returns-2
 returns-2 c =
     let a = c .before .before .before .args in
-    let h = whole 3 (c .before .if2 .taken) in stops (a .size) (a .from) (a .flags) (omega (arith, h, c .if3 .taken))
-
-one : (c : tie.Joined2) → Behind (c .before .before .args .flags / 32 % 2) (c .before .before .args .from) 3 (c .before .before .args .size) (c .if2 .at)
-one c = ⊎-elim (λ w. there (w .0 .taken) (w .2) (w .1 .left)) (λ w. missing (w .0 .left) (w .1) (c .before .before .pre .0)) (c .if2 .came)
-
-add-at-2 : tie.Need-add-at-2
-add-at-2 c = let h = one (c .before .before) in record { fits = omega (arith, h .within, c .before .before .before .before .pre .1) }
+    let n = all-included (a .flags) (c .before .if2 .taken) in
+    stops (a .size) (a .from) (a .flags) (omega (arith, n, c .if3 .taken))
 
 returns-3 : tie.Need-returns-3
 returns-3 c =
-    let a = c .before .before .before .before .before .args in
-    let o = one (c .before .before .before) in
-    let h = whole 3 (c .before .before .if4 .taken) in stops (a .size) (a .from) (a .flags) (omega (arith, o .is, h, c .if5 .taken))
+    let a = c .before .before .before .args in
+    let n = all-included (a .flags) (c .before .if2 .taken) in
+    finishes (a .size) (a .from) (a .flags) _ (omega (arith, n)) (c .if3 .left)
 
-two : (c : tie.Joined4) → Behind (c .before .before .before .args .flags / 16 % 2) (c .before .if2 .at) 3 (c .before .before .before .args .size) (c .if4 .at)
-two c = ⊎-elim (λ w. there (w .0 .taken) (w .3) (w .2 .left)) (λ w. missing (w .0 .left) (w .1) (one (c .before) .within)) (c .if4 .came)
-
-add-at-3 : tie.Need-add-at-3
-add-at-3 c = let h = two (c .before .before) in record { fits = omega (arith, h .within, c .before .before .before .before .before .pre .1) }
+past-each-requires : tie.Need-past-each-requires
+past-each-requires c κs = search needs
 
 returns-4 : tie.Need-returns-4
-returns-4 c =
-    let a = c .before .before .before .before .before .before .args in
-    let o = one (c .before .before .before .before) in
-    let t = two (c .before .before .before) in
-    let h = whole 4 (c .before .before .if6 .taken) in stops (a .size) (a .from) (a .flags) (omega (arith, o .is, t .is, h, c .if7 .taken))
-
-three : (c : tie.Joined6) → Behind (c .before .before .before .before .args .flags / 8 % 2) (c .before .if4 .at) 4 (c .before .before .before .before .args .size) (c .if6 .at)
-three c = ⊎-elim (λ w. there (w .0 .taken) (w .3) (w .2 .left)) (λ w. missing (w .0 .left) (w .1) (two (c .before) .within)) (c .if6 .came)
-
-add-at-4 : tie.Need-add-at-4
-add-at-4 c = let h = three (c .before .before) in record { fits = omega (arith, h .within, c .before .before .before .before .before .before .pre .1) }
-
-returns-5 : tie.Need-returns-5
-returns-5 c =
-    let a = c .before .before .before .before .before .before .before .args in
-    let o = one (c .before .before .before .before .before) in
-    let t = two (c .before .before .before .before) in
-    let u = three (c .before .before .before) in
-    let h = whole 5 (c .before .before .if8 .taken) in stops (a .size) (a .from) (a .flags) (omega (arith, o .is, t .is, u .is, h, c .if9 .taken))
-
-returns-6 : tie.Need-returns-6
-returns-6 c =
-    let a = c .before .before .before .before .before .before .before .args in
-    let o = one (c .before .before .before .before .before) in
-    let t = two (c .before .before .before .before) in
-    let u = three (c .before .before .before) in
-    let h = whole 5 (c .before .before .if8 .taken) in
-    finishes (a .size) (a .from) (a .flags) _ (omega (arith, o .is, t .is, u .is, h)) (c .if9 .left)
-
-returns-7 : tie.Need-returns-7
-returns-7 c =
-    let a = c .before .before .before .before .before .args in
-    let o = one (c .before .before .before) in
-    let t = two (c .before .before) in
-    let u = three (c .before) in
-    let h = nothing 5 (c .if8 .left) in
-    finishes (a .size) (a .from) (a .flags) _ (omega (arith, o .is, t .is, u .is, h)) (u .within)
+returns-4 c = search needs
 
 pub past-included-spec : {M : Type 1} → statement M
 past-included-spec =
-    tie.close
-    (tie.spec
-    returns
-    add-at
-    returns-2
-    add-at-2
-    returns-3
-    add-at-3
-    returns-4
-    add-at-4
-    returns-5
-    returns-6
-    returns-7)
+    tie.close (tie.spec returns add-end returns-2 returns-3 past-each-requires returns-4)
