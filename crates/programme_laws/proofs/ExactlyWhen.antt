@@ -1,6 +1,6 @@
 -- When each answer about a section is given (`specs/Theorems.antt` has the words).
 --   read-own, read-45, read-43, read-exactly, read-range
---   step-first, step-over, step-43, step-exactly, step-range
+--   step-first, step-43, step-over, step-exactly, step-range
 --   own-first, own-43, own-44, own-exactly, own-range
 use mathlib.Core.Path.{_≡_, refl, sym, ap, _∙_}
 use mathlib.Core.List.{List}
@@ -11,7 +11,7 @@ use lib.Dec.{ltb, leb, eqb}
 use lib.ListN.{length}
 use borrow.Author.Tests.{ltb-true, ltb-false, leb-true, leb-false, eqb-true, eqb-false}
 use Rattle.base.specs.Bytes.{byte}
-use Rattle.base.proofs.Cases.{by}
+use Rattle.base.proofs.Cases.{by, same-or}
 use Rattle.section.specs.Section as section
 use Rattle.section.specs.declared.Reading as sections
 use Rattle.section.proofs.ExactlyWhen as sectionwhen
@@ -28,7 +28,7 @@ use Rattle.programme.proofs.Readings as readings
 use Rattle.programme.proofs.Runs.{run-lies}
 use Rattle.programme.proofs.Items as items
 use Rattle.programme.proofs.Items.{itemTo}
-use Rattle.programme_laws.specs.Theorems.{SoundWith, OfNrtIt, Begun, Read-Own, Read-45, Read-43, Read-Exactly, Read-Range, ItemPasses, OwnPasses}
+use Rattle.programme_laws.specs.Theorems.{SoundWith, OfNrtIt, Begun, Read-Own, Read-45, Read-43, Read-Exactly, Read-Range, ItemPasses, OwnPasses, OwnLeaves}
 use Rattle.programme_laws.specs.Theorems.{Step-First, Step-Over, Step-43, Step-Exactly, Step-Range, Own-First, Own-43, Own-44, Own-Exactly, Own-Range}
 use Rattle.programme_laws.proofs.Passing.{past-found, found-past}
 
@@ -147,94 +147,96 @@ item-way s at =
         let y : _≡_ {A = ℕ} 0 1 = cc in omega arith) p) p)
         (sym (items.item-reads s at late fits end q) ∙ ap Step.Item (let to : itemTo s at end ≡ itemOf s at = rw q in to))
 
+step-numbers : {a b : ℕ} → Step.Refused a ≡ Step.Refused b → a ≡ b
+step-numbers x = cc
+
+-- which of its ways out a step took
+data StepWay (s : List ℕ) (at k : ℕ) : Type 0 where
+  first : (n : ℕ) → readOf s ≡ Reading.Refused n → stepOf s at k ≡ Step.Refused n → StepWay s at k
+  over : Begun s → programmeOf s .items ≤ k → stepOf s at k ≡ Step.Over → StepWay s at k
+  passes : Begun s → k < programmeOf s .items → ItemPasses s at → stepOf s at k ≡ Step.Refused 43 → StepWay s at k
+  reads : Begun s → k < programmeOf s .items → (¬ ItemPasses s at) → stepOf s at k ≡ Step.Item (itemOf s at) → StepWay s at k
+
 module _ (s : List ℕ) (at k : ℕ) where
-  pub step-first : Step-First s at k
-  step-first n e = sym (items.step-refused s at k n e)
+  step-refused : (n : ℕ) → readOf s ≡ Reading.Refused n → stepOf s at k ≡ Step.Refused n
+  step-refused n e = sym (items.step-refused s at k n e)
 
   module _ (w : Begun s) where
-    over : programmeOf s .items ≤ k → stepOf s at k ≡ Step.Over
-    over l = sym (items.step-over s at k (programmeOf s) (begun-reads s w) l)
+    behind : programmeOf s .items ≤ k → stepOf s at k ≡ Step.Over
+    behind l = sym (items.step-over s at k (programmeOf s) (begun-reads s w) l)
 
     there : k < programmeOf s .items → stepOf s at k ≡ itemAt s at
     there l = sym (items.step-item s at k (programmeOf s) (begun-reads s w) l)
 
-  pub step-over : Step-Over s at k
-  step-over w = (
-    λ e. by (leb (programmeOf s .items) k) (λ t. leb-true _ _ t)
-        λ f.
-        let l : k < programmeOf s .items = leb-false _ _ f in
-        go (item-way s at) (sym (there w l) ∙ e),
-    over w,
-  )
+  step-way : StepWay s at k
+  step-way = go (way s)
     where
-      go : ItemWay s at → itemAt s at ≡ Step.Over → programmeOf s .items ≤ k
-      go (ItemWay.passes p q) e = step-no (sym e ∙ q)
-      go (ItemWay.reads p q) e = step-apart (sym e ∙ q)
+      item : Begun s → k < programmeOf s .items → ItemWay s at → StepWay s at k
+      item w l (ItemWay.passes p q) = StepWay.passes w l p (there w l ∙ q)
+      item w l (ItemWay.reads p q) = StepWay.reads w l p (there w l ∙ q)
+
+      begun : Begun s → StepWay s at k
+      begun w =
+          by (leb (programmeOf s .items) k)
+          (λ t. let l : programmeOf s .items ≤ k = leb-true _ _ t in StepWay.over w l (behind w l))
+          λ f. item w (leb-false _ _ f) (item-way s at)
+
+      go : Way s → StepWay s at k
+      go (Way.own n q r) = StepWay.first n r (step-refused n r)
+      go (Way.other o r) = StepWay.first 45 r (step-refused 45 r)
+      go (Way.short o x r) = StepWay.first 43 r (step-refused 43 r)
+      go (Way.whole o x r) = begun (o, x)
+
+  pub step-first : Step-First s at k
+  step-first n d = (go step-way, step-refused n)
+    where
+      go : StepWay s at k → stepOf s at k ≡ Step.Refused n → readOf s ≡ Reading.Refused n
+      go (StepWay.first m r e) x = r ∙ ap Reading.Refused (step-numbers (sym e ∙ x))
+      go (StepWay.over w l e) x = step-no (sym e ∙ x)
+      go (StepWay.passes w l p e) x = absurd (d (step-numbers (sym x ∙ e)))
+      go (StepWay.reads w l p e) x = item-no (sym x ∙ e)
 
   pub step-43 : Step-43 s at k
-  step-43 w = (
-    λ e. by (leb (programmeOf s .items) k)
-        (λ t. step-no (sym (over w (leb-true _ _ t)) ∙ e))
-        λ f.
-        let l : k < programmeOf s .items = leb-false _ _ f in
-        (l, go (item-way s at) (sym (there w l) ∙ e)),
-    λ h. there w (h .0) ∙ back (h .1) (item-way s at),
-  )
+  step-43 = (go step-way, ⊎-elim (λ h. step-refused 43 (read-43 s .1 h)) (λ h. there (h .0) (h .1) ∙ back (h .2) (item-way s at)))
     where
-      go : ItemWay s at → itemAt s at ≡ Step.Refused 43 → ItemPasses s at
-      go (ItemWay.passes p q) e = p
-      go (ItemWay.reads p q) e = item-no (sym e ∙ q)
+      go : StepWay s at k → stepOf s at k ≡ Step.Refused 43 → (OfNrtIt s × (length s < 17)) ⊎ (Begun s × (k < programmeOf s .items) × ItemPasses s at)
+      go (StepWay.first m r e) x = inl (read-43 s .0 (r ∙ ap Reading.Refused (step-numbers (sym e ∙ x))))
+      go (StepWay.over w l e) x = step-no (sym e ∙ x)
+      go (StepWay.passes w l p e) x = inr (w, l, p)
+      go (StepWay.reads w l p e) x = item-no (sym x ∙ e)
 
       back : ItemPasses s at → ItemWay s at → itemAt s at ≡ Step.Refused 43
       back h (ItemWay.passes p q) = q
       back h (ItemWay.reads p q) = absurd (p h)
 
+  pub step-over : Step-Over s at k
+  step-over = (go step-way, λ h. behind (h .0) (h .1))
+    where
+      go : StepWay s at k → stepOf s at k ≡ Step.Over → Begun s × (programmeOf s .items ≤ k)
+      go (StepWay.first m r e) x = step-no (sym x ∙ e)
+      go (StepWay.over w l e) x = (w, l)
+      go (StepWay.passes w l p e) x = step-no (sym x ∙ e)
+      go (StepWay.reads w l p e) x = step-apart (sym x ∙ e)
+
   pub step-exactly : Step-Exactly s at k
-  step-exactly w i = (
-    λ e. by (leb (programmeOf s .items) k)
-        (λ t. step-apart (sym (over w (leb-true _ _ t)) ∙ e))
-        λ f.
-        let l : k < programmeOf s .items = leb-false _ _ f in
-        let x = go (item-way s at) (sym (there w l) ∙ e) in
-        (l, x .0, x .1),
-    λ h. there w (h .0) ∙ back (h .1) (item-way s at) ∙ ap Step.Item (sym (h .2)),
-  )
+  step-exactly i = (go step-way, λ h. there (h .0) (h .1) ∙ back (h .2) (item-way s at) ∙ ap Step.Item (sym (h .3)))
     where
       same : {a b : Item} → Step.Item a ≡ Step.Item b → a ≡ b
       same e = cc
 
-      go : ItemWay s at → itemAt s at ≡ Step.Item i → (¬ ItemPasses s at) × (i ≡ itemOf s at)
-      go (ItemWay.passes p q) e = item-no (sym q ∙ e)
-      go (ItemWay.reads p q) e = (p, same (sym e ∙ q))
+      go : StepWay s at k → stepOf s at k ≡ Step.Item i → Begun s × (k < programmeOf s .items) × (¬ ItemPasses s at) × (i ≡ itemOf s at)
+      go (StepWay.first m r e) x = item-no (sym e ∙ x)
+      go (StepWay.over w l e) x = step-apart (sym e ∙ x)
+      go (StepWay.passes w l p e) x = item-no (sym e ∙ x)
+      go (StepWay.reads w l p e) x = (w, l, p, same (sym x ∙ e))
 
       back : (¬ ItemPasses s at) → ItemWay s at → itemAt s at ≡ Step.Item (itemOf s at)
       back h (ItemWay.passes p q) = absurd (h p)
       back h (ItemWay.reads p q) = q
 
   pub step-range : Step-Range s at k
-  step-range n e = go (way s)
-    where
-      numbers : {a b : ℕ} → Step.Refused a ≡ Step.Refused b → a ≡ b
-      numbers x = cc
-
-      at-item : ItemWay s at → itemAt s at ≡ Step.Refused n → n ≡ 43
-      at-item (ItemWay.passes p q) x = numbers (sym x ∙ q)
-      at-item (ItemWay.reads p q) x = item-no (sym x ∙ q)
-
-      begun : Begun s → ((1 ≤ n) × (n ≤ 8)) ⊎ ((n ≡ 43) ⊎ (n ≡ 45))
-      begun w =
-          by (leb (programmeOf s .items) k)
-          (λ t. step-no (sym (over w (leb-true _ _ t)) ∙ e))
-          λ f. inr (inl (at-item (item-way s at) (sym (there w (leb-false _ _ f)) ∙ e)))
-
-      first : (m : ℕ) → readOf s ≡ Reading.Refused m → readOf s ≡ Reading.Refused n
-      first m r = r ∙ ap Reading.Refused (numbers (items.step-refused s at k m r ∙ e))
-
-      go : Way s → ((1 ≤ n) × (n ≤ 8)) ⊎ ((n ≡ 43) ⊎ (n ≡ 45))
-      go (Way.own m q r) = read-range s n (first m r)
-      go (Way.other o r) = read-range s n (first 45 r)
-      go (Way.short o x r) = read-range s n (first 43 r)
-      go (Way.whole o x r) = begun (o, x)
+  step-range n e =
+      ⊎-elim (λ (z : n ≡ 43). inr (inl z)) (λ (d : ¬ (n ≡ 43)). read-range s n (step-first n d .0 e)) (same-or n 43)
 
 own-no : {P : Type 0} {n : ℕ} {l : Loop} → Own.Refused n ≡ Own.Loop l → P
 own-no e = absurd (let z : _≡_ {A = ℕ} 0 1 = cc in omega arith)
@@ -278,77 +280,108 @@ own-way s at =
         OwnWay.reads not (q ∙ ap Run.Ends same) (sym (items.own-reads s at late fits end q high) ∙ rw same)
 
 module _ (s : List ℕ) (at : ℕ) where
-  pub own-first : Own-First s at
-  own-first n e = sym (items.own-refused s at n e)
+  own-refused : (n : ℕ) → readOf s ≡ Reading.Refused n → ownOf s at ≡ Own.Refused n
+  own-refused n e = sym (items.own-refused s at n e)
 
   is-there : Begun s → ownOf s at ≡ ownAt s at
   is-there w = sym (items.own-there s at (programmeOf s) (begun-reads s w))
 
-  pub own-43 : Own-43 s at
-  own-43 w = (λ e. go (own-way s at) (sym (is-there w) ∙ e), λ h. is-there w ∙ back h (own-way s at))
+  -- the fields before the items are refused, or they are held
+  data Either : Type 0 where
+    first : (n : ℕ) → readOf s ≡ Reading.Refused n → ownOf s at ≡ Own.Refused n → Either
+    held : Begun s → Either
+
+  either : Either
+  either = go (way s)
     where
-      go : OwnWay s at → ownAt s at ≡ Own.Refused 43 → OwnPasses s at
-      go (OwnWay.passes p q) e = p
-      go (OwnWay.left p end r l q) e = absurd (let z : _≡_ {A = ℕ} 44 43 = own-numbers (sym q ∙ e) in omega arith)
-      go (OwnWay.reads p r q) e = own-no (sym e ∙ q)
+      go : Way s → Either
+      go (Way.own n q r) = Either.first n r (own-refused n r)
+      go (Way.other o r) = Either.first 45 r (own-refused 45 r)
+      go (Way.short o x r) = Either.first 43 r (own-refused 43 r)
+      go (Way.whole o x r) = Either.held (o, x)
+
+  pub own-first : Own-First s at
+  own-first n d c = (go either, own-refused n)
+    where
+      here : OwnWay s at → ownAt s at ≡ Own.Refused n → readOf s ≡ Reading.Refused n
+      here (OwnWay.passes p q) x = absurd (d (own-numbers (sym x ∙ q)))
+      here (OwnWay.left p end r l q) x = absurd (c (own-numbers (sym x ∙ q)))
+      here (OwnWay.reads p r q) x = own-no (sym x ∙ q)
+
+      go : Either → ownOf s at ≡ Own.Refused n → readOf s ≡ Reading.Refused n
+      go (Either.first m r e) x = r ∙ ap Reading.Refused (own-numbers (sym e ∙ x))
+      go (Either.held w) x = here (own-way s at) (sym (is-there w) ∙ x)
+
+  pub own-43 : Own-43 s at
+  own-43 = (go either, ⊎-elim (λ h. own-refused 43 (read-43 s .1 h)) (λ h. is-there (h .0) ∙ back (h .1) (own-way s at)))
+    where
+      here : OwnWay s at → ownAt s at ≡ Own.Refused 43 → OwnPasses s at
+      here (OwnWay.passes p q) x = p
+      here (OwnWay.left p end r l q) x = absurd (let z : _≡_ {A = ℕ} 44 43 = own-numbers (sym q ∙ x) in omega arith)
+      here (OwnWay.reads p r q) x = own-no (sym x ∙ q)
+
+      go : Either → ownOf s at ≡ Own.Refused 43 → (OfNrtIt s × (length s < 17)) ⊎ (Begun s × OwnPasses s at)
+      go (Either.first m r e) x = inl (read-43 s .0 (r ∙ ap Reading.Refused (own-numbers (sym e ∙ x))))
+      go (Either.held w) x = inr (w, here (own-way s at) (sym (is-there w) ∙ x))
 
       back : OwnPasses s at → OwnWay s at → ownAt s at ≡ Own.Refused 43
       back h (OwnWay.passes p q) = q
       back h (OwnWay.left p end r l q) = absurd (p h)
       back h (OwnWay.reads p r q) = absurd (p h)
 
-  pub own-44 : Own-44 s at
-  own-44 w = (λ e. go (own-way s at) (sym (is-there w) ∙ e), λ h. is-there w ∙ back h (own-way s at))
-    where
-      go : OwnWay s at → ownAt s at ≡ Own.Refused 44 → (¬ OwnPasses s at) × ((end : ℕ) × (ownRun s at ≡ Run.Ends end) × (end < length s))
-      go (OwnWay.passes p q) e = absurd (let z : _≡_ {A = ℕ} 43 44 = own-numbers (sym q ∙ e) in omega arith)
-      go (OwnWay.left p end r l q) e = (p, (end, r, l))
-      go (OwnWay.reads p r q) e = own-no (sym e ∙ q)
+  -- no number of the fields before the items is 44
+  never-44 : readOf s ≡ Reading.Refused 44 → ⊥
+  never-44 e =
+      ⊎-elim (λ (h : (1 ≤ 44) × (44 ≤ 8)). let l : 44 ≤ 8 = h .1 in omega arith)
+      (λ h. ⊎-elim (λ (z : _≡_ {A = ℕ} 44 43). omega arith) (λ (z : _≡_ {A = ℕ} 44 45). omega arith) h)
+      (read-range s 44 e)
 
-      back : (¬ OwnPasses s at) × ((end : ℕ) × (ownRun s at ≡ Run.Ends end) × (end < length s)) → OwnWay s at → ownAt s at ≡ Own.Refused 44
-      back h (OwnWay.passes p q) = absurd (h .0 p)
-      back h (OwnWay.left p end r l q) = q
-      back h (OwnWay.reads p r q) =
+  pub own-44 : Own-44 s at
+  own-44 = (go either, λ h. is-there (h .0) ∙ back (h .1) (h .2) (own-way s at))
+    where
+      here : OwnWay s at → ownAt s at ≡ Own.Refused 44 → (¬ OwnPasses s at) × OwnLeaves s at
+      here (OwnWay.passes p q) x = absurd (let z : _≡_ {A = ℕ} 43 44 = own-numbers (sym q ∙ x) in omega arith)
+      here (OwnWay.left p end r l q) x = (p, (end, r, l))
+      here (OwnWay.reads p r q) x = own-no (sym x ∙ q)
+
+      go : Either → ownOf s at ≡ Own.Refused 44 → Begun s × (¬ OwnPasses s at) × OwnLeaves s at
+      go (Either.first m r e) x = absurd (never-44 (r ∙ ap Reading.Refused (own-numbers (sym e ∙ x))))
+      go (Either.held w) x = let h = here (own-way s at) (sym (is-there w) ∙ x) in (w, h .0, h .1)
+
+      back : (¬ OwnPasses s at) → OwnLeaves s at → OwnWay s at → ownAt s at ≡ Own.Refused 44
+      back n v (OwnWay.passes p q) = absurd (n p)
+      back n v (OwnWay.left p end r l q) = q
+      back n v (OwnWay.reads p r q) =
           absurd
-          (let e : Run.Ends (h .1 .0) ≡ Run.Ends (length s) = sym (h .1 .1) ∙ r in
-          let z : h .1 .0 ≡ length s = cc in
-          let l : h .1 .0 < length s = h .1 .2 in
+          (let e : Run.Ends (v .0) ≡ Run.Ends (length s) = sym (v .1) ∙ r in
+          let z : v .0 ≡ length s = cc in
+          let l : v .0 < length s = v .2 in
           omega arith)
 
   pub own-exactly : Own-Exactly s at
-  own-exactly w l = (λ e. go (own-way s at) (sym (is-there w) ∙ e), λ h. is-there w ∙ back h (own-way s at))
+  own-exactly l = (go either, λ h. is-there (h .0) ∙ back (h .1) (h .2) (h .3) (own-way s at))
     where
       same : {a b : Loop} → Own.Loop a ≡ Own.Loop b → a ≡ b
       same x = cc
 
-      go : OwnWay s at → ownAt s at ≡ Own.Loop l → (¬ OwnPasses s at) × (ownRun s at ≡ Run.Ends (length s)) × (l ≡ ownLoop s at)
-      go (OwnWay.passes p q) e = own-no (sym q ∙ e)
-      go (OwnWay.left p end r x q) e = own-no (sym q ∙ e)
-      go (OwnWay.reads p r q) e = (p, r, same (sym e ∙ q))
+      here : OwnWay s at → ownAt s at ≡ Own.Loop l → (¬ OwnPasses s at) × (ownRun s at ≡ Run.Ends (length s)) × (l ≡ ownLoop s at)
+      here (OwnWay.passes p q) x = own-no (sym q ∙ x)
+      here (OwnWay.left p end r y q) x = own-no (sym q ∙ x)
+      here (OwnWay.reads p r q) x = (p, r, same (sym x ∙ q))
 
-      back : (¬ OwnPasses s at) × (ownRun s at ≡ Run.Ends (length s)) × (l ≡ ownLoop s at) → OwnWay s at → ownAt s at ≡ Own.Loop l
-      back h (OwnWay.passes p q) = absurd (h .0 p)
-      back h (OwnWay.left p end r x q) =
-          absurd
-          (let e : Run.Ends end ≡ Run.Ends (length s) = sym r ∙ h .1 in let z : end ≡ length s = cc in omega arith)
-      back h (OwnWay.reads p r q) = q ∙ ap Own.Loop (sym (h .2))
+      go : Either → ownOf s at ≡ Own.Loop l → Begun s × (¬ OwnPasses s at) × (ownRun s at ≡ Run.Ends (length s)) × (l ≡ ownLoop s at)
+      go (Either.first m r e) x = own-no (sym e ∙ x)
+      go (Either.held w) x = let h = here (own-way s at) (sym (is-there w) ∙ x) in (w, h .0, h .1, h .2)
+
+      back : (¬ OwnPasses s at) → ownRun s at ≡ Run.Ends (length s) → l ≡ ownLoop s at → OwnWay s at → ownAt s at ≡ Own.Loop l
+      back n v e (OwnWay.passes p q) = absurd (n p)
+      back n v e (OwnWay.left p end r y q) =
+          absurd (let f : Run.Ends end ≡ Run.Ends (length s) = sym r ∙ v in let z : end ≡ length s = cc in omega arith)
+      back n v e (OwnWay.reads p r q) = q ∙ ap Own.Loop (sym e)
 
   pub own-range : Own-Range s at
-  own-range n e = go (way s)
-    where
-      begun : OwnWay s at → ownAt s at ≡ Own.Refused n → (n ≡ 43) ⊎ (n ≡ 44)
-      begun (OwnWay.passes p q) x = inl (own-numbers (sym x ∙ q))
-      begun (OwnWay.left p end r l q) x = inr (own-numbers (sym x ∙ q))
-      begun (OwnWay.reads p r q) x = own-no (sym x ∙ q)
-
-      first : (m : ℕ) → readOf s ≡ Reading.Refused m → ((1 ≤ n) × (n ≤ 8)) ⊎ ((n ≡ 43) ⊎ ((n ≡ 44) ⊎ (n ≡ 45)))
-      first m r =
-          ⊎-elim (λ a. inl a) (λ b. ⊎-elim (λ x. inr (inl x)) (λ x. inr (inr (inr x))) b)
-          (read-range s n (r ∙ ap Reading.Refused (own-numbers (items.own-refused s at m r ∙ e))))
-
-      go : Way s → ((1 ≤ n) × (n ≤ 8)) ⊎ ((n ≡ 43) ⊎ ((n ≡ 44) ⊎ (n ≡ 45)))
-      go (Way.own m q r) = first m r
-      go (Way.other o r) = first 45 r
-      go (Way.short o x r) = first 43 r
-      go (Way.whole o x r) =
-          inr (⊎-elim (λ x. inl x) (λ x. inr (inl x)) (begun (own-way s at) (sym (is-there (o, x)) ∙ e)))
+  own-range n e =
+      ⊎-elim (λ (z : n ≡ 43). inr (inl z))
+      (λ (d : ¬ (n ≡ 43)). ⊎-elim (λ (z : n ≡ 44). inr (inr (inl z)))
+      (λ (c : ¬ (n ≡ 44)). ⊎-elim (λ a. inl a) (λ b. ⊎-elim (λ x. inr (inl x)) (λ x. inr (inr (inr x))) b)
+      (read-range s n (own-first n d c .0 e))) (same-or n 44)) (same-or n 43)

@@ -30,7 +30,7 @@ stays s t b v w at k j i e same below =
     let c = item-found s b at fits (x .end) (x .run) in
     let here : From s at (contentThen (c .content) (drop (x .end) s)) = record { rest = c .bytes; within = omega arith } in
     let there : stepOf s at k ≡ itemAt s at
-    = sym (items.step-item s at k (programmeOf s) (begun-reads s v) (step-exactly s at k v i .0 e .0)) in
+    = sym (items.step-item s at k (programmeOf s) (begun-reads s v) (step-exactly s at k i .0 e .1)) in
     let is : i ≡ itemIn at (c .content)
     = (let q : Step.Item i ≡ Step.Item (itemIn at (c .content)) = sym e ∙ there ∙ item-written (c .content) (c .fits) _ here late in cc) in
     let n : ℕ = length (contentBytes (c .content)) in

@@ -82,21 +82,26 @@ module _ (s : List ℕ) where
     OwnPasses = (at < 17) ⊎ ((length s < at + 1) ⊎ LoopPasses (numDescriptors s at) (descriptorsAt s at))
 
     module _ (k : ℕ) where
-      -- A step to item k: what refuses the fields before the items refuses it
+      -- A step to item k: any number but 43 is given exactly when the fields before the items are refused by it
       abbrev pub Step-First : Type 0
-      Step-First = (n : ℕ) → readOf s ≡ Reading.Refused n → stepOf s at k ≡ Step.Refused n
+      Step-First = (n : ℕ) → ¬ (n ≡ 43) → (stepOf s at k ≡ Step.Refused n) ↔ (readOf s ≡ Reading.Refused n)
 
-      -- of a section that holds them: over exactly when k is no item's number
-      abbrev pub Step-Over : Type 0
-      Step-Over = Begun → (stepOf s at k ≡ Step.Over) ↔ (programmeOf s .items ≤ k)
-
-      -- 43 exactly when there is an item k, and none can begin there or it passes the end
+      -- 43 exactly when these are, or where the section holds them and has an item k, but none can begin there or it passes the end
       abbrev pub Step-43 : Type 0
-      Step-43 = Begun → (stepOf s at k ≡ Step.Refused 43) ↔ ((k < programmeOf s .items) × ItemPasses)
+      Step-43 =
+          (stepOf s at k ≡ Step.Refused 43)
+          ↔ ((OfNrtIt × (length s < 17)) ⊎ (Begun × (k < programmeOf s .items) × ItemPasses))
 
-      -- an item exactly when there is one and it does not, as the bytes there say
+      -- over exactly when the section holds them and has no item k
+      abbrev pub Step-Over : Type 0
+      Step-Over = (stepOf s at k ≡ Step.Over) ↔ (Begun × (programmeOf s .items ≤ k))
+
+      -- an item exactly when it has one that can begin there and does not pass the end, as the bytes there say
       abbrev pub Step-Exactly : Type 0
-      Step-Exactly = Begun → (i : Item) → (stepOf s at k ≡ Step.Item i) ↔ ((k < programmeOf s .items) × (¬ ItemPasses) × (i ≡ itemOf s at))
+      Step-Exactly =
+          (i : Item)
+          → (stepOf s at k ≡ Step.Item i)
+          ↔ (Begun × (k < programmeOf s .items) × (¬ ItemPasses) × (i ≡ itemOf s at))
 
       -- no other number is given
       abbrev pub Step-Range : Type 0
@@ -133,25 +138,31 @@ module _ (s : List ℕ) where
       abbrev pub One-Step : Type 0
       One-Step = (x y : Step) → x ≡ stepOf s at k → y ≡ stepOf s at k → x ≡ y
 
-    -- The table's own loop: what refuses the fields before the items refuses it
+    -- The table's own loop: any number but 43 and 44 is given exactly when the fields before the items are refused by it
     abbrev pub Own-First : Type 0
-    Own-First = (n : ℕ) → readOf s ≡ Reading.Refused n → ownOf s at ≡ Own.Refused n
+    Own-First = (n : ℕ) → ¬ (n ≡ 43) → ¬ (n ≡ 44) → (ownOf s at ≡ Own.Refused n) ↔ (readOf s ≡ Reading.Refused n)
 
-    -- 43 exactly when no loop can begin there, or it passes the end
+    -- 43 exactly when these are, or where the section holds them, but no loop can begin there or it passes the end
     abbrev pub Own-43 : Type 0
-    Own-43 = Begun → (ownOf s at ≡ Own.Refused 43) ↔ OwnPasses
+    Own-43 = (ownOf s at ≡ Own.Refused 43) ↔ ((OfNrtIt × (length s < 17)) ⊎ (Begun × OwnPasses))
 
-    -- 44 exactly when it does not, and ends before the payload does
+    -- the loop ends before the payload does
+    abbrev pub OwnLeaves : Type 0
+    OwnLeaves = (end : ℕ) × (ownRun s at ≡ Run.Ends end) × (end < length s)
+
+    -- 44 exactly when the section holds them, and the loop does not pass the end and ends before the payload does
     abbrev pub Own-44 : Type 0
-    Own-44 = Begun → (ownOf s at ≡ Own.Refused 44) ↔ ((¬ OwnPasses) × ((end : ℕ) × (ownRun s at ≡ Run.Ends end) × (end < length s)))
+    Own-44 = (ownOf s at ≡ Own.Refused 44) ↔ (Begun × (¬ OwnPasses) × OwnLeaves)
 
     -- it is read exactly when it ends where the payload does
     abbrev pub Own-Exactly : Type 0
     Own-Exactly =
-        Begun
-        → (l : Loop)
+        (l : Loop)
         → (ownOf s at ≡ Own.Loop l)
-        ↔ ((¬ OwnPasses) × (ownRun s at ≡ Run.Ends (length s)) × (l ≡ record { count = byte s at; place = at + 1; length = length s - (at + 1) }))
+        ↔ (Begun
+        × (¬ OwnPasses)
+        × (ownRun s at ≡ Run.Ends (length s))
+        × (l ≡ record { count = byte s at; place = at + 1; length = length s - (at + 1) }))
 
     -- no other number is given
     abbrev pub Own-Range : Type 0

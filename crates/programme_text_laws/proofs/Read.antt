@@ -47,7 +47,7 @@ module _ (s : List ℕ) where
     not-over at k left q o =
         let r = when.read-exactly s p .0 e in
         let many : p .items ≡ programmeOf s .items = ap (λ (x : Programme). x .items) (r .1) in
-        let past : programmeOf s .items ≤ k = when.step-over s at k (r .0) .0 o in
+        let past : programmeOf s .items ≤ k = when.step-over s at k .0 o .1 in
         omega arith
 
     -- the items from one on, and the loop behind them
