@@ -100,7 +100,7 @@ unfoldable pub itemAt : List ℕ → ℕ → Step
 itemAt s at = first Step.Refused (itemFaults s at) (Step.Item (itemOf s at))
 
 -- a step at a place, to item k of the section, from 0: the reading's own number; over where there is no item of that number, at any
--- place; or the item there
+-- place; or the item there, or its refusal
 abbrev pub stepBy : List ℕ → ℕ → ℕ → Reading → Step
 stepBy s at k (Reading.Refused n) = Step.Refused n
 stepBy s at k (Reading.Programme p) = if leb (p .items) k then Step.Over else itemAt s at

@@ -45,7 +45,7 @@ pub enum Reading {
     Refused(u8),
 }
 
-// How many items a list has.
+// How many items a section has.
 pub enum Count {
     Items(u8),
     Refused(u8),
@@ -130,7 +130,7 @@ pub fn five(field: &[u8]) -> u64
     high + base::full(base::half(field[4])) as u64
 }
 
-// How many items a payload's list has, or its first refusal. A step needs no more of the fields before the items.
+// How many items a section has, or its first refusal. A step needs no more of the fields before the items.
 pub fn count_items(payload: &[u8]) -> Count
     ensures { λ r. ⌜ r ≡ countOf (readOf (now (payload .entry))) ⌝ }
 {

@@ -1,4 +1,5 @@
--- How the boundary answers about an NRT-IT section: a number of refusal in the low 8 bits, and values in a lent buffer or above it.
+-- How the boundary answers about an NRT-IT section: a number of refusal in the low 8 bits, and values in the bits above them or in a lent
+-- buffer.
 use Prim.Native.Nat.{ℕ, zero, suc, _+_, _*_, _/_, _%_, _^_, _<_, _≤_}
 use mathlib.Core.Path.{_≡_}
 use mathlib.Core.List.{List, [], _∷_, _++_}
@@ -83,7 +84,7 @@ module _ (s fields : List ℕ) where
   abbrev pub Read-Accepted : Type 0
   Read-Accepted = (readLent s fields .code ≡ 0) ↔ (((p : Programme) × (readOf s ≡ Reading.Programme p)) × (4 ≤ length fields))
 
-  -- 15 exactly when these are read and the buffer has less
+  -- 15 exactly when these are read and the buffer has less room
   abbrev pub Read-15 : Type 0
   Read-15 = (readLent s fields .code ≡ 15) ↔ (((p : Programme) × (readOf s ≡ Reading.Programme p)) × (length fields < 4))
 
@@ -114,7 +115,7 @@ module _ (s fields : List ℕ) where
     abbrev pub Items-Handed : Type 0
     Items-Handed = (kind ≡ itemsKind) ↔ (((i : Item) × (stepOf s at k ≡ Step.Item i)) × (10 ≤ length fields))
 
-    -- 15 exactly when one stands there and the buffer has less
+    -- 15 exactly when one stands there and the buffer has less room
     abbrev pub Items-15 : Type 0
     Items-15 = (itemsLent s at k fields .code ≡ 15) ↔ (((i : Item) × (stepOf s at k ≡ Step.Item i)) × (length fields < 10))
 
@@ -146,7 +147,7 @@ module _ (n : ℕ) (s : List ℕ) (at k : ℕ) where
       length (itemsFrom n s at k) < n
       → (i : Item) → ¬ (stepOf s (placeAfter at (itemsFrom n s at k)) (k + length (itemsFrom n s at k)) ≡ Step.Item i)
 
-  -- a host that goes on behind them, with the number that follows, gets what it had got with more room
+  -- a host that goes on behind them, with the number that follows, gets what one call with more room would have given it
   abbrev pub Items-Go-On : Type 0
   Items-Go-On =
       (m : ℕ)

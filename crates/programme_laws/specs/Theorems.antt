@@ -1,4 +1,5 @@
--- What is proved of programme lists, in words of the payload `s`: each statement is a theorem of `proofs/` by the same name in small letters.
+-- What is proved of programme lists, in words of the payload `s`: the words, and the statements, each a theorem of `proofs/` by the same
+-- name in small letters.
 use Prim.Native.Nat.{ℕ, _+_, _-_, _*_, _<_, _≤_}
 use mathlib.Core.Path.{_≡_}
 use mathlib.Core.List.{List, _∷_, _++_}
@@ -27,7 +28,7 @@ use Rattle.programme_laws.specs.Walk.{walk, walkOf, reached, tiles, Answ
 use Rattle.programme_laws.specs.Layout.{Body, FitBody, bodyOf, answersOf}
 
 module _ (s : List ℕ) where
-  -- the payload is a sound section, with a table id
+  -- the payload is a sound section, and `said` holds of its table id
   pub record SoundWith (said : ℕ → Type 0) : Type 0 where
     pub header : Header
     pub sound : section.readOf s ≡ sections.Reading.Sound header
@@ -54,15 +55,16 @@ module _ (s : List ℕ) where
   abbrev pub Read-43 : Type 0
   Read-43 = (readOf s ≡ Reading.Refused 43) ↔ (OfNrtIt × (length s < 17))
 
-  -- they are read exactly when it is one that holds them, as its bytes say
+  -- they are read exactly when it is one that holds them, and they are what its bytes say
   abbrev pub Read-Exactly : Type 0
   Read-Exactly = (p : Programme) → (readOf s ≡ Reading.Programme p) ↔ (Begun × (p ≡ programmeOf s))
 
-  -- no other number is given
+  -- no number but 1 to 8, 43 and 45 is given
   abbrev pub Read-Range : Type 0
   Read-Range = (n : ℕ) → readOf s ≡ Reading.Refused n → ((1 ≤ n) × (n ≤ 8)) ⊎ ((n ≡ 43) ⊎ (n ≡ 45))
 
-  -- one of n counted descriptors from a place passes the end: the first `before` of them end at the place `at`, and the next one passes it
+  -- one of n counted descriptors from a place passes the end: the first `before` of them end at the place `at`, and the
+  -- next one, two bytes and its content, passes the payload's end
   pub record LoopPasses (n from : ℕ) : Type 0 where
     pub before : ℕ
     pub fewer : before < n
@@ -71,13 +73,14 @@ module _ (s : List ℕ) where
     pub passes : length s < at + 2 + byte s (at + 1)
 
   module _ (at : ℕ) where
-    -- no item can begin at the place, or a field of the item there passes the end (their places rise, so the last one does), or its loop
+    -- no item can begin at the place; or a field of the item there passes the end (their places rise, so then the last one does); or one of
+    -- its descriptors does
     abbrev pub ItemPasses : Type 0
     ItemPasses =
         (at < 17)
         ⊎ ((length s < contentDescriptorsAt s at) ⊎ LoopPasses (numContentDescriptors s at) (contentDescriptorsAt s at))
 
-    -- so of the table's own loop
+    -- the same of the table's own loop: none can begin at the place, its count passes the end, or one of its descriptors does
     abbrev pub OwnPasses : Type 0
     OwnPasses = (at < 17) ⊎ ((length s < at + 1) ⊎ LoopPasses (numDescriptors s at) (descriptorsAt s at))
 
@@ -86,7 +89,8 @@ module _ (s : List ℕ) where
       abbrev pub Step-First : Type 0
       Step-First = (n : ℕ) → ¬ (n ≡ 43) → (stepOf s at k ≡ Step.Refused n) ↔ (readOf s ≡ Reading.Refused n)
 
-      -- 43 exactly when these are, or where the section holds them and has an item k, but none can begin there or it passes the end
+      -- 43 exactly when these are refused by it; or when the section holds them and has an item k, but none can begin at the place, or the
+      -- one there passes the end
       abbrev pub Step-43 : Type 0
       Step-43 =
           (stepOf s at k ≡ Step.Refused 43)
@@ -96,14 +100,15 @@ module _ (s : List ℕ) where
       abbrev pub Step-Over : Type 0
       Step-Over = (stepOf s at k ≡ Step.Over) ↔ (Begun × (programmeOf s .items ≤ k))
 
-      -- an item exactly when it has one that can begin there and does not pass the end, as the bytes there say
+      -- an item is given exactly when the section holds them and has an item k, one can begin at the place, and it does not pass the end;
+      -- it is what the bytes there say
       abbrev pub Step-Exactly : Type 0
       Step-Exactly =
           (i : Item)
           → (stepOf s at k ≡ Step.Item i)
           ↔ (Begun × (k < programmeOf s .items) × (¬ ItemPasses) × (i ≡ itemOf s at))
 
-      -- no other number is given
+      -- no number but 1 to 8, 43 and 45 is given
       abbrev pub Step-Range : Type 0
       Step-Range = (n : ℕ) → stepOf s at k ≡ Step.Refused n → ((1 ≤ n) × (n ≤ 8)) ⊎ ((n ≡ 43) ⊎ (n ≡ 45))
 
@@ -142,7 +147,7 @@ module _ (s : List ℕ) where
     abbrev pub Own-First : Type 0
     Own-First = (n : ℕ) → ¬ (n ≡ 43) → ¬ (n ≡ 44) → (ownOf s at ≡ Own.Refused n) ↔ (readOf s ≡ Reading.Refused n)
 
-    -- 43 exactly when these are, or where the section holds them, but no loop can begin there or it passes the end
+    -- 43 exactly when these are refused by it; or when the section holds them, but no loop can begin at the place, or it passes the end
     abbrev pub Own-43 : Type 0
     Own-43 = (ownOf s at ≡ Own.Refused 43) ↔ ((OfNrtIt × (length s < 17)) ⊎ (Begun × OwnPasses))
 
@@ -150,11 +155,12 @@ module _ (s : List ℕ) where
     abbrev pub OwnLeaves : Type 0
     OwnLeaves = (end : ℕ) × (ownRun s at ≡ Run.Ends end) × (end < length s)
 
-    -- 44 exactly when the section holds them, and the loop does not pass the end and ends before the payload does
+    -- 44 exactly when the section holds them, a loop can begin at the place, it does not pass the end, and it ends before the payload does
     abbrev pub Own-44 : Type 0
     Own-44 = (ownOf s at ≡ Own.Refused 44) ↔ (Begun × (¬ OwnPasses) × OwnLeaves)
 
-    -- it is read exactly when it ends where the payload does
+    -- the loop is read exactly when the section holds them, one can begin at the place, it does not pass the end, and it ends where the
+    -- payload does; it is then the count at the place, the place behind that, and all bytes from there on
     abbrev pub Own-Exactly : Type 0
     Own-Exactly =
         (l : Loop)
@@ -164,7 +170,7 @@ module _ (s : List ℕ) where
         × (ownRun s at ≡ Run.Ends (length s))
         × (l ≡ record { count = byte s at; place = at + 1; length = length s - (at + 1) }))
 
-    -- no other number is given
+    -- no number but 1 to 8, 43, 44 and 45 is given
     abbrev pub Own-Range : Type 0
     Own-Range = (n : ℕ) → ownOf s at ≡ Own.Refused n → ((1 ≤ n) × (n ≤ 8)) ⊎ ((n ≡ 43) ⊎ ((n ≡ 44) ⊎ (n ≡ 45)))
 
@@ -199,7 +205,8 @@ module _ (s : List ℕ) where
   abbrev pub Short : Type 0
   Short = 8 * length (walkOf s) ≤ length s + 8
 
-  -- a section of bytes is read as a list exactly when its body is that list's bytes, reserved bits aside
+  -- a payload of bytes is read as a list exactly when it is a sound section of an NRT-IT and its body is that list's bytes, reserved bits
+  -- aside
   abbrev pub Exactly : Type 0
   Exactly =
       Octets s

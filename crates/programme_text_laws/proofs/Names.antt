@@ -1,16 +1,18 @@
--- No two names are shown alike (`specs/Theorems.antt` has the words).
+-- A name can be told back from its line (`specs/Theorems.antt` has the words).
 --   name-told
 use mathlib.Core.Path.{_≡_, refl, sym, ap, _∙_}
 use mathlib.Core.Bool.{true, false}
-use mathlib.Core.List.{List, [], _∷_, _++_}
+use mathlib.Core.List.{List, [], _∷_, _++_, append-assoc}
 use Prim.Native.Nat.{ℕ, suc, _/_, _%_, _<_, _≤_}
 use native.Mathlib.Omega.{arith}
 use lib.Dec.{ltb}
-use lib.ListN.{length, getD, drop}
+use lib.ListN.{getD, drop}
 use borrow.Author.Tests.{ltb-true, ltb-false}
 use Rattle.base.specs.Octets.{Octets}
 use Rattle.base.proofs.Cases.{by, unlike}
+use Rattle.file_listing.specs.Words.{newline}
 use Rattle.text.specs.Words.{hexDigit, plain, shown, escaped}
+use Rattle.programme_lines.specs.Lines.{nameLine}
 use Rattle.programme_text_laws.specs.Theorems.{Name-Told}
 
 hex-told : (d e : ℕ) → d < 16 → e < 16 → hexDigit d ≡ hexDigit e → d ≡ e
@@ -67,21 +69,34 @@ alike x y a b l m e =
     let low : x % 16 ≡ y % 16 = hex-told (x % 16) (y % 16) (omega arith) (omega arith) (ap (λ l. getD l 3 0) g) in
     record { first = omega arith; rest = ap (drop 4) g }))
 
--- something is shown of every byte
-shown-some : (x : ℕ) (a : List ℕ) → shown x ++ a ≡ [] → ⊥
-shown-some x a e =
+-- nothing that is shown of a byte begins with a newline
+no-newline : (x : ℕ) (a r : List ℕ) → shown x ++ a ≡ 10 ∷ r → ⊥
+unfolding plain
+no-newline x a r e =
     by (plain x)
-    (λ t. let g : x ∷ a ≡ [] = rw (as-it-is x t) at e in let n : suc (length a) ≡ 0 = ap length g in omega arith)
+    (λ t.
+    let g : x ∷ a ≡ 10 ∷ r = rw (as-it-is x t) at e in
+    let same : x ≡ 10 = ap (λ l. getD l 0 0) g in
+    let none : plain 10 ≡ false = refl in
+    unlike (sym t ∙ ap plain same ∙ none))
     (λ f.
-    let g : 92 ∷ 120 ∷ hexDigit (x / 16) ∷ hexDigit (x % 16) ∷ a ≡ [] = rw (as-digits x f) at e in
-    let n : suc (suc (suc (suc (length a)))) ≡ 0 = ap length g in
+    let g : 92 ∷ 120 ∷ hexDigit (x / 16) ∷ hexDigit (x % 16) ∷ a ≡ 10 ∷ r = rw (as-digits x f) at e in
+    let same : _≡_ {A = ℕ} 92 10 = ap (λ l. getD l 0 0) g in
     omega arith)
 
-pub name-told : Name-Told
+-- what is shown of a name, up to the newline behind it
+shown-told : (a b r t : List ℕ) → Octets a → Octets b → escaped a ++ (10 ∷ r) ≡ escaped b ++ (10 ∷ t) → a ≡ b
 unfolding escaped
-name-told [] [] o p e = refl
-name-told [] (y ∷ b) o p e = absurd (shown-some y (escaped b) (sym e))
-name-told (x ∷ a) [] o p e = absurd (shown-some x (escaped a) e)
-name-told (x ∷ a) (y ∷ b) o p e =
-    let h = alike x y (escaped a) (escaped b) (o 0) (p 0) e in
-    rw (h .first, name-told a b (λ k. o (suc k)) (λ k. p (suc k)) (h .rest))
+shown-told [] [] r t o p e = refl
+shown-told [] (y ∷ b) r t o p e = absurd (no-newline y (escaped b ++ (10 ∷ t)) r (sym (append-assoc (shown y) (escaped b) (10 ∷ t)) ∙ sym e))
+shown-told (x ∷ a) [] r t o p e = absurd (no-newline x (escaped a ++ (10 ∷ r)) t (sym (append-assoc (shown x) (escaped a) (10 ∷ r)) ∙ e))
+shown-told (x ∷ a) (y ∷ b) r t o p e =
+    let h = alike x y (escaped a ++ (10 ∷ r)) (escaped b ++ (10 ∷ t)) (o 0) (p 0)
+    (sym (append-assoc (shown x) (escaped a) (10 ∷ r)) ∙ e ∙ append-assoc (shown y) (escaped b) (10 ∷ t)) in
+    rw (h .first, shown-told a b r t (λ k. o (suc k)) (λ k. p (suc k)) (h .rest))
+
+pub name-told : Name-Told
+unfolding nameLine
+name-told a b r t o p e =
+    let g : (escaped a ++ newline) ++ r ≡ (escaped b ++ newline) ++ t = ap (drop 5) e in
+    shown-told a b r t o p (sym (append-assoc (escaped a) newline r) ∙ g ∙ append-assoc (escaped b) newline t)

@@ -9,21 +9,21 @@ use Rattle.section.specs.declared.Header.{Header}
 use Rattle.file.specs.Scan.{scanOf, foundAt}
 use Rattle.file.specs.declared.Scan.{Scan}
 use Rattle.text.specs.Clean.{Clean}
-use Rattle.text.specs.Words.{escaped}
 use Rattle.programme_laws.specs.Walk.{answersTo, Unrefused}
-use Rattle.programme_lines.specs.Lines.{wholeLine, notWholeLine}
+use Rattle.programme_lines.specs.Lines.{nameLine, wholeLine, notWholeLine}
 use Rattle.programme_section.specs.Section.{sectionRead}
 use Rattle.programme_listing.specs.Listing.{payloadOf, textOf}
 
--- a line is the last of a text of more than one: before it stands the newline that ends the line before
+-- a text ends with this line, and the newline before it ends an earlier line
 abbrev pub LastLine : List ℕ → List ℕ → Type 0
 LastLine line t = (u : List ℕ) × (t ≡ u ++ (10 ∷ line))
 
--- the bytes of a name can be told back: no two names are shown alike
+-- the bytes of a name can be told back from its line, whatever follows that
 abbrev pub Name-Told : Type 0
-Name-Told = (a b : List ℕ) → Octets a → Octets b → escaped a ≡ escaped b → a ≡ b
+Name-Told = (a b r t : List ℕ) → Octets a → Octets b → nameLine a ++ r ≡ nameLine b ++ t → a ≡ b
 
--- the text calls a payload read exactly when nothing that a host is answered about it is refused: its fields, its steps and its own loop
+-- what the last line asks of each section is so exactly when a host that reads the fields, walks the items from the first one's place and
+-- asks for the own loop where the walk came to meets no refusal
 abbrev pub Section-Read : List ℕ → Type 0
 Section-Read s = (sectionRead s ≡ true) ↔ Unrefused (answersTo s)
 
@@ -40,7 +40,7 @@ module _ (file : List ℕ) where
   abbrev pub payload : ℕ → List ℕ
   payload n = payloadOf file (scanOf file .starts) (scanOf file .lengths) n
 
-  -- section n is read to its end: nothing that a host is answered about it is refused
+  -- section n is read to its end: such a host meets no refusal
   abbrev pub Read : ℕ → Type 0
   Read n = Unrefused (answersTo (payload n))
 
@@ -48,15 +48,15 @@ module _ (file : List ℕ) where
   abbrev pub EachRead : ℕ → Type 0
   EachRead last = (n : ℕ) → n ≤ last → Held n × Read n
 
-  -- of a file that is read as a programme list
+  -- of a file that is accepted, and whose table id is the NRT-IT's
   module _ (h : Header) where
     abbrev pub ListFile : Type 0
     ListFile = (scanOf file .answer ≡ Scan.Table h) × (h .table ≡ 0xDF)
 
-    -- the last line says whole exactly when each is,
+    -- the last line is whole exactly when every section from 0 to the last is held and read to its end,
     abbrev pub Whole-Exactly : Type 0
     Whole-Exactly = ListFile → LastLine wholeLine (textOf file) ↔ EachRead (h .last)
 
-    -- and not whole exactly when one is not
+    -- and not whole exactly when that is not so
     abbrev pub Not-Whole-Exactly : Type 0
     Not-Whole-Exactly = ListFile → LastLine notWholeLine (textOf file) ↔ (¬ EachRead (h .last))

@@ -6,11 +6,12 @@ use lib.Dec.{ltb}
 use lib.ListN.{set}
 use Rattle.base.specs.Choice.{if_then_else_}
 
--- the place behind a byte. Behind the highest place that there is none can be told, so it stays
+-- the place behind a byte. Places are numbers of 64 bits, so behind the highest there is none, and it stays
 unfoldable pub nextPlace : ℕ → ℕ
 nextPlace at = if ltb at (2 ^ 64 - 1) then at + 1 else at
 
--- the output with bytes over its own, one behind the other from a place on; past its end none stands
+-- the output with bytes over its own, one behind the other from a place on; past its end none stands. No output reaches the highest place, so
+-- no byte is put over another of them
 unfoldable pub over : List ℕ → ℕ → List ℕ → List ℕ
 over out at [] = out
 over out at (b ∷ bytes) = over (set out at b) (nextPlace at) bytes
