@@ -711,14 +711,14 @@ typedef enum khumsafil_item_kind {
  * a bool before it: false where the item has none, and the field is then 0. The name is a multiple string structure of
  * A/65, which the library does not read.
  *
- * A walk goes on while an item is found, and the table's own loop stands where it ends:
+ * A walk goes on while an item is found. It ended well where the last answer is not refused; the table's own loop then stands
+ * there, and is refused where the walk was:
  *
  *   size_t at = KHUMSAFIL_FIRST_ITEM;
  *   unsigned n = 0;
  *   for (; (item = khumsafil_item_at(payload, length, at, n)).found == KHUMSAFIL_ITEM_FOUND; at = item.next, n++)
  *       show(khumsafil_part_of(payload, item.name), item.name.length);
- *   if (!item.refusal)
- *       own = khumsafil_own_loop(payload, length, at);
+ *   own = khumsafil_own_loop(payload, length, at, n);
  *
  * khumsafil_items_at has several with one call, and khumsafil_item_of makes each out of its numbers. The descriptors of an item
  * are walked as any loop is:
@@ -814,8 +814,9 @@ typedef struct khumsafil_items {
  *       for (i = 0; i < items.count; i++)
  *           item = khumsafil_item_of(fields + i * KHUMSAFIL_ITEM_FIELDS);
  *
- * With room for KHUMSAFIL_MOST_ITEMS the first call has all up to one that is refused, where there is one, and the next says that
- * the items are over, or by which number the one there is refused.
+ * One call is no walk, also not with room for KHUMSAFIL_MOST_ITEMS: an item that is refused behind others is not told with them,
+ * but when its own place is asked. Fewer items than the list says are what that looks like. So call until the items are over, or ask
+ * for the table's own loop, which is refused where an item before it is.
  */
 KHUMSAFIL_LOOK_
 static inline khumsafil_items khumsafil_items_at(const uint8_t *payload, size_t payload_length, size_t at, unsigned number,
@@ -873,13 +874,23 @@ typedef struct khumsafil_own {
 } khumsafil_own;
 
 /*
- * The table's own loop, from the place after the last item. Any place may be asked. Refused: 1 to 8, 45, 43, and 44 where
- * bytes are left over after it.
+ * The table's own loop, which stands behind the last item, from the place and the number of any item: where a walk came to, or
+ * KHUMSAFIL_FIRST_ITEM and 0. The items from there on are passed over, so that from the first item on the loop is answered only where
+ * the whole section is read. Refused: 1 to 8, 45; 43 where one of these items, or the loop, passes the end; 44 where bytes are
+ * left over after it.
  */
 KHUMSAFIL_LOOK_
-static inline khumsafil_own khumsafil_own_loop(const uint8_t *payload, size_t payload_length, size_t at) {
-    const uint64_t answer = khumsafil_raw_programme_own(payload, payload_length, at);
+static inline khumsafil_own khumsafil_own_loop(const uint8_t *payload, size_t payload_length, size_t at, unsigned number) {
+    uint64_t fields[KHUMSAFIL_ITEM_FIELDS];
+    khumsafil_items items;
+    uint64_t answer;
     khumsafil_own own;
+    while ((items = khumsafil_items_at(payload, payload_length, at, number, fields, KHUMSAFIL_ITEM_FIELDS)).found ==
+           KHUMSAFIL_ITEM_FOUND) {
+        at = items.next;
+        number += items.count;
+    }
+    answer = items.refusal ? (uint64_t)items.refusal : khumsafil_raw_programme_own(payload, payload_length, at);
     own.refusal = khumsafil_refusal_(answer);
     own.descriptors.count = (uint8_t)(answer >> 8);
     own.descriptors.bytes = khumsafil_part_((uint16_t)(answer >> 16), (uint16_t)(answer >> 32));

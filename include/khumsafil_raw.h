@@ -373,7 +373,8 @@ uint64_t khumsafil_raw_programme_items(const uint8_t *payload, size_t payload_le
                                        uint64_t *fields, size_t fields_length);
 
 /*
- * The table's own loop, whose number of descriptors stands at a place: the one after the last item. Any place may be asked.
+ * The table's own loop, whose number of descriptors stands at a place: the one after the last item. Any place may be asked, and
+ * the items are not looked at: at the place of an item that is refused a loop may be read. Ask only behind a walk that is over.
  * Refuses by 1 to 8, 45 and 43 as khumsafil_raw_programme_read does, then by 43 where the loop passes the end, and by 44 where
  * bytes are left over after it.
  *

@@ -1,4 +1,4 @@
-/* Reads one section of a programme list from standard input and says what it holds. Bytes are told as place and length, and
+/* Reads one bare section of a programme list, and no shelf file, from standard input and says what it holds; status 1 where it is refused. Bytes are told as place and length, and
    descriptors by their tags; a field that is not there is told as -. */
 #include <inttypes.h>
 #include <stdio.h>
@@ -51,7 +51,7 @@ int main(void) {
     khumsafil_own own;
     if (list.refusal) {
         printf("refused %u\n", (unsigned)list.refusal);
-        return 0;
+        return 1;
     }
     printf("service %u start %" PRIu32 " minutes %u items %u\n", (unsigned)list.service_id, list.time_span_start,
            (unsigned)list.time_span_length, (unsigned)list.items);
@@ -64,12 +64,12 @@ int main(void) {
         }
     if (items.refusal) {
         printf("refused %u at %u\n", (unsigned)items.refusal, (unsigned)at);
-        return 0;
+        return 1;
     }
-    own = khumsafil_own_loop(payload, length, at);
+    own = khumsafil_own_loop(payload, length, at, number);
     if (own.refusal) {
         printf("refused %u at %u\n", (unsigned)own.refusal, (unsigned)at);
-        return 0;
+        return 1;
     }
     printf("list");
     descriptors(payload, own.descriptors);

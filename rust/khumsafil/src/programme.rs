@@ -36,7 +36,8 @@ pub const FIELDS: usize = 4;
 /// How many numbers an item is answered in.
 pub const ITEM_FIELDS: usize = 10;
 
-/// The most items that a section has room for: with [`ITEM_FIELDS`] numbers for each one call takes all items of any section.
+/// The most items that a section has room for: with [`ITEM_FIELDS`] numbers for each one call takes all items of any section, up to
+/// one that is refused.
 pub const MOST_ITEMS: usize = 125;
 
 /// Room for any text of [`list`].
@@ -360,6 +361,10 @@ pub fn item_at(payload: &[u8], at: usize, number: u8) -> Result<Step<'_>, Refusa
 /// The items from a place on, as [`item_fields`] puts them into `numbers`, of which each element has room for one; none where the
 /// section has no item of that number.
 ///
+/// One call is no walk, also not with room for [`MOST_ITEMS`]: an item that is refused behind others is not told with them, but when
+/// its own place is asked. Fewer items than the list says are what that looks like. [`Several::own_loop`] is then refused;
+/// [`Programme::items`] walks to the end by itself.
+///
 /// ```
 /// use khumsafil::programme::{self, FIRST_ITEM, ITEM_FIELDS, MOST_ITEMS};
 /// use khumsafil::Refusal;
@@ -371,6 +376,8 @@ pub fn item_at(payload: &[u8], at: usize, number: u8) -> Result<Step<'_>, Refusa
 /// let mut numbers = [[0; ITEM_FIELDS]; MOST_ITEMS];
 /// let items = programme::items_at(payload, FIRST_ITEM, 0, &mut numbers)?;
 /// assert_eq!((items.len(), items.place()), (2, 33));
+/// // Nothing is refused behind them, and the section is read to its end.
+/// assert_eq!(items.own_loop()?.count, 0);
 /// assert!(items.map(|item| item.content_linkage()).eq([7, 8]));
 /// // With room for one it is a step, and the next goes on behind it.
 /// let first = programme::items_at(payload, FIRST_ITEM, 0, &mut numbers[..1])?;
@@ -391,6 +398,8 @@ pub fn items_at<'a, 'n>(
         payload,
         numbers: numbers.get(..told.count).unwrap_or_default().iter(),
         place: told.next,
+        // A list has at most 255 items, so this is no more than their count.
+        number: number.saturating_add(told.count as u8),
     })
 }
 
@@ -400,13 +409,20 @@ pub struct Several<'a, 'n> {
     payload: &'a [u8],
     numbers: core::slice::Iter<'n, [u64; ITEM_FIELDS]>,
     place: usize,
+    /// The number of the item behind them.
+    number: u8,
 }
 
-impl Several<'_, '_> {
+impl<'a> Several<'a, '_> {
     /// The place after the last of them; where there was none, the place asked.
     #[inline]
     pub fn place(&self) -> usize {
         self.place
+    }
+
+    /// The table's own loop, as [`own_loop_at`] finds it behind these items and those that follow them.
+    pub fn own_loop(&self) -> Result<Loop<'a>, Refusal> {
+        own_loop_at(self.payload, self.place, self.number)
     }
 }
 
@@ -429,10 +445,17 @@ impl ExactSizeIterator for Several<'_, '_> {}
 
 impl core::iter::FusedIterator for Several<'_, '_> {}
 
-/// The table's own loop, whose number of descriptors stands at a place: the one after the last item. Any place may be asked.
-/// Refused: 1 to 8, 45, 43, and 44 where bytes are left over after it.
+/// The table's own loop, which stands behind the last item, from the place and the number of any item: where a walk came to, or
+/// [`FIRST_ITEM`] and 0. The items from there on are passed over, so that from the first item on the loop is answered only where the
+/// whole section is read. Any place and any number may be asked. Refused: 1 to 8, 45; 43 where one of these items, or the loop, passes
+/// the end; 44 where bytes are left over after it.
+pub fn own_loop_at(payload: &[u8], at: usize, number: u8) -> Result<Loop<'_>, Refusal> {
+    Items::walk_from(payload, at, number, number).own_loop()
+}
+
+/// The own loop whose number of descriptors stands at a place.
 #[inline]
-pub fn own_loop_at(payload: &[u8], at: usize) -> Result<Loop<'_>, Refusal> {
+fn own_loop(payload: &[u8], at: usize) -> Result<Loop<'_>, Refusal> {
     // SAFETY: the pointer and the length are those of a slice, and the library only reads.
     let word =
         unsafe { boundary::khumsafil_raw_programme_own(payload.as_ptr(), payload.len(), at) };
@@ -452,15 +475,7 @@ impl<'a> Programme<'a> {
     /// The items in their order, to the last or to the first that is refused.
     #[inline]
     pub fn items(&self) -> Items<'a> {
-        Items {
-            payload: self.payload,
-            at: FIRST_ITEM,
-            number: 0,
-            end: self.count,
-            told: 0,
-            taken: 0,
-            numbers: [[0; ITEM_FIELDS]; AT_ONCE],
-        }
+        Items::walk_from(self.payload, FIRST_ITEM, 0, self.count)
     }
 }
 
@@ -494,7 +509,22 @@ pub struct Items<'a> {
 }
 
 impl<'a> Items<'a> {
-    /// The place of the next item; behind the last, of the table's own loop; after a refusal, of the item refused.
+    /// A walk from the item of a number at a place to that of another number.
+    #[inline]
+    fn walk_from(payload: &'a [u8], at: usize, number: u8, end: u8) -> Items<'a> {
+        Items {
+            payload,
+            at,
+            number,
+            end,
+            told: 0,
+            taken: 0,
+            numbers: [[0; ITEM_FIELDS]; AT_ONCE],
+        }
+    }
+
+    /// The place of the next item; behind the last, of the table's own loop; after a refusal, of the item refused. A walk by
+    /// `while let Some(item) = items.next()` can ask for it at each step, one by `for` cannot.
     #[inline]
     pub fn place(&self) -> usize {
         // It is not kept, since a walk seldom asks for it.
@@ -525,7 +555,7 @@ impl<'a> Items<'a> {
         while self.ask()? > 0 {
             self.taken = self.told;
         }
-        own_loop_at(self.payload, self.place())
+        own_loop(self.payload, self.place())
     }
 }
 

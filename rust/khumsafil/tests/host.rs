@@ -422,6 +422,23 @@ fn a_walk_to_a_refused_item() {
         let at = 17 + 8 * usize::from(there);
         assert_eq!((walk.next(), walk.place()), (None, at));
         assert_eq!(walk.own_loop(), Err(Refusal::PROGRAMME_PASSES_END));
+
+        // In one call nothing is refused, and the loop behind the items is: at the refused item's place one could be read.
+        let mut numbers = [[0; programme::ITEM_FIELDS]; programme::MOST_ITEMS];
+        let refused = Err(Refusal::PROGRAMME_PASSES_END);
+        if there > 0 {
+            let told = programme::items_at(&payload, programme::FIRST_ITEM, 0, &mut numbers);
+            let told = told.expect("items");
+            assert_eq!((told.len(), told.place()), (there.into(), at));
+            assert_eq!(told.own_loop(), refused);
+        }
+        assert_eq!(
+            programme::own_loop_at(&payload, programme::FIRST_ITEM, 0),
+            refused
+        );
+        assert_eq!(programme::own_loop_at(&payload, at, there), refused);
+        let own = programme::own_loop_at(&payload, at, there + 2).expect("a loop");
+        assert_eq!((own.count, own.bytes.len()), (0, 0));
     }
 }
 

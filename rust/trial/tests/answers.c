@@ -357,7 +357,7 @@ static int same_item(khumsafil_item a, khumsafil_item b) {
 /* Every question about a list is refused by the number, and nothing else is said. */
 static int no_list(const uint8_t *payload, size_t length, khumsafil_refusal by) {
     const khumsafil_programme read = khumsafil_programme_read(payload, length);
-    const khumsafil_own own = khumsafil_own_loop(payload, length, 67);
+    const khumsafil_own own = khumsafil_own_loop(payload, length, 67, 2);
     EXPECT(read.refusal == by && read.service_id == 0 && read.time_span_start == 0 && read.time_span_length == 0);
     EXPECT(read.items == 0 && own.refusal == by && own.descriptors.count == 0);
     EXPECT(own.descriptors.bytes.place == 0 && own.descriptors.bytes.length == 0);
@@ -443,9 +443,22 @@ static int programmes(void) {
     for (; (item = khumsafil_item_at(list, sizeof list, at, n)).found == KHUMSAFIL_ITEM_FOUND; at = item.next, n++)
         EXPECT(walked(list, item.descriptors) == item.descriptors.count);
     EXPECT(n == 2 && at == 67 && no_item(item, KHUMSAFIL_NOT_REFUSED, KHUMSAFIL_ITEM_OVER, 67) == 0);
-    own = khumsafil_own_loop(list, sizeof list, at);
+    own = khumsafil_own_loop(list, sizeof list, at, n);
     EXPECT(!own.refusal && own.descriptors.count == 1 && own.descriptors.bytes.place == 68);
     EXPECT(own.descriptors.bytes.length == 6 && walked(list, own.descriptors) == 1);
+
+    /* From any item on the others are passed over: where the section says one more than it holds, the loop is refused. */
+    own = khumsafil_own_loop(list, sizeof list, KHUMSAFIL_FIRST_ITEM, 0);
+    EXPECT(!own.refusal && own.descriptors.bytes.place == 68 && own.descriptors.bytes.length == 6);
+    EXPECT(khumsafil_own_loop(list, sizeof list, 59, 1).descriptors.bytes.place == 68);
+    memcpy(other, list, sizeof list);
+    other[16] = 3;
+    items = khumsafil_items_at(other, sizeof list, KHUMSAFIL_FIRST_ITEM, 0, fields, sizeof fields / sizeof *fields);
+    EXPECT(!items.refusal && items.count == 2 && items.next == 67);
+    own = khumsafil_own_loop(other, sizeof list, items.next, items.count);
+    EXPECT(own.refusal == KHUMSAFIL_REFUSED_PROGRAMME_PASSES_END && own.descriptors.count == 0);
+    EXPECT(khumsafil_own_loop(other, sizeof list, KHUMSAFIL_FIRST_ITEM, 0).refusal == own.refusal);
+    EXPECT(own.descriptors.bytes.place == 0 && own.descriptors.bytes.length == 0);
 
     /* Each flag by itself. */
     item = with_flag(0x80, 0);
@@ -488,8 +501,9 @@ static int programmes(void) {
                     SIZE_MAX) == 0);
     EXPECT(no_items(khumsafil_items_at(list, sizeof list, SIZE_MAX, 1, fields, 10), KHUMSAFIL_REFUSED_PROGRAMME_PASSES_END,
                     KHUMSAFIL_ITEM_NOTHING, 0) == 0);
-    EXPECT(khumsafil_own_loop(list, sizeof list, SIZE_MAX).refusal == KHUMSAFIL_REFUSED_PROGRAMME_PASSES_END);
-    EXPECT(khumsafil_own_loop(list, sizeof list, 16).refusal == KHUMSAFIL_REFUSED_PROGRAMME_PASSES_END);
+    EXPECT(khumsafil_own_loop(list, sizeof list, SIZE_MAX, 2).refusal == KHUMSAFIL_REFUSED_PROGRAMME_PASSES_END);
+    EXPECT(khumsafil_own_loop(list, sizeof list, 16, 256).refusal == KHUMSAFIL_REFUSED_PROGRAMME_PASSES_END);
+    EXPECT(khumsafil_own_loop(list, sizeof list, 16, 0).refusal == KHUMSAFIL_REFUSED_PROGRAMME_PASSES_END);
 
     /* Cut to every size, with the length that it then has; one byte left over; another table. */
     for (size = 8; size < sizeof list; size++) {
@@ -499,18 +513,18 @@ static int programmes(void) {
             EXPECT(no_list(other, size, KHUMSAFIL_REFUSED_PROGRAMME_PASSES_END) == 0);
         EXPECT(khumsafil_item_at(other, size, 17, 0).refusal == (size < 59 ? KHUMSAFIL_REFUSED_PROGRAMME_PASSES_END : 0));
         EXPECT(khumsafil_item_at(other, size, 59, 1).refusal == (size < 67 ? KHUMSAFIL_REFUSED_PROGRAMME_PASSES_END : 0));
-        EXPECT(khumsafil_own_loop(other, size, 67).refusal == KHUMSAFIL_REFUSED_PROGRAMME_PASSES_END);
+        EXPECT(khumsafil_own_loop(other, size, 67, 2).refusal == KHUMSAFIL_REFUSED_PROGRAMME_PASSES_END);
     }
     memcpy(other, list, sizeof list);
     other[sizeof list] = 0, other[2] = sizeof list + 1 - 3;
-    own = khumsafil_own_loop(other, sizeof list + 1, 67);
+    own = khumsafil_own_loop(other, sizeof list + 1, 67, 2);
     EXPECT(own.refusal == KHUMSAFIL_REFUSED_PROGRAMME_BYTES_LEFT && own.descriptors.count == 0);
     EXPECT(own.descriptors.bytes.place == 0 && own.descriptors.bytes.length == 0);
     other[0] = 0xDE;
     EXPECT(no_list(other, sizeof list + 1, KHUMSAFIL_REFUSED_PROGRAMME_OTHER_TABLE) == 0);
     EXPECT(no_list(other, sizeof list, KHUMSAFIL_REFUSED_LONGER_THAN_PAYLOAD) == 0);
     EXPECT(no_list(NULL, 0, KHUMSAFIL_REFUSED_PAYLOAD_SHORT) == 0);
-    EXPECT(khumsafil_part_of(NULL, khumsafil_own_loop(NULL, 0, 0).descriptors.bytes) == NULL);
+    EXPECT(khumsafil_part_of(NULL, khumsafil_own_loop(NULL, 0, 0, 0).descriptors.bytes) == NULL);
     return 0;
 }
 

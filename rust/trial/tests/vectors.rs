@@ -328,7 +328,8 @@ fn ours(lent: &mut Lent, call: &Call) -> String {
         }
         "programme_own" => {
             let payload = with.bytes("payload");
-            match programme::own_loop_at(&payload, with.number("at")) {
+            // No section has an item of number 255, so that none is passed over.
+            match programme::own_loop_at(&payload, with.number("at"), u8::MAX) {
                 Ok(own) => {
                     let place = own.bytes.as_ptr() as usize - payload.as_ptr() as usize;
                     format!("descriptors={}:{place}:{}", own.count, own.bytes.len())

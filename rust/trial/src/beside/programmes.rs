@@ -231,10 +231,11 @@ pub fn walk_in_room(payload: &[u8], room: usize) -> u8 {
     }
 }
 
-/// Asks both for the table's own loop from a place, fails where they differ, and gives what both said.
+/// Asks both for the table's own loop from a place, fails where they differ, and gives what both said. No section has an item of
+/// number 255, so that none is passed over.
 pub fn own(payload: &[u8], at: usize) -> u8 {
     match (
-        programme::own_loop_at(payload, at),
+        programme::own_loop_at(payload, at, u8::MAX),
         theirs::own(payload, at),
     ) {
         (Err(refusal), Err(number)) if refusal.number() == number => number,
