@@ -1,5 +1,5 @@
-/* Reads one bare section of a programme list, and no shelf file, from standard input and says what it holds; status 1 where it is refused. Bytes are told as place and length, and
-   descriptors by their tags; a field that is not there is told as -. */
+/* Reads one bare section of a programme list, and no shelf file, from standard input and says what it holds; status 1 where
+   it is refused. Bytes are told as place and length, and descriptors by their tags; a field that is not there is told as -. */
 #include <inttypes.h>
 #include <stdio.h>
 
