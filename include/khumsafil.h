@@ -31,6 +31,9 @@
  *   an action above 3                255, before all else
  *   any number of a section, place,
  *   application, version or length   refused, or answered as the function says
+ *   an NRT-IT asked for by
+ *   khumsafil_key_of                 taken for the one of service 0 from second 0 on: 14 and a dark lamp where it is not held.
+ *                                    khumsafil_key_of_nrt_it makes the key of any
  *   two buffers that are only read   may share bytes, or be one
  *
  * A store or a record of another size, which a raw function refuses by 17, 18 or 35, cannot be lent to a function of this
@@ -44,8 +47,8 @@
  *   refused or writes nothing, as with a payload that stands in the store
  *   two calls at the same time on one buffer that either of them writes
  *
- *   a table id, an extension, an event or a time in a wider variable, which C cuts without a word unless it is asked for
- *   (-Wconversion): the rest of the number is another one, and as good
+ *   a table id, an extension, a service, an event or a time in a wider variable, which C cuts without a word unless it is asked
+ *   for (-Wconversion): the rest of the number is another one, and as good
  *
  * Of a buffer that is as long as was said, no element beyond it is touched. A buffer for datagrams has one byte more than
  * KHUMSAFIL_LARGEST_SECTION or KHUMSAFIL_LARGEST_TRIGGER, so that a longer one is refused and not clipped.
@@ -63,8 +66,8 @@
 #endif
 
 /* The version of this header: 65536 times the major number, 256 times the minor one and the patch. */
-#define KHUMSAFIL_VERSION 0x000400
-#define KHUMSAFIL_VERSION_TEXT "0.4.0"
+#define KHUMSAFIL_VERSION 0x000500
+#define KHUMSAFIL_VERSION_TEXT "0.5.0"
 
 /* The version of the library that is linked, by its own answer. */
 KHUMSAFIL_LOOK_
@@ -116,6 +119,8 @@ typedef enum khumsafil_refusal {
     KHUMSAFIL_REFUSED_PROGRAMME_PASSES_END = 43,
     KHUMSAFIL_REFUSED_PROGRAMME_BYTES_LEFT = 44,
     KHUMSAFIL_REFUSED_PROGRAMME_OTHER_TABLE = 45,
+    KHUMSAFIL_REFUSED_KEY_SHORT = 46,
+    KHUMSAFIL_REFUSED_ASKED_FOR_NRT_IT = 59,
     KHUMSAFIL_REFUSED_NO_SUCH_ACTION = 255
 } khumsafil_refusal;
 
@@ -201,6 +206,10 @@ static inline const char *khumsafil_refusal_text(unsigned number) {
         return "bytes left over";
     case KHUMSAFIL_REFUSED_PROGRAMME_OTHER_TABLE:
         return "table id not the NRT-IT's";
+    case KHUMSAFIL_REFUSED_KEY_SHORT:
+        return "an NRT-IT too short to hold its key";
+    case KHUMSAFIL_REFUSED_ASKED_FOR_NRT_IT:
+        return "the writer asked for the NRT-IT's id";
     case KHUMSAFIL_REFUSED_NO_SUCH_ACTION:
         return "no such action: a number above 3";
     default:
@@ -220,30 +229,48 @@ typedef struct khumsafil_size {
 } khumsafil_size;
 
 /*
- * What tells one table from another. Document 02 adds fields for one table id, so a host makes a key by khumsafil_key_of or
- * takes it from an answer, and does not list its members.
+ * What tells one table from another: its table id and its table id extension, and of an NRT-IT, whose table id is
+ * KHUMSAFIL_PROGRAMME_TABLE, also its service and the start of its time span. Of every other table these two mean nothing: a
+ * call disregards them, and an answer has 0 there. A host makes a key by khumsafil_key_of or khumsafil_key_of_nrt_it or takes it
+ * from an answer, and does not list its members.
  */
 typedef struct khumsafil_key {
     uint8_t table_id;
     uint16_t extension;
+    uint16_t service_id;      /* of an NRT-IT */
+    uint32_t time_span_start; /* of an NRT-IT, in GPS seconds */
 } khumsafil_key;
 
+/* The key of any table but an NRT-IT. With the NRT-IT's id it is the key of service 0 from second 0 on. */
 KHUMSAFIL_LOOK_
 static inline khumsafil_key khumsafil_key_of(uint8_t table_id, uint16_t extension) {
     khumsafil_key key;
     key.table_id = table_id;
     key.extension = extension;
+    key.service_id = 0;
+    key.time_span_start = 0;
     return key;
 }
 
-/* Whether two keys are one. */
+/* The key of an NRT-IT. */
+KHUMSAFIL_LOOK_
+static inline khumsafil_key khumsafil_key_of_nrt_it(uint16_t extension, uint16_t service_id, uint32_t time_span_start) {
+    khumsafil_key key = khumsafil_key_of(KHUMSAFIL_PROGRAMME_TABLE, extension);
+    key.service_id = service_id;
+    key.time_span_start = time_span_start;
+    return key;
+}
+
+/* Whether two keys are one: all four numbers of an NRT-IT, table id and extension alone of every other table. */
 KHUMSAFIL_LOOK_
 static inline bool khumsafil_key_same(khumsafil_key a, khumsafil_key b) {
-    return a.table_id == b.table_id && a.extension == b.extension;
+    return a.table_id == b.table_id && a.extension == b.extension &&
+           (a.table_id != KHUMSAFIL_PROGRAMME_TABLE ||
+            (a.service_id == b.service_id && a.time_span_start == b.time_span_start));
 }
 
 /* A key, a shelf and a clock as the raw functions take them. These are no part of what a host calls. */
-#define KHUMSAFIL_KEY_(key) (key).table_id, (key).extension
+#define KHUMSAFIL_KEY_(key) (key).table_id, (key).extension, (key).service_id, (key).time_span_start
 #define KHUMSAFIL_SHELF_(shelf) (shelf)->record, KHUMSAFIL_SHELF_RECORD, (shelf)->store, KHUMSAFIL_STORE
 #define KHUMSAFIL_CLOCK_(clock) (clock)->record, KHUMSAFIL_CLOCK_RECORD
 
@@ -282,13 +309,18 @@ typedef struct khumsafil_section {
     size_t body_length;
 } khumsafil_section;
 
-/* Reads the payload as one section. Refused: 1 to 8, the lowest number that applies. */
+/* Reads the payload as one section. Refused: 1 to 8, the lowest number that applies, and then 46. */
 KHUMSAFIL_LOOK_
 static inline khumsafil_section khumsafil_section_read(const uint8_t *payload, size_t payload_length) {
     const uint64_t answer = khumsafil_raw_section_read(payload, payload_length);
     khumsafil_section section;
     section.refusal = khumsafil_refusal_(answer);
     section.key = khumsafil_key_of((uint8_t)(answer >> 8), (uint16_t)(answer >> 16));
+    if (section.key.table_id == KHUMSAFIL_PROGRAMME_TABLE) { /* a refused answer has 0 there */
+        const uint64_t rest = khumsafil_raw_section_key(payload, payload_length);
+        section.key.service_id = (uint16_t)(rest >> 8);
+        section.key.time_span_start = (uint32_t)(rest >> 24);
+    }
     section.version = (uint8_t)(answer >> 32);
     section.number = (uint8_t)(answer >> 40);
     section.last = (uint8_t)(answer >> 48);
@@ -327,7 +359,7 @@ typedef struct khumsafil_offered {
     khumsafil_accepted accepted;
 } khumsafil_offered;
 
-/* Offers a datagram's payload. Refused: 18, then 1 to 10, the lowest number that applies. */
+/* Offers a datagram's payload. Refused: 18, then 1 to 8, the lowest number that applies, 46, 9, 10. */
 KHUMSAFIL_LOOK_
 static inline khumsafil_offered khumsafil_shelf_offer(khumsafil_shelf *shelf, const uint8_t *payload,
                                                       size_t payload_length) {
@@ -396,6 +428,11 @@ static inline khumsafil_table khumsafil_table_(uint8_t answer, const uint16_t *f
     table.refusal = khumsafil_refusal_(answer);
     table.key = answer != 0 ? khumsafil_key_of(0, 0)
                             : khumsafil_key_of((uint8_t)fields[KHUMSAFIL_TABLE_ID], fields[KHUMSAFIL_TABLE_EXTENSION]);
+    if (answer == 0) {
+        table.key.service_id = fields[KHUMSAFIL_TABLE_SERVICE_ID];
+        table.key.time_span_start =
+            (uint32_t)fields[KHUMSAFIL_TABLE_START_HIGH] << 16 | fields[KHUMSAFIL_TABLE_START_LOW];
+    }
     table.version = answer != 0 ? (uint8_t)0 : (uint8_t)fields[KHUMSAFIL_TABLE_VERSION];
     table.last = answer != 0 ? (uint8_t)0 : (uint8_t)fields[KHUMSAFIL_TABLE_LAST];
     for (n = 0; n < KHUMSAFIL_SECTIONS; n++)
@@ -458,7 +495,7 @@ static inline khumsafil_size khumsafil_shelf_save(const khumsafil_shelf *shelf, 
     return khumsafil_size_(khumsafil_raw_shelf_save(KHUMSAFIL_SHELF_(shelf), KHUMSAFIL_KEY_(key), out, out_length));
 }
 
-/* Which table a file is. Refused: the file's first fault (11, 12, 2 to 8). */
+/* Which table a file is. Refused: the file's first fault (11, 12, 2 to 8, 46). */
 KHUMSAFIL_LOOK_
 static inline khumsafil_table khumsafil_file_table(const uint8_t *file, size_t file_length) {
     uint16_t fields[KHUMSAFIL_TABLE_FIELDS];
@@ -468,7 +505,7 @@ static inline khumsafil_table khumsafil_file_table(const uint8_t *file, size_t f
 
 /*
  * Loads a file's table into the lowest free place, and answers which table it is. Refused: 18, the file's first fault (11,
- * 12, 2 to 8), 13, 9.
+ * 12, 2 to 8, 46), 13, 9.
  */
 KHUMSAFIL_LOOK_
 static inline khumsafil_table khumsafil_shelf_load(khumsafil_shelf *shelf, const uint8_t *file, size_t file_length) {
@@ -679,7 +716,7 @@ typedef struct khumsafil_programme {
     uint8_t items;             /* how many items the section has */
 } khumsafil_programme;
 
-/* Reads the payload, a section of an NRT-IT, as a programme list. Refused: 1 to 8, 45, 43. */
+/* Reads the payload, a section of an NRT-IT, as a programme list. Refused: 1 to 8, 46, 45, 43. */
 KHUMSAFIL_LOOK_
 static inline khumsafil_programme khumsafil_programme_read(const uint8_t *payload, size_t payload_length) {
     uint32_t fields[KHUMSAFIL_PROGRAMME_FIELDS] = {0, 0, 0, 0};
@@ -779,7 +816,7 @@ static inline khumsafil_item khumsafil_item_of(const uint64_t *fields) {
 /*
  * What stands at a place of a programme list, taken for the item of that number, from 0 on: the first at
  * KHUMSAFIL_FIRST_ITEM, each other at the place after the one before. Any place and any number may be asked. Refused: 1 to 8,
- * 45, 43.
+ * 46, 45, 43.
  */
 KHUMSAFIL_LOOK_
 static inline khumsafil_item khumsafil_item_at(const uint8_t *payload, size_t payload_length, size_t at, unsigned number) {
@@ -805,7 +842,7 @@ typedef struct khumsafil_items {
 /*
  * The items of a programme list from a place on, the one there taken for the item of that number, from 0 on: as many as there
  * is room for at KHUMSAFIL_ITEM_FIELDS numbers each, up to and with the section's last, or up to the first that is refused,
- * without it. Numbers past theirs stay as they were. Any place and any number may be asked. Refused: 1 to 8, 45; 43 where the
+ * without it. Numbers past theirs stay as they were. Any place and any number may be asked. Refused: 1 to 8, 46, 45; 43 where the
  * fields before the items, or the item at the place asked, pass the end; and last 15 where there is no room for that item. A walk
  * with room for some, where fields_length counts numbers:
  *
@@ -876,7 +913,7 @@ typedef struct khumsafil_own {
 /*
  * The table's own loop, which stands behind the last item, from the place and the number of any item: where a walk came to, or
  * KHUMSAFIL_FIRST_ITEM and 0. The items from there on are passed over, so that from the first item on the loop is answered only where
- * the whole section is read. Refused: 1 to 8, 45; 43 where one of these items, or the loop, passes the end; 44 where bytes are
+ * the whole section is read. Refused: 1 to 8, 46, 45; 43 where one of these items, or the loop, passes the end; 44 where bytes are
  * left over after it.
  */
 KHUMSAFIL_LOOK_
@@ -1052,7 +1089,7 @@ static inline bool khumsafil_clock_same(const khumsafil_clock *a, const khumsafi
     return true;
 }
 
-/* What every section of a table has. */
+/* What every section of a table has. The writer writes no NRT-IT, so table id and extension are all that it takes of the key. */
 typedef struct khumsafil_label {
     khumsafil_key key;
     unsigned version; /* at most 31 */
@@ -1071,10 +1108,10 @@ typedef struct khumsafil_count {
     uint8_t sections;
 } khumsafil_count;
 
-/* How many sections a body of so many bytes makes, 1 to 16: as few as will do. Refused: 40. */
+/* How many sections a body of so many bytes makes in a table with that id, 1 to 16: as few as will do. Refused: 59, 40. */
 KHUMSAFIL_LOOK_
-static inline khumsafil_count khumsafil_writer_count(size_t length) {
-    const uint16_t answer = khumsafil_raw_writer_count(length);
+static inline khumsafil_count khumsafil_writer_count(uint8_t table_id, size_t length) {
+    const uint16_t answer = khumsafil_raw_writer_count(table_id, length);
     khumsafil_count count;
     count.refusal = khumsafil_refusal_(answer);
     count.sections = (uint8_t)(answer >> 8);
@@ -1083,24 +1120,26 @@ static inline khumsafil_count khumsafil_writer_count(size_t length) {
 
 /*
  * Writes section k, from 0 on, of the table that carries the body, at the front of out, where KHUMSAFIL_LARGEST_SECTION
- * bytes are room for any. Refused: 40, 41, 42, 15.
+ * bytes are room for any. Refused: 59, 40, 41, 42, 15.
  */
 KHUMSAFIL_LOOK_
 static inline khumsafil_size khumsafil_writer_section(khumsafil_label label, const uint8_t *body, size_t body_length,
                                                       unsigned k, uint8_t *out, size_t out_length) {
-    return khumsafil_size_(khumsafil_raw_writer_section(KHUMSAFIL_KEY_(label.key), khumsafil_narrow_(label.version), body,
-                                                        body_length, khumsafil_narrow_(k), out, out_length));
+    return khumsafil_size_(khumsafil_raw_writer_section(label.key.table_id, label.key.extension,
+                                                        khumsafil_narrow_(label.version), body, body_length,
+                                                        khumsafil_narrow_(k), out, out_length));
 }
 
 /*
  * Writes the file of the table that carries the body, with all its sections, at the front of out, where
- * KHUMSAFIL_LARGEST_FILE bytes are room for any. Refused: 40, 41, 15.
+ * KHUMSAFIL_LARGEST_FILE bytes are room for any. Refused: 59, 40, 41, 15.
  */
 KHUMSAFIL_LOOK_
 static inline khumsafil_size khumsafil_writer_file(khumsafil_label label, const uint8_t *body, size_t body_length,
                                                    uint8_t *out, size_t out_length) {
-    return khumsafil_size_(khumsafil_raw_writer_file(KHUMSAFIL_KEY_(label.key), khumsafil_narrow_(label.version), body,
-                                                     body_length, out, out_length));
+    return khumsafil_size_(khumsafil_raw_writer_file(label.key.table_id, label.key.extension,
+                                                     khumsafil_narrow_(label.version), body, body_length, out,
+                                                     out_length));
 }
 
 #undef KHUMSAFIL_KEY_

@@ -39,20 +39,20 @@ extern "C" {
  *   a datagram   one byte more than KHUMSAFIL_LARGEST_SECTION or KHUMSAFIL_LARGEST_TRIGGER, so that a longer one is
  *                refused and not clipped
  */
-#define KHUMSAFIL_SHELF_RECORD 84
+#define KHUMSAFIL_SHELF_RECORD 96
 #define KHUMSAFIL_STORE 65536
 #define KHUMSAFIL_PLACES 4
 #define KHUMSAFIL_SECTIONS 16
 #define KHUMSAFIL_CLOCK_RECORD 67
-#define KHUMSAFIL_TABLE_FIELDS 20
+#define KHUMSAFIL_TABLE_FIELDS 23
 #define KHUMSAFIL_TRIGGER_FIELDS 11
 #define KHUMSAFIL_PROGRAMME_FIELDS 4
 #define KHUMSAFIL_ITEM_FIELDS 10
 #define KHUMSAFIL_MOST_ITEMS 125
 #define KHUMSAFIL_LARGEST_SECTION 1024
 #define KHUMSAFIL_LARGEST_FILE 16418
-#define KHUMSAFIL_LARGEST_LIST 390
-#define KHUMSAFIL_PROGRAMME_TEXT 327737
+#define KHUMSAFIL_LARGEST_LIST 421
+#define KHUMSAFIL_PROGRAMME_TEXT 327768
 #define KHUMSAFIL_LARGEST_TRIGGER 4096
 #define KHUMSAFIL_LARGEST_BODY 16256
 
@@ -60,7 +60,7 @@ extern "C" {
 #define KHUMSAFIL_SECTION_HEADER 8
 #define KHUMSAFIL_DESCRIPTOR_HEAD 2
 
-/* The table id of a programme list, and the place of its first item. */
+/* The table id of a programme list, the NRT-IT's, and the place of its first item. */
 #define KHUMSAFIL_PROGRAMME_TABLE 0xDF
 #define KHUMSAFIL_FIRST_ITEM 17
 
@@ -68,7 +68,14 @@ extern "C" {
 uint32_t khumsafil_raw_version(void);
 
 /*
- * Reads the payload as one section. Refuses by 1 to 8: the lowest number that applies.
+ * A table's key is what tells it from others: its table id and its table id extension, and of an NRT-IT, whose table id is
+ * KHUMSAFIL_PROGRAMME_TABLE, also service_id and time_span_start, the first six bytes of its body. Of every other table these
+ * two mean nothing: where they are asked with they are disregarded, and where they are answered they are 0.
+ */
+
+/*
+ * Reads the payload as one section. Refuses by 1 to 8, the lowest number that applies, and then by 46 an NRT-IT under 14
+ * bytes, which has no room for its key.
  *
  * payload: read, and left as it is.
  *
@@ -76,6 +83,16 @@ uint32_t khumsafil_raw_version(void);
  * 55 the last number. The body is the payload from byte KHUMSAFIL_SECTION_HEADER to the end.
  */
 uint64_t khumsafil_raw_section_read(const uint8_t *payload, size_t payload_length);
+
+/*
+ * The rest of the key of the section that the payload is. Refuses as khumsafil_raw_section_read does. Of a section of any table
+ * but an NRT-IT the answer is 0, so a host need ask only where the table id of the first answer is KHUMSAFIL_PROGRAMME_TABLE.
+ *
+ * payload: read, and left as it is.
+ *
+ * Bits 8 to 23 are service_id, 24 to 55 time_span_start.
+ */
+uint64_t khumsafil_raw_section_key(const uint8_t *payload, size_t payload_length);
 
 /*
  * A shelf is a record of KHUMSAFIL_SHELF_RECORD numbers and a store of KHUMSAFIL_STORE bytes, both lent. Another size of the
@@ -89,20 +106,30 @@ uint64_t khumsafil_raw_section_read(const uint8_t *payload, size_t payload_lengt
  *   66 + 4p   the version
  *   67 + 4p   the last number
  *   80 + p    bit n is 1 where the section is held
+ *   84 + 3p   service_id, of an NRT-IT
+ *   85 + 3p   the higher 16 bits of time_span_start, of an NRT-IT
+ *   86 + 3p   the lower 16 bits of time_span_start, of an NRT-IT
  *
- * Section n of place p stands in the store from byte 1024 (16p + n) on. The numbers of a place that is free, and the
- * length of a section that is not held, are disregarded. So every value of the numbers is some record; a spoiled one is
- * refused by 18. Promises over a history presume that the host lends record and store back as they were left.
+ * Section n of place p stands in the store from byte 1024 (16p + n) on. The numbers of a place that is free, the length of a
+ * section that is not held, and the three numbers from 84 + 3p on of a place that another table than an NRT-IT has, are
+ * disregarded. So every value of the numbers is some record; a spoiled one is refused by 18. Promises over a history presume
+ * that the host lends record and store back as they were left.
  *
  * What the calls leave where it is disregarded:
  *
- *   begin     each length 8, the four numbers of each place from 64 + 4p on p, 0, 0, 0, and each mask from 80 on 1
- *   release   of its place the four numbers p, 0, 0, 0 and the mask 1; the lengths stay as they were
- *   offer and load   of a table that begins, begins again or is loaded, the four numbers, the mask and the lengths of the
- *             sections that it holds; of a section that is added, its length and the mask; all else stays as it was
+ *   begin     each length 8, the four numbers of each place from 64 + 4p on p, 0, 0, 0, each mask from 80 on 1, and the
+ *             numbers from 84 on 0
+ *   release   of its place the four numbers p, 0, 0, 0 and the mask 1; the lengths and the three numbers from 84 + 3p on stay
+ *             as they were
+ *   offer and load   of a table that begins, begins again or is loaded, the four numbers, the mask, the lengths of the
+ *             sections that it holds and the three numbers from 84 + 3p on, which are 0 of every table but an NRT-IT; of a
+ *             section that is added, its length and the mask; all else stays as it was
  *
  * So two records of the same tables need not be the same numbers. They are equal exactly when
  * khumsafil_raw_shelf_table answers the same of both at each of the four places.
+ *
+ * Where a call takes the numbers of a key, any may be given; service is service_id and start time_span_start, and both are
+ * disregarded where table is not KHUMSAFIL_PROGRAMME_TABLE.
  */
 
 /*
@@ -114,7 +141,7 @@ uint64_t khumsafil_raw_section_read(const uint8_t *payload, size_t payload_lengt
 uint8_t khumsafil_raw_shelf_begin(uint16_t *record, size_t record_length, uint8_t *store, size_t store_length);
 
 /*
- * Offers a payload. Refuses by 17, 18, and then 1 to 10: the lowest number that applies.
+ * Offers a payload. Refuses by 17, 18, then 1 to 8, the lowest number that applies, 46, 9 and 10.
  *
  * record: after the call the next one; where the section is a repeat, left as it was.
  * store: the section's berth becomes the section and then zeros; where it begins its table again, the berths that
@@ -133,7 +160,8 @@ uint16_t khumsafil_raw_shelf_offer(uint16_t *record, size_t record_length, uint8
  * record, store: read, and left as they are.
  */
 bool khumsafil_raw_shelf_is_complete(const uint16_t *record, size_t record_length, const uint8_t *store,
-                                     size_t store_length, uint8_t table, uint16_t extension);
+                                     size_t store_length, uint8_t table, uint16_t extension, uint16_t service,
+                                     uint32_t start);
 
 /*
  * Whether every section of a table, from 0 to its last, is held. Refuses by 17, 18, 14.
@@ -143,7 +171,8 @@ bool khumsafil_raw_shelf_is_complete(const uint16_t *record, size_t record_lengt
  * Bits 8 to 15 are 1 where the table is complete and 2 where it is not. So no answer is 0.
  */
 uint16_t khumsafil_raw_shelf_complete(const uint16_t *record, size_t record_length, const uint8_t *store,
-                                      size_t store_length, uint8_t table, uint16_t extension);
+                                      size_t store_length, uint8_t table, uint16_t extension, uint16_t service,
+                                      uint32_t start);
 
 /*
  * The lowest number of a table that is not held. Refuses by 17, 18, 14.
@@ -153,15 +182,20 @@ uint16_t khumsafil_raw_shelf_complete(const uint16_t *record, size_t record_leng
  * Bits 8 to 15 are 1 where nothing is missing and 2 where a section is; its number is then in bits 16 to 23.
  */
 uint32_t khumsafil_raw_shelf_lowest_missing(const uint16_t *record, size_t record_length, const uint8_t *store,
-                                            size_t store_length, uint8_t table, uint16_t extension);
+                                            size_t store_length, uint8_t table, uint16_t extension, uint16_t service,
+                                            uint32_t start);
 
-/* Where the numbers of a table stand: its key, its version, its last number, and then the lengths of its sections 0 to 15
-   in bytes, 0 where a section is not held. */
+/* Where the numbers of a table stand: its key, with service_id and the higher and the lower 16 bits of time_span_start, all 0 of
+   every table but an NRT-IT; its version, its last number, and then the lengths of its sections 0 to 15 in bytes, 0 where a
+   section is not held. */
 #define KHUMSAFIL_TABLE_ID 0
 #define KHUMSAFIL_TABLE_EXTENSION 1
-#define KHUMSAFIL_TABLE_VERSION 2
-#define KHUMSAFIL_TABLE_LAST 3
-#define KHUMSAFIL_TABLE_LENGTHS 4
+#define KHUMSAFIL_TABLE_SERVICE_ID 2
+#define KHUMSAFIL_TABLE_START_HIGH 3
+#define KHUMSAFIL_TABLE_START_LOW 4
+#define KHUMSAFIL_TABLE_VERSION 5
+#define KHUMSAFIL_TABLE_LAST 6
+#define KHUMSAFIL_TABLE_LENGTHS 7
 
 /*
  * Which table is in a place. Any place may be asked. Answers 0, or the number of refusal: 17, 18, 14 where the place is
@@ -182,8 +216,8 @@ uint8_t khumsafil_raw_shelf_table(const uint16_t *record, size_t record_length, 
  * Bits 8 to 31 are how many bytes the section is.
  */
 uint32_t khumsafil_raw_shelf_copy_section(const uint16_t *record, size_t record_length, const uint8_t *store,
-                                          size_t store_length, uint8_t table, uint16_t extension, uint8_t number,
-                                          uint8_t *out, size_t out_length);
+                                          size_t store_length, uint8_t table, uint16_t extension, uint16_t service,
+                                          uint32_t start, uint8_t number, uint8_t *out, size_t out_length);
 
 /*
  * Releases a table: its place is free. Answers 0, or the number of refusal: 17, 18, 14.
@@ -192,7 +226,7 @@ uint32_t khumsafil_raw_shelf_copy_section(const uint16_t *record, size_t record_
  * store: the place's sixteen berths become 0, and all other bytes stay as they were.
  */
 uint8_t khumsafil_raw_shelf_release(uint16_t *record, size_t record_length, uint8_t *store, size_t store_length,
-                                    uint8_t table, uint16_t extension);
+                                    uint8_t table, uint16_t extension, uint16_t service, uint32_t start);
 
 /*
  * Saves a held table as a file. Refuses by 17, 18, 14, 15.
@@ -204,12 +238,12 @@ uint8_t khumsafil_raw_shelf_release(uint16_t *record, size_t record_length, uint
  * Bits 8 to 31 are how many bytes the file is.
  */
 uint32_t khumsafil_raw_shelf_save(const uint16_t *record, size_t record_length, const uint8_t *store,
-                                  size_t store_length, uint8_t table, uint16_t extension, uint8_t *out,
-                                  size_t out_length);
+                                  size_t store_length, uint8_t table, uint16_t extension, uint16_t service,
+                                  uint32_t start, uint8_t *out, size_t out_length);
 
 /*
  * Loads a file's table into the lowest free place. Answers 0, or the number of refusal: 17, 18, the file's first fault
- * (11, 12, or 2 to 8 for one of a section), 13, 9.
+ * (11, 12, or 2 to 8 or 46 for one of a section), 13, 9.
  *
  * record: after the call the next one.
  * store: the berth of each section becomes the section and then zeros, and all other bytes stay as they were.
@@ -220,7 +254,7 @@ uint8_t khumsafil_raw_shelf_load(uint16_t *record, size_t record_length, uint8_t
 
 /*
  * Which table a file is, in the numbers of khumsafil_raw_shelf_table. Answers 0, or the number of refusal: the file's first
- * fault (11, 12, 2 to 8), then 15 where there is room for fewer than KHUMSAFIL_TABLE_FIELDS numbers.
+ * fault (11, 12, 2 to 8, 46), then 15 where there is room for fewer than KHUMSAFIL_TABLE_FIELDS numbers.
  *
  * file: read, and left as it is.
  * fields: the first KHUMSAFIL_TABLE_FIELDS become the table's numbers, and those past them stay as they were.
@@ -318,8 +352,8 @@ bool khumsafil_raw_trigger_belongs(const uint8_t *payload, size_t payload_length
 #define KHUMSAFIL_PROGRAMME_ITEMS 3            /* num_content_items_in_section */
 
 /*
- * Reads the payload as a programme list, up to its items. Answers 0, or the number of refusal: 1 to 8, 45, 43, and then 15
- * where there is room for fewer than KHUMSAFIL_PROGRAMME_FIELDS numbers.
+ * Reads the payload as a programme list, up to its items. Answers 0, or the number of refusal: 1 to 8, 46, 45, 43, and then
+ * 15 where there is room for fewer than KHUMSAFIL_PROGRAMME_FIELDS numbers.
  *
  * payload: read, and left as it is.
  * fields: the first KHUMSAFIL_PROGRAMME_FIELDS become the list's numbers, and those past them stay as they were.
@@ -357,8 +391,8 @@ uint8_t khumsafil_raw_programme_read(const uint8_t *payload, size_t payload_leng
 /*
  * The items of a programme list from a place on, the one there taken for the item of that number of the section, from 0 on: as
  * many as there is room for, up to and with the section's last, or up to the first that is refused, without it. Any place and any
- * number may be asked. Refuses by 1 to 8, 45 and 43 as khumsafil_raw_programme_read does; then, where the section has an item of
- * that number, by 43 where no item can be at the place or the one that begins there passes the end; and last by 15 where there is
+ * number may be asked. Refuses by 1 to 8, 46, 45 and 43 as khumsafil_raw_programme_read does; then, where the section has an item
+ * of that number, by 43 where no item can be at the place or the one that begins there passes the end; and last by 15 where there is
  * room for fewer than KHUMSAFIL_ITEM_FIELDS numbers. An item further on that passes the end is refused when its own place is
  * asked.
  *
@@ -375,8 +409,8 @@ uint64_t khumsafil_raw_programme_items(const uint8_t *payload, size_t payload_le
 /*
  * The table's own loop, whose number of descriptors stands at a place: the one after the last item. Any place may be asked, and
  * the items are not looked at: at the place of an item that is refused a loop may be read. Ask only behind a walk that is over.
- * Refuses by 1 to 8, 45 and 43 as khumsafil_raw_programme_read does, then by 43 where the loop passes the end, and by 44 where
- * bytes are left over after it.
+ * Refuses by 1 to 8, 46, 45 and 43 as khumsafil_raw_programme_read does, then by 43 where the loop passes the end, and by 44
+ * where bytes are left over after it.
  *
  * payload: read, and left as it is.
  *
@@ -456,15 +490,16 @@ uint64_t khumsafil_raw_clock_time(const uint32_t *record, size_t record_length);
 uint16_t khumsafil_raw_clock_state(const uint32_t *record, size_t record_length, uint8_t application);
 
 /*
- * How many sections a body of so many bytes makes, 1 to 16: as few as will do. Refuses by 40.
+ * How many sections a body of so many bytes makes in a table with that id, 1 to 16: as few as will do. Refuses by 59 the
+ * NRT-IT's id, since the writer writes no NRT-IT, and then by 40.
  *
  * Bits 8 to 15 are the count.
  */
-uint16_t khumsafil_raw_writer_count(size_t length);
+uint16_t khumsafil_raw_writer_count(uint8_t table, size_t length);
 
 /*
- * Writes section k, from 0 on, of the table that carries the body: each section's body full but the last. Refuses by 40,
- * 41, 42, 15.
+ * Writes section k, from 0 on, of the table that carries the body: each section's body full but the last. Refuses by 59,
+ * 40, 41, 42, 15.
  *
  * body: read, and left as it is.
  * out: its first bytes become the section, and those past it stay as they were. KHUMSAFIL_LARGEST_SECTION bytes are room
@@ -476,7 +511,7 @@ uint32_t khumsafil_raw_writer_section(uint8_t table, uint16_t extension, uint8_t
                                       size_t body_length, uint8_t k, uint8_t *out, size_t out_length);
 
 /*
- * Writes the file of the table that carries the body, with all its sections. Refuses by 40, 41, 15.
+ * Writes the file of the table that carries the body, with all its sections. Refuses by 59, 40, 41, 15.
  *
  * body: read, and left as it is.
  * out: its first bytes become the file, and those past it stay as they were. KHUMSAFIL_LARGEST_FILE bytes are room for

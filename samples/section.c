@@ -1,4 +1,5 @@
 /* Reads one datagram's payload from standard input and says what section it is. */
+#include <inttypes.h>
 #include <stdio.h>
 
 #include "khumsafil.h"
@@ -12,8 +13,10 @@ int main(void) {
         printf("refused %u\n", (unsigned)section.refusal);
         return 0;
     }
-    printf("table %u key %u version %u section %u last %u body %lu\n", (unsigned)section.key.table_id,
-           (unsigned)section.key.extension, (unsigned)section.version, (unsigned)section.number, (unsigned)section.last,
-           (unsigned long)section.body_length);
+    printf("table %u key %u", (unsigned)section.key.table_id, (unsigned)section.key.extension);
+    if (section.key.table_id == KHUMSAFIL_PROGRAMME_TABLE)
+        printf(" service %u start %" PRIu32, (unsigned)section.key.service_id, section.key.time_span_start);
+    printf(" version %u section %u last %u body %lu\n", (unsigned)section.version, (unsigned)section.number,
+           (unsigned)section.last, (unsigned long)section.body_length);
     return 0;
 }

@@ -7,7 +7,7 @@
 
 #define SHELF record, KHUMSAFIL_SHELF_RECORD, store, sizeof store
 #define CLOCK clock_record, KHUMSAFIL_CLOCK_RECORD
-#define KEY 201, 4660
+#define KEY 201, 4660, 0, 0
 
 static uint16_t record[KHUMSAFIL_SHELF_RECORD], fields[KHUMSAFIL_TRIGGER_FIELDS], table[KHUMSAFIL_TABLE_FIELDS];
 static uint8_t store[KHUMSAFIL_STORE], section[KHUMSAFIL_LARGEST_SECTION], file[KHUMSAFIL_LARGEST_FILE],
@@ -48,6 +48,7 @@ static void prepare(void) {
 static void version(void) { answer = (uint64_t)khumsafil_raw_version() << 8; }
 static void nothing(void) { answer = 0; }
 static void section_read(void) { answer = khumsafil_raw_section_read(section, sizeof section); }
+static void section_key(void) { answer = khumsafil_raw_section_key(nrt_it, sizeof nrt_it); }
 static void shelf_begin(void) { answer = khumsafil_raw_shelf_begin(SHELF); }
 static void offer_repeat(void) { answer = khumsafil_raw_shelf_offer(SHELF, section, sizeof section); }
 static void offer_again(void) {
@@ -58,6 +59,7 @@ static void offer_added(void) {
     record[80] &= 0x7FFF;
     answer = khumsafil_raw_shelf_offer(SHELF, section, sizeof section);
 }
+static void offer_nrt_it(void) { answer = khumsafil_raw_shelf_offer(SHELF, nrt_it, sizeof nrt_it); }
 static void is_complete(void) { answer = khumsafil_raw_shelf_is_complete(SHELF, KEY); }
 static void complete(void) { answer = khumsafil_raw_shelf_complete(SHELF, KEY); }
 static void lowest_missing(void) { answer = khumsafil_raw_shelf_lowest_missing(SHELF, KEY); }
@@ -106,10 +108,12 @@ static const struct {
     void (*call)(void);
 } calls[] = {{"khumsafil_raw_version", version},
              {"khumsafil_raw_section_read", section_read},
+             {"khumsafil_raw_section_key", section_key},
              {"khumsafil_raw_shelf_begin", shelf_begin},
              {"khumsafil_raw_shelf_offer, a repeat", offer_repeat},
              {"khumsafil_raw_shelf_offer, begun again", offer_again},
              {"khumsafil_raw_shelf_offer, added", offer_added},
+             {"khumsafil_raw_shelf_offer, an NRT-IT begun", offer_nrt_it},
              {"khumsafil_raw_shelf_is_complete", is_complete},
              {"khumsafil_raw_shelf_complete", complete},
              {"khumsafil_raw_shelf_lowest_missing", lowest_missing},

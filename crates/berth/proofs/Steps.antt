@@ -1,5 +1,5 @@
 -- What the steps of the code come to.
---   xor-same, or-both, gather, same-other, same-more, same-end       a difference is gathered byte by byte
+--   same-other       runs of two lengths are not the same
 --   filled, wiped-back, put-back, viewed          a part is filled, comes back to the store, is looked at
 --   has-place, has-berth, is-place, is-berth      what the tests for a place and for a berth say
 --   wiped-done, put-done, stands-done, copied-done, seen-length      a call that names a berth
@@ -11,7 +11,6 @@ use mathlib.Core.List.{List, _++_, append-nil}
 use Prim.Native.Nat.{ℕ, zero, suc, _+_, _-_, _*_, _≤_, _<_}
 use native.Mathlib.Omega.{arith}
 use native.Mathlib.Numerals.{add-one}
-use lib.Bits.{bitOr, bitXor, and-le-l, and-le-r, or-add-and, xor-add-and, xor-self, or-zero-l}
 use lib.Dec.{eqb, ltb, leb}
 use borrow.Rule.Slice.PartMut.{midOf, putMid, mid-len}
 use lib.Seq.{drop-drop}
@@ -20,36 +19,12 @@ use Rattle.berth.specs.Calls.{isPlace, isBerth, goesIn, putIn, wipedIn, 
 use Rattle.berth.proofs.Berths.{standing-length, where-same}
 use Rattle.berth.proofs.Laid.{zeros-length, zeros-add, laid-length, laid-none, laid-beside}
 use lib.ListN.{length, drop, replicate, drop-of-length-le}
-use borrow.Author.Tests.{eq-eqb, ne-eqb, eqb-true, eqb-false, ltb-true, lt-ltb, le-leb, lt-leb}
-use Rattle.base.specs.Bytes.{byte, part, same, zeros}
+use borrow.Author.Tests.{eq-eqb, ne-eqb, eqb-true, ltb-true, lt-ltb, le-leb, lt-leb}
+use Rattle.base.specs.Bytes.{part, same, zeros}
 use Rattle.base.specs.Below.{every}
 use Rattle.base.specs.Bits.{bit}
 use Rattle.base.proofs.Cases.{by, and-left, and-right}
-use Rattle.base.proofs.Below.{every-next, every-each}
-
-xor-none : (x y : ℕ) → bitXor x y ≡ 0 → x ≡ y
-xor-none x y e = omega (arith, xor-add-and x y, and-le-l x y, and-le-r x y, e)
-
-or-none : (d x : ℕ) → bitOr d x ≡ 0 → d ≡ 0
-or-none d x e = omega (arith, or-add-and d x, and-le-r d x, e)
-
--- two bytes differ in no bit exactly when they are equal
-pub xor-same : (x y : ℕ) → eqb (bitXor x y) 0 ≡ eqb x y
-xor-same x y =
-    by (eqb x y)
-    (λ t. rw (t, eqb-true x y t, xor-self y))
-    (λ f. rw (f, ne-eqb (bitXor x y) 0 (λ z. eqb-false x y f (xor-none x y z))))
-
--- two differences have no bit exactly when neither has one
-pub or-both : (a b : ℕ) → eqb (bitOr a b) 0 ≡ eqb a 0 && eqb b 0
-or-both a b =
-    by (eqb a 0)
-    (λ t. rw (t, eqb-true a 0 t, or-zero-l b))
-    (λ f. rw (f, ne-eqb (bitOr a b) 0 (λ z. eqb-false a 0 f (or-none a b z))))
-
--- no difference yet and none here
-pub gather : (d x y : ℕ) → eqb (bitOr d (bitXor x y)) 0 ≡ eqb d 0 && eqb x y
-gather d x y = or-both d (bitXor x y) ∙ rw (xor-same x y)
+use Rattle.base.proofs.Below.{every-each}
 
 pub filled : (whole now : List ℕ) (i : ℕ) → i ≤ length whole → length whole ≤ i → now ≡ replicate i 0 ++ drop i whole → now ≡ zeros (length whole)
 unfolding zeros
@@ -61,17 +36,6 @@ module _ (a b : List ℕ) where
   pub same-other : (length a ≡ length b → ⊥) → false ≡ same a b
   unfolding same
   same-other h = rw (ne-eqb _ _ h)
-
-  pub same-more : (d i : ℕ) → eqb d 0 ≡ every i (λ k. eqb (byte a k) (byte b k))
-      → eqb (bitOr d (bitXor (byte a i) (byte b i))) 0 ≡ every (i + 1) (λ k. eqb (byte a k) (byte b k))
-  same-more d i e = rw (gather, e) (sym (every-next _ i))
-
-  pub same-end : (d i : ℕ) → length a ≡ length b → i ≤ length a → length a ≤ i
-      → eqb d 0 ≡ every i (λ k. eqb (byte a k) (byte b k)) → eqb d 0 ≡ same a b
-  unfolding same
-  same-end d i h u l e =
-      let n : i ≡ length a = omega arith in
-      e ∙ ap (λ t. every t (λ k. eqb (byte a k) (byte b k))) n ∙ rw (eq-eqb _ _ h)
 
 -- a part that was lent comes back with other bytes
 lent-back : (old : List ℕ) (at end : ℕ) (bytes : List ℕ) → at ≤ end → length bytes ≡ end - at → putMid at (end - at) old bytes ≡ laid old at bytes

@@ -52,21 +52,29 @@ fn copy(section: &[u8], to: &mut [u8])
     }
 }
 
-// Whether two runs of bytes are the same throughout. It reads all of them: without a way out at each byte the compiler
-// compares many at a time.
+// Whether the bytes of a piece from a place on are the same. It reads all of them and keeps a yes or no: without a way out at each byte the
+// compiler compares many at a time, and asks once of all the answers.
+fn same_from(a: &[u8], b: &[u8], from: usize, piece: usize) -> bool
+    requires { ⌜ (from + piece ≤ length (now a)) × (from + piece ≤ length (now b)) ⌝ }
+    ensures { λ r. ⌜ r ≡ every piece (λ k. eqb (byte (now (a .entry)) (from + k)) (byte (now (b .entry)) (from + k))) ⌝ }
+{
+    let mut same = true;
+    let mut i: usize = 0;
+    while i < piece {
+        same = same & (a[from + i] == b[from + i]);
+        i += 1;
+    }
+    same
+}
+
+// Whether two runs of bytes are the same throughout, as one piece.
 fn each_equal(a: &[u8], b: &[u8]) -> bool
     ensures { λ r. ⌜ r ≡ same (now (a .entry)) (now (b .entry)) ⌝ }
 {
     if a.len() != b.len() {
         return false;
     }
-    let mut difference = 0u8;
-    let mut i = 0;
-    while i < a.len() {
-        difference = difference | (a[i] ^ b[i]);
-        i += 1;
-    }
-    difference == 0
+    same_from(a, b, 0, a.len())
 }
 
 // The bytes of a piece that is compared at once.
@@ -75,31 +83,6 @@ const PIECE: usize = 64;
 // The bytes of a piece of the shortest sections, which have at least as many.
 const SHORT_PIECE: usize = 8;
 
-// Two differences as one, which is none exactly when both are. Of a short piece every bit is kept, so that the compiler compares
-// the 8 bytes as one number; of any other the greater, which it finds of many bytes at a time.
-fn gathered(a: u8, b: u8, piece: usize) -> u8
-    ensures { λ r. ⌜ eqb r 0 ≡ (eqb a 0 && eqb b 0) ⌝ }
-{
-    if piece == SHORT_PIECE {
-        return a | b;
-    }
-    if a < b { b } else { a }
-}
-
-// The difference of the bytes of a piece from a place on, which the compiler finds in a few wide steps.
-fn difference_from(a: &[u8], b: &[u8], from: usize, piece: usize) -> u8
-    requires { ⌜ (from + piece ≤ length (now a)) × (from + piece ≤ length (now b)) ⌝ }
-    ensures { λ r. ⌜ eqb r 0 ≡ every piece (λ k. eqb (byte (now (a .entry)) (from + k)) (byte (now (b .entry)) (from + k))) ⌝ }
-{
-    let mut difference = 0u8;
-    let mut i: usize = 0;
-    while i < piece {
-        difference = gathered(difference, a[from + i] ^ b[from + i], piece);
-        i += 1;
-    }
-    difference
-}
-
 // Whether two runs of a piece's bytes, or up to twice as many, are the same throughout. They are two pieces, which may overlap:
 // the last is compared, and then the first, unless they are one and the same.
 fn by_pieces(a: &[u8], b: &[u8], piece: usize) -> bool
@@ -107,13 +90,13 @@ fn by_pieces(a: &[u8], b: &[u8], piece: usize) -> bool
     ensures { λ r. ⌜ r ≡ same (now (a .entry)) (now (b .entry)) ⌝ }
 {
     let size = a.len();
-    if difference_from(a, b, size - piece, piece) != 0 {
+    if !same_from(a, b, size - piece, piece) {
         return false;
     }
     if size == piece {
         return true;
     }
-    difference_from(a, b, 0, piece) == 0
+    same_from(a, b, 0, piece)
 }
 
 // Whether two runs of bytes are the same throughout. From 64 to 128 bytes are two pieces of 64, and from 8 to 16 two of 8.

@@ -8,7 +8,7 @@ use lib.ListN.{length, take, drop, length-take}
 use Rattle.base.specs.Octets.{Octets}
 use Rattle.base.specs.Bytes.{part}
 use Rattle.base.proofs.Bytes.{octets-part}
-use Rattle.shelf.specs.declared.Key.{Key}
+use Rattle.key.specs.declared.Key.{Key}
 use Rattle.shelf_ask.specs.Ask.{Copy}
 use Rattle.shelf_ask.specs.declared.Copied.{Copied}
 use Rattle.answers.specs.Answers.{sizeIn}
@@ -33,13 +33,16 @@ use Rattle.demands.proofs.Shelf.{by-complete}
 
 pub section-written : SectionWritten
 unfolding sectionLent
-section-written label body five fits k known output room =
+section-written label body other five fits k known output room =
     ap writeOut
     (write-answered label body k output (
-      λ (l : longestBody < length body). omega arith,
+      other,
       (
-        λ (l : 31 < label .version). omega arith,
-        (λ (l : lastOf (length body) < k). omega arith, (λ (l : length output < length (written label body k)). omega arith, tt)),
+        λ (l : longestBody < length body). omega arith,
+        (
+          λ (l : 31 < label .version). omega arith,
+          (λ (l : lastOf (length body) < k). omega arith, (λ (l : length output < length (written label body k)). omega arith, tt)),
+        ),
       ),
     ))
 
@@ -77,7 +80,7 @@ offers-octets label body five fits b (k ∷ ks) known = (
 )
 
 pub can-be-offered : CanBeOffered
-can-be-offered label body five fits ks any b l sizes = (
+can-be-offered label body other five fits ks any b l sizes = (
   record { lent = l; sizes = sizes; calls = layer.offersOf label body ks; bytes = offers-octets label body five fits b ks (any .known) },
   refl,
   refl,
@@ -90,20 +93,20 @@ body-same c r = go (c .said) r
     go : (a : Copied) → CopyRange a → drop 8 (take (sizeIn (copiedCode a)) (c .out)) ≡ layer.bodyIn a (c .out)
     go (Copied.Bytes n) r = ap (λ m. drop 8 (take m (c .out))) (size-in n r)
     go (Copied.Refused n) r =
-        let b : n ≤ 16 = r .1 in
+        let b : n ≤ 46 = r .1 in
         let z : sizeIn n ≡ 0 = omega arith in
         ap (λ m. drop 8 (take m (c .out))) z
 
 pub complete-table : CompleteTable
-complete-table label body five fits ks any h e =
+complete-table label body other five fits ks any h e =
     by-complete h (layer.labelKey label)
-    (ap (λ cs. wholeIn (afterAll cs) (layer.labelKey label)) e ∙ order.complete-table label body five fits ks any)
+    (ap (λ cs. wholeIn (afterAll cs) (layer.labelKey label)) e ∙ order.complete-table label body other five fits ks any)
 
 pub hands-out : HandsOut
-hands-out label body five fits ks any h e k known output room =
+hands-out label body other five fits ks any h e k known output room =
     reply-after h (copy (layer.labelKey label) k output)
     ∙ ap ask-answer.copyOut
-    (ap (λ cs. copyOut (afterAll cs) (layer.labelKey label) k output) e ∙ order.hands-out label body five fits ks any k known output room)
+    (ap (λ cs. copyOut (afterAll cs) (layer.labelKey label) k output) e ∙ order.hands-out label body other five fits ks any k known output room)
 
 bodies-same : (h : History) (key : Key) (output : List ℕ) (n : ℕ) → bodiesAfter h key output n ≡ layer.bodiesAfter (h .calls) key output n
 bodies-same h key output zero = refl
@@ -114,7 +117,7 @@ bodies-same h key output (suc n) =
     ∙ body-same (copyOut (afterAll (h .calls)) key n output) (reply-range h (copy key n output)))
 
 pub bodies-back : BodiesBack
-bodies-back label body five fits ks any h e output room =
+bodies-back label body other five fits ks any h e output room =
     bodies-same h (layer.labelKey label) output (lastOf (length body) + 1)
     ∙ ap (λ cs. layer.bodiesAfter cs (layer.labelKey label) output (lastOf (length body) + 1)) e
-    ∙ order.bodies-back label body five fits ks any output room
+    ∙ order.bodies-back label body other five fits ks any output room

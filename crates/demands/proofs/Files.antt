@@ -7,7 +7,7 @@ use mathlib.Core.Logic.{_↔_}
 use Prim.Native.Nat.{ℕ, _≤_}
 use native.Mathlib.Omega.{arith}
 use lib.ListN.{take}
-use Rattle.shelf.specs.declared.Key.{Key}
+use Rattle.key.specs.declared.Key.{Key}
 use Rattle.shelf.specs.Record.{keyOf}
 use Rattle.shelf_load.specs.declared.Loaded.{Loaded}
 use Rattle.shelf_save.specs.Save.{Save}
@@ -54,7 +54,7 @@ written c r e = go (c .said) refl r e
           said = q;
           file = ap (λ a. take (sizeIn (savedCode a)) (c .out)) q ∙ ap (λ m. take m (c .out)) (size-in n r);
         }
-    go (Saved.Refused n) q r e = let a : 1 ≤ n = r .0 in let b : n ≤ 16 = r .1 in absurd (omega arith)
+    go (Saved.Refused n) q r e = let a : 1 ≤ n = r .0 in let b : n ≤ 46 = r .1 in absurd (omega arith)
 
 -- the number of a load, by the layer's answer
 pub load-code : (h : History) (file : List ℕ) → loadAfter h file .code ≡ loadedCode (loadOn (afterAll (h .calls)) file .said)

@@ -21,7 +21,7 @@ use Rattle.demands.proofs.Shelf.{same-log}
 
 -- the answer comes back out of its number
 back : (a : Offered) → OfferRange a → offeredIn (offeredCode a) ≡ a
-back a r = offered-back a (λ n e. let m : n ≤ 16 = subst OfferRange e r .1 in omega arith)
+back a r = offered-back a (λ n e. let m : n ≤ 46 = subst OfferRange e r .1 in omega arith)
 
 module _ (h : History) (payload : List ℕ) where
   abbrev said : Offered
@@ -45,7 +45,7 @@ pub unsound-answered : UnsoundAnswered
 unsound-answered h payload n e = told h payload ∙ ap offeredCode (says.unsound-said (h .calls) payload n e)
 
 pub nine-exactly : NineExactly
-nine-exactly = offered-exactly (Offered.Refused 9) (omega arith, omega arith)
+nine-exactly = offered-exactly (Offered.Refused 9) (omega arith, omega arith, λ e. omega arith, λ e. omega arith)
 
 pub began-exactly : BeganExactly
 began-exactly = offered-exactly Offered.Began tt
@@ -60,4 +60,4 @@ pub repeat-exactly : RepeatExactly
 repeat-exactly = offered-exactly Offered.Repeat tt
 
 pub ten-exactly : TenExactly
-ten-exactly = offered-exactly (Offered.Refused 10) (omega arith, omega arith)
+ten-exactly = offered-exactly (Offered.Refused 10) (omega arith, omega arith, λ e. omega arith, λ e. omega arith)

@@ -8,7 +8,7 @@ use Prim.Native.Nat.{ℕ, _≤_}
 use native.Mathlib.Omega.{arith}
 use Rattle.base.specs.Choice.{if_then_else_}
 use Rattle.section.specs.Section.{sectionNumber}
-use Rattle.shelf.specs.declared.Key.{Key}
+use Rattle.key.specs.declared.Key.{Key}
 use Rattle.shelf_offer.specs.declared.Offered.{Offered}
 use Rattle.shelf_ask.specs.declared.Whole.{Whole}
 use Rattle.answers.specs.Answers.{refusalIn}
@@ -25,7 +25,7 @@ use Rattle.shelf_laws.proofs.Reception as reception
 use Rattle.shelf_laws.proofs.HandedOut as handed
 use Rattle.shelf_laws.proofs.Questions as questions
 use Rattle.shelf_laws.proofs.Ranges.{OfferRange, Range, range, ranges-all}
-use Rattle.shelf_laws.proofs.Never.{most-16}
+use Rattle.shelf_laws.proofs.Never.{entry-late}
 use Rattle.shelf_laws.proofs.Histories.{holds-all}
 use Rattle.shelf_offer.specs.Answer.{offeredCode}
 use Rattle.shelf_release.specs.declared.Released.{Released}
@@ -45,15 +45,15 @@ accepted-by Offered.Began r e = refl
 accepted-by Offered.BeganAgain r e = refl
 accepted-by Offered.Added r e = refl
 accepted-by Offered.Repeat r e = refl
-accepted-by (Offered.Refused n) r e = let a : 1 ≤ n = r .0 in let b : n ≤ 16 = r .1 in absurd (omega arith)
+accepted-by (Offered.Refused n) r e = let a : 1 ≤ n = r .0 in let b : n ≤ 46 = r .1 in absurd (omega arith)
 
 each-number : (log : List Entry) → Each Range log
     → EachLine (λ l. (refusalIn (l .answer .code) ≡ 17 → ⊥) × (refusalIn (l .answer .code) ≡ 18 → ⊥)) (inNumbers log)
 each-number [] r = tt
 each-number (e ∷ log) r =
-    let b : numberIn e ≤ 16 = most-16 e (r .0) in
+    let b = entry-late e (r .0) in
     let n : refusalIn (answered e .code) ≡ numberIn e = entry-number e (r .0) in
-    ((λ z. omega arith, λ z. omega arith), each-number log (r .1))
+    ((λ z. b .0 (sym n ∙ z), λ z. b .1 (sym n ∙ z)), each-number log (r .1))
 
 pub same-log : (h : History) → logAfter h ≡ logOf (h .calls)
 same-log h = one-history .1 h .log

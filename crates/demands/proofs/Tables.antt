@@ -10,12 +10,12 @@ use lib.ListN.{length, drop}
 use Rattle.base.specs.Octets.{Octets}
 use Rattle.answers.specs.Answers.{told, out, puts}
 use Rattle.answers.proofs.Puts.{puts-refused, puts-values, puts-accepted}
-use Rattle.shelf.specs.declared.Key.{Key}
+use Rattle.key.specs.declared.Key.{Key}
 use Rattle.shelf.specs.Record.{freeOf}
 use Rattle.shelf.specs.Layout.{shelfAt}
 use Rattle.shelf.proofs.Lists.{length-listed}
 use Rattle.shelf_ask.specs.Answer.{tableLent}
-use Rattle.shelf_ask.proofs.Tables.{twenty}
+use Rattle.shelf_ask.proofs.Tables.{whole-told}
 use Rattle.shelf_load.specs.declared.Loaded.{Loaded}
 use Rattle.shelf_load.specs.Answer.{loadedIn, loadedCode}
 use Rattle.file.specs.Scan.{scanOf}
@@ -39,13 +39,13 @@ same-state h = one-history .1 h .state
 
 -- a table's numbers, put into a buffer
 module _ (h : History) (p : ℕ) where
-  put-told : (key : Key) → tellsOf (afterAll (h .calls)) p ≡ told 0 (numbersBy key (logOf (h .calls))) → (fields : List ℕ) → 20 ≤ length fields
-      → tableLent (leftAfter h .words) (leftAfter h .store) p fields ≡ out 0 (numbersBy key (logAfter h) ++ drop 20 fields)
+  put-told : (key : Key) → tellsOf (afterAll (h .calls)) p ≡ told 0 (numbersBy key (logOf (h .calls))) → (fields : List ℕ) → 23 ≤ length fields
+      → tableLent (leftAfter h .words) (leftAfter h .store) p fields ≡ out 0 (numbersBy key (logAfter h) ++ drop 23 fields)
   unfolding tableLent
   put-told key e fields room =
       let values : List ℕ = numbersBy key (logAfter h) in
       let sixteen = length-listed 16 (lengthSince key (logAfter h)) in
-      let long : length values ≡ 20 = rw sixteen in
+      let long : length values ≡ 23 = rw sixteen in
       let fits : length values ≤ length fields = omega arith in
       ap (λ s. puts (tellsOf s p) fields) (same-state h)
       ∙ ap (λ t. puts t fields) e
@@ -99,10 +99,10 @@ module _ (h : History) (file : List ℕ) (octets : Octets file) (e : loadAfter h
   told-file : fileTold file .number ≡ 0
   told-file = tables.load-told (h .calls) file done .0
 
-  long-file : length (fileTold file .values) ≡ 20
+  long-file : length (fileTold file .values) ≡ 23
   long-file =
       sym (ap (λ t. length (t .values)) same-tells)
-      ∙ twenty (loadAfter h file .words) (length (loadAfter h file .store)) (freeOf (shelfAt (leftAfter h .words)))
+      ∙ whole-told (loadAfter h file .words) (length (loadAfter h file .store)) (freeOf (shelfAt (leftAfter h .words)))
       (ap (λ t. t .number) same-tells ∙ told-file)
 
 pub load-told : LoadTold

@@ -6,7 +6,8 @@ use mathlib.Core.List.{List, [], _++_}
 use lib.ListN.{length, take, drop}
 use Rattle.base.specs.Octets.{Octets}
 use Rattle.answers.specs.Answers.{Out, sizeIn, filled}
-use Rattle.shelf.specs.declared.Key.{Key}
+use Rattle.key.specs.declared.Key.{Key}
+use Rattle.key.specs.Key.{nrtIt}
 use Rattle.writer.specs.Writer.{longestBody, lastOf, written}
 use Rattle.writer.specs.Answer.{sectionLent}
 use Rattle.writer.specs.declared.Label.{Label}
@@ -20,6 +21,7 @@ use Rattle.demands.specs.Shelf.{complete}
 abbrev pub SectionWritten : Type 0
 SectionWritten =
     (label : Label) (body : List ℕ)
+    → ¬ (label .table ≡ nrtIt)
     → label .version ≤ 31
     → length body ≤ longestBody
     → (k : ℕ)

@@ -9,7 +9,7 @@ use lib.ListN.{length, take}
 use Rattle.base.specs.Octets.{Octets}
 use Rattle.section.specs.declared.Header.{Header}
 use Rattle.answers.specs.Answers.{Out, refusalIn, sizeIn, filled}
-use Rattle.shelf.specs.declared.Key.{Key}
+use Rattle.key.specs.declared.Key.{Key}
 use Rattle.shelf.specs.Record.{keyOf}
 use Rattle.shelf_load.specs.declared.Loaded.{Loaded}
 use Rattle.shelf_load.specs.Answer.{loadedIn}

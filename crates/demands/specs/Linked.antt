@@ -14,7 +14,7 @@ use Rattle.shelf_load.specs.Answer.{loadLent}
 use Rattle.file_table.specs.Answer.{fileTableLent}
 use Rattle.writer.specs.Answer.{label, sectionLent}
 use Rattle.clock_answers.specs.Calls.{freshCall, offerCall, moveCall, timeCall, stateCall}
-use Rattle.khumsafil.specs.Shelf.{givenKey}
+use Rattle.key.specs.Key.{keyFrom}
 use Rattle.khumsafil.proofs.shelves.khumsafil_raw_shelf_begin.Reads as shelf-begin
 use Rattle.khumsafil.proofs.shelves.khumsafil_raw_shelf_offer.Reads as shelf-offer
 use Rattle.khumsafil.proofs.shelves.khumsafil_raw_shelf_complete.Reads as shelf-complete
@@ -45,23 +45,23 @@ OfferLinked =
     (κs : _) (a : _) (z : _) (e : _) → shelf-offer.Learnt κs a z e
     → lent z (now (e .0)) (now (e .1 .0)) ≡ offerLent (now (a .0)) (now (a .1 .0)) (now (a .1 .1 .0))
 
--- record, store, table, extension
+-- record, store, table, extension, service, start
 abbrev pub CompleteLinked : Type 0
 CompleteLinked =
     (κs : _) (a : _) (z : _) (e : _) → shelf-complete.Learnt κs a z e
-    → z ≡ wholeLent (now (a .0)) (now (a .1 .0)) (givenKey (a .1 .1 .0) (a .1 .1 .1 .0))
+    → z ≡ wholeLent (now (a .0)) (now (a .1 .0)) (keyFrom (a .1 .1 .0) (a .1 .1 .1 .0) (a .1 .1 .1 .1 .0) (a .1 .1 .1 .1 .1 .0))
 
--- record, store, table, extension
+-- record, store, table, extension, service, start
 abbrev pub LampLinked : Type 0
 LampLinked =
     (κs : _) (a : _) (z : _) (e : _) → shelf-is-complete.Learnt κs a z e
-    → z ≡ completeLent (now (a .0)) (now (a .1 .0)) (givenKey (a .1 .1 .0) (a .1 .1 .1 .0))
+    → z ≡ completeLent (now (a .0)) (now (a .1 .0)) (keyFrom (a .1 .1 .0) (a .1 .1 .1 .0) (a .1 .1 .1 .1 .0) (a .1 .1 .1 .1 .1 .0))
 
--- record, store, table, extension
+-- record, store, table, extension, service, start
 abbrev pub MissingLinked : Type 0
 MissingLinked =
     (κs : _) (a : _) (z : _) (e : _) → shelf-missing.Learnt κs a z e
-    → z ≡ missingLent (now (a .0)) (now (a .1 .0)) (givenKey (a .1 .1 .0) (a .1 .1 .1 .0))
+    → z ≡ missingLent (now (a .0)) (now (a .1 .0)) (keyFrom (a .1 .1 .0) (a .1 .1 .1 .0) (a .1 .1 .1 .1 .0) (a .1 .1 .1 .1 .1 .0))
 
 -- record, store, place, fields
 abbrev pub TableLinked : Type 0
@@ -69,25 +69,25 @@ TableLinked =
     (κs : _) (a : _) (z : _) (e : _) → shelf-table.Learnt κs a z e
     → out z (now (e .1 .1 .1 .0)) ≡ tableLent (now (a .0)) (now (a .1 .0)) (a .1 .1 .0) (now (a .1 .1 .1 .0))
 
--- record, store, table, extension, number, out
+-- record, store, table, extension, service, start, number, out
 abbrev pub CopyLinked : Type 0
 CopyLinked =
     (κs : _) (a : _) (z : _) (e : _) → shelf-copy.Learnt κs a z e
-    → out z (now (e .1 .1 .1 .1 .1 .0))
-    ≡ copyLent (now (a .0)) (now (a .1 .0)) (givenKey (a .1 .1 .0) (a .1 .1 .1 .0)) (a .1 .1 .1 .1 .0) (now (a .1 .1 .1 .1 .1 .0))
+    → out z (now (e .1 .1 .1 .1 .1 .1 .1 .0))
+    ≡ copyLent (now (a .0)) (now (a .1 .0)) (keyFrom (a .1 .1 .0) (a .1 .1 .1 .0) (a .1 .1 .1 .1 .0) (a .1 .1 .1 .1 .1 .0)) (a .1 .1 .1 .1 .1 .1 .0) (now (a .1 .1 .1 .1 .1 .1 .1 .0))
 
--- record, store, table, extension
+-- record, store, table, extension, service, start
 abbrev pub ReleaseLinked : Type 0
 ReleaseLinked =
     (κs : _) (a : _) (z : _) (e : _) → shelf-release.Learnt κs a z e
-    → lent z (now (e .0)) (now (e .1 .0)) ≡ releaseLent (now (a .0)) (now (a .1 .0)) (givenKey (a .1 .1 .0) (a .1 .1 .1 .0))
+    → lent z (now (e .0)) (now (e .1 .0)) ≡ releaseLent (now (a .0)) (now (a .1 .0)) (keyFrom (a .1 .1 .0) (a .1 .1 .1 .0) (a .1 .1 .1 .1 .0) (a .1 .1 .1 .1 .1 .0))
 
--- record, store, table, extension, out
+-- record, store, table, extension, service, start, out
 abbrev pub SaveLinked : Type 0
 SaveLinked =
     (κs : _) (a : _) (z : _) (e : _) → shelf-save.Learnt κs a z e
-    → out z (now (e .1 .1 .1 .1 .0))
-    ≡ saveLent (now (a .0)) (now (a .1 .0)) (givenKey (a .1 .1 .0) (a .1 .1 .1 .0)) (now (a .1 .1 .1 .1 .0))
+    → out z (now (e .1 .1 .1 .1 .1 .1 .0))
+    ≡ saveLent (now (a .0)) (now (a .1 .0)) (keyFrom (a .1 .1 .0) (a .1 .1 .1 .0) (a .1 .1 .1 .1 .0) (a .1 .1 .1 .1 .1 .0)) (now (a .1 .1 .1 .1 .1 .1 .0))
 
 -- record, store, file
 abbrev pub LoadLinked : Type 0

@@ -10,7 +10,7 @@ use mathlib.Core.Logic.{_↔_, _⊎_}
 use mathlib.Core.List.{List}
 use Rattle.section.specs.Section.{readOf, version, sectionNumber, lastSectionNumber}
 use Rattle.section.specs.declared.Reading.the-variants.{Refused}
-use Rattle.shelf.specs.declared.Key.{Key}
+use Rattle.key.specs.declared.Key.{Key}
 use Rattle.shelf_offer.specs.declared.Offered.{Offered}
 use Rattle.shelf_offer.specs.Answer.{offeredCode}
 use Rattle.shelf_laws.specs.History.{Entry}

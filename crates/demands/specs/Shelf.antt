@@ -23,7 +23,7 @@ use Rattle.base.specs.Choice.{if_then_else_}
 use Rattle.base.specs.Octets.{Octets}
 use Rattle.section.specs.Section.{sectionNumber}
 use Rattle.answers.specs.Answers.{refusalIn, filled}
-use Rattle.shelf.specs.declared.Key.{Key}
+use Rattle.key.specs.declared.Key.{Key}
 use Rattle.shelf_ask.specs.declared.Whole.{Whole}
 use Rattle.shelf_ask.specs.Answer.{wholeCode, completeLent, copyLent}
 use Rattle.shelf_laws.specs.History.{Question, about, Each}

@@ -9,7 +9,7 @@ use lib.ListN.{length, drop}
 use Rattle.base.specs.Octets.{Octets}
 use Rattle.answers.specs.Answers.{Told, told, Out, out}
 use Rattle.berth.specs.Berth.{places}
-use Rattle.shelf.specs.declared.Key.{Key}
+use Rattle.key.specs.declared.Key.{Key}
 use Rattle.shelf.specs.Record.{freeOf}
 use Rattle.shelf.specs.Layout.{shelfAt}
 use Rattle.shelf_ask.specs.Tables.{tableTold}
@@ -27,9 +27,9 @@ tells l p = tableTold (shelfAt l.words) (length l.store) p
 abbrev pub tableAfter : History → ℕ → List ℕ → Out
 tableAfter h p fields = tableLent (leftAfter h .words) (leftAfter h .store) p fields
 
--- the buffer with a table's twenty numbers, by the log
+-- the buffer with a table's twenty-three numbers, by the log
 abbrev pub toldIn : History → Key → List ℕ → Out
-toldIn h key fields = out 0 (numbersBy key (logAfter h) ++ drop 20 fields)
+toldIn h key fields = out 0 (numbersBy key (logAfter h) ++ drop 23 fields)
 
 -- after any history a table that the log holds is in a place, which tells its key, its version and its last number as it last began, and of each
 -- section the length with which it was last accepted or loaded since, and 0 for one that was not
@@ -37,13 +37,13 @@ abbrev pub HeldTold : Type 0
 HeldTold =
     (h : History) (key : Key)
     → heldBy key (logAfter h) ≡ true
-    → (p : ℕ) × (p < places) × ((fields : List ℕ) → 20 ≤ length fields → tableAfter h p fields ≡ toldIn h key fields)
+    → (p : ℕ) × (p < places) × ((fields : List ℕ) → 23 ≤ length fields → tableAfter h p fields ≡ toldIn h key fields)
 
 -- and a place tells nothing else: it is refused 14, or is one of the four and has a table that the log holds
 abbrev pub ToldHeld : Type 0
 ToldHeld =
     (h : History) (p : ℕ) (fields : List ℕ)
-    → 20 ≤ length fields
+    → 23 ≤ length fields
     → (tableAfter h p fields ≡ out 14 fields)
     ⊎ ((p < places) × ((key : Key) × (heldBy key (logAfter h) ≡ true) × (tableAfter h p fields ≡ toldIn h key fields)))
 
@@ -62,7 +62,7 @@ LoadTold =
     → loadAfter h file .code ≡ 0
     → (freeOf (shelfAt (leftAfter h .words)) < places)
     × ((fields : List ℕ)
-    → 20 ≤ length fields
+    → 23 ≤ length fields
     → (fileTableLent file fields .code ≡ 0)
     × (tableLent (loadAfter h file .words) (loadAfter h file .store) (freeOf (shelfAt (leftAfter h .words))) fields ≡ fileTableLent file fields))
 

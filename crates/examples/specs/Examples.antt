@@ -41,7 +41,7 @@ header indicators length current n last =
 abbrev sound : ℕ → Reading
 sound last =
     Reading.Sound
-    (record { table = 0xC9; extension = 0x1234; version = 3; number = 0; last = last; start = 8; length = 0 })
+    (record { key = record { table = 0xC9; extension = 0x1234; service = 0; start = 0 }; version = 3; number = 0; last = last; start = 8; length = 0 })
 
 -- the trigger of P10
 abbrev tapped : List ℕ

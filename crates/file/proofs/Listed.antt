@@ -6,6 +6,7 @@ use mathlib.Core.Bool.{true}
 use mathlib.Core.List.{List, [], _∷_, _++_, append-assoc}
 use Prim.Native.Nat.{ℕ}
 use borrow.Author.Tests.{eq-eqb}
+use Rattle.key.proofs.Keys.{key-itself}
 use Rattle.section.specs.declared.Header.{Header}
 use Rattle.file.specs.Layout.{listed, sameTable}
 
@@ -18,8 +19,7 @@ pub same-refl : (h : Header) → sameTable h h ≡ true
 unfolding sameTable
 same-refl h =
     rw (
-      eq-eqb (h .table) (h .table) refl,
-      eq-eqb (h .extension) (h .extension) refl,
+      key-itself (h .key),
       eq-eqb (h .version) (h .version) refl,
       eq-eqb (h .last) (h .last) refl,
     )

@@ -9,18 +9,17 @@ use Rattle.answers.proofs.Same.{valueless}
 use Rattle.file.specs.Answer.{Scan-Told}
 use Rattle.file.specs.declared.Scan.{Scan}
 
--- the table of the header whose fields are a list's first seven
+-- the table of the header whose fields are a list's first nine
 abbrev tableFrom : List ℕ → Scan
 tableFrom l =
     Scan.Table
     (record {
-      table = getD l 0 0;
-      extension = getD l 1 0;
-      version = getD l 2 0;
-      number = getD l 3 0;
-      last = getD l 4 0;
-      start = getD l 5 0;
-      length = getD l 6 0;
+      key = record { table = getD l 0 0; extension = getD l 1 0; service = getD l 2 0; start = getD l 3 0 };
+      version = getD l 4 0;
+      number = getD l 5 0;
+      last = getD l 6 0;
+      start = getD l 7 0;
+      length = getD l 8 0;
     })
 
 pub scan-told : Scan-Told

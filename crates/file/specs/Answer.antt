@@ -7,7 +7,8 @@ use Rattle.file.specs.declared.Scan.{Scan}
 -- what the first section's header says
 abbrev pub scanTold : Scan → Told
 scanTold (Scan.Table h) =
-    told 0 (h .table ∷ h .extension ∷ h .version ∷ h .number ∷ h .last ∷ h .start ∷ h .length ∷ [])
+    told 0
+    (h .key .table ∷ h .key .extension ∷ h .key .service ∷ h .key .start ∷ h .version ∷ h .number ∷ h .last ∷ h .start ∷ h .length ∷ [])
 scanTold (Scan.Refused n) = told n []
 
 -- they lose nothing

@@ -7,6 +7,7 @@ use mathlib.Core.List.{List, [], _∷_, _++_}
 use lib.Dec.{eqb}
 use lib.ListN.{length}
 use Rattle.base.specs.Choice.{if_then_else_}
+use Rattle.key.specs.Key.{sameKey}
 use Rattle.section.specs.Section.{readOf, headerOf, headerSize, largestSection, mostSections}
 use Rattle.section.specs.declared.Header.{Header}
 use Rattle.section.specs.declared.Reading.the-variants.{Sound}
@@ -50,9 +51,7 @@ chosen (suc n) picks each = chosen n picks each ++ (if picks n then each n ∷ [
 
 -- two sections share key, version and last number
 unfoldable pub sameTable : Header → Header → Bool
-sameTable a b =
-    eqb (a .table) (b .table)
-    && (eqb (a .extension) (b .extension) && (eqb (a .version) (b .version) && eqb (a .last) (b .last)))
+sameTable a b = sameKey (a .key) (b .key) && (eqb (a .version) (b .version) && eqb (a .last) (b .last))
 
 -- sections that are sound, share the table of the first, and rise from a lowest number
 abbrev pub Rising : Header → ℕ → List (List ℕ) → Type 0

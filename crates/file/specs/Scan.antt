@@ -1,6 +1,6 @@
 -- Document 01, "The shelf file": reading. "Loading reads left to right and the first fault from the left gives the answer. A fault
 -- inside a section gives that section's own number, 2 to 8. At each section the order is 11, its length and running past the file
--- (12), its own number, then key, version, last and rising number (12)."
+-- (12), its own number, then key, version, last and rising number (12)." Document 02, request 4: 46 is a section's own number as well.
 use Prim.Native.Nat.{ℕ, zero, suc, _+_}
 use mathlib.Core.List.{List, [], _∷_}
 use mathlib.Core.Bool.{Bool, true, false, not, _||_}
@@ -38,7 +38,15 @@ accepted seen = record { answer = Scan.Table (seen .first); starts = seen .start
 
 -- what stands for the first section's header before there is one
 abbrev pub noHeader : Header
-noHeader = record { table = 0; extension = 0; version = 0; number = 0; last = 0; start = 0; length = 0 }
+noHeader =
+    record {
+      key = record { table = 0; extension = 0; service = 0; start = 0 };
+      version = 0;
+      number = 0;
+      last = 0;
+      start = 0;
+      length = 0;
+    }
 
 -- no section is read yet: any number may come first, and it comes at a place of the file
 abbrev pub nothing : ℕ → Seen
@@ -68,7 +76,7 @@ added seen h start size =
       lengths = set (seen .lengths) (h .number) size;
     }
 
--- its own number, 2 to 8
+-- its own number, 2 to 8 or 46
 abbrev pub readingOf : ℕ → ℕ → Reading → Part
 readingOf start size (Reading.Sound h) = Part.Section h start size
 readingOf start size (Reading.Refused n) = Part.Refused n

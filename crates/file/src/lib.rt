@@ -1,6 +1,7 @@
 // Reads a shelf file (document 01, "The shelf file") from left to right: which table it is, and where in the file each of its
 // sections lies. Nothing is copied, and the first fault from the left is the answer.
 use file_number::Number;
+use key::Key;
 use section::Header;
 use section::Reading;
 ghost use mathlib.Core.Path.{_≡_};
@@ -114,10 +115,9 @@ fn first_of(begun: bool, first: Header, header: Header) -> Header
 fn same_table(a: Header, b: Header) -> bool
     ensures { λ r. ⌜ r ≡ sameTable a b ⌝ }
 {
-    if a.table != b.table {
-        return false;
-    }
-    if a.extension != b.extension {
+    let one = a.key;
+    let other = b.key;
+    if !key::same(one, other) {
         return false;
     }
     if a.version != b.version {
@@ -133,8 +133,12 @@ fn scan_sections(file: &[u8], count: usize, from: usize) -> Scanned
     // What the sections read so far say, as plain locals: a struct with the two arrays would be copied at each section.
     let mut begun = false;
     let mut first = Header {
-        table: 0,
-        extension: 0,
+        key: Key {
+            table: 0,
+            extension: 0,
+            service: 0,
+            start: 0,
+        },
         version: 0,
         number: 0,
         last: 0,
@@ -206,7 +210,7 @@ fn read_count(file: &[u8], at: usize) -> Scanned
     }
 }
 
-// The table that the file holds, or the first fault from the left: 11, 12, or a section's own number, 2 to 8.
+// The table that the file holds, or the first fault from the left: 11, 12, or a section's own number, 2 to 8 or 46.
 pub fn read_file(file: &[u8]) -> Scanned
     ensures { λ r. ⌜ r ≡ scanOf (now (file .entry)) ⌝ }
 {

@@ -4,7 +4,7 @@
 --   one-fault           a file has no two faults of different numbers
 --   good-or-fault       a file is the file of a sound table, or has a fault, and not both
 use mathlib.Core.Path.{_≡_, refl, sym, ap, subst, _∙_}
-use mathlib.Core.Bool.{Bool, true, false, _||_}
+use mathlib.Core.Bool.{Bool, true, false, _&&_, _||_}
 use mathlib.Core.List.{List, [], _∷_, _++_, append-assoc, append-nil}
 use mathlib.Core.Logic.{_↔_, _⊎_, ⊎-elim, inl, inr}
 use Prim.Native.Nat.{ℕ, zero, suc, _+_, _-_, _<_, _≤_}
@@ -17,7 +17,9 @@ use Rattle.base.specs.Bytes.{part}
 use Rattle.base.specs.Tables.{Decides}
 use Rattle.base.proofs.Bytes.{length-part}
 use Rattle.base.proofs.Cases.{by, unlike, or-left, or-right}
-use Rattle.base.proofs.Tables.{words, fails}
+use Rattle.base.proofs.Tables.{same, and-so, fails}
+use Rattle.key.specs.Key.{sameKey}
+use Rattle.key.proofs.Keys.{same-key, one-said, is-one}
 use Rattle.section.specs.Section.{readOf, headerOf}
 use Rattle.section.specs.declared.Header.{Header}
 use Rattle.section.specs.declared.Reading.{Reading}
@@ -41,30 +43,30 @@ use Rattle.file_laws.proofs.Only.{bytes-drop, spelt-here, parted, sized
 use Rattle.file_laws.proofs.Files.{IsFile, accepted-exactly}
 use Rattle.file_laws.proofs.FirstFault.{firstOr, lowestAfter, section-moved, moved, first-fault, other-table, not-rising, left-over}
 
--- the test for one table says that none of the four differs
-same-so : (a b : Header) → Decides (sameTable a b) ((a .table ≡ b .table) × ((a .extension ≡ b .extension) × ((a .version ≡ b .version) × (a .last ≡ b .last))))
+-- the test for one table says that none of the three differs
+same-so : (a b : Header) → Decides (sameTable a b) ((a .key ≡ b .key) × ((a .version ≡ b .version) × (a .last ≡ b .last)))
 unfolding sameTable
-same-so a b = search words depth 12
+same-so a b =
+    and-so (sameKey (a .key) (b .key)) (eqb (a .version) (b .version) && eqb (a .last) (b .last))
+    (same-key (a .key) (b .key), λ e. one-said (a .key) (b .key) (is-one (a .key) (b .key) e))
+    (and-so (eqb (a .version) (b .version)) (eqb (a .last) (b .last)) (same (a .version) (b .version)) (same (a .last) (b .last)))
 
 differs-so : (a b : List ℕ) → Differs a b → sameTable (headerOf a) (headerOf b) ≡ false
 differs-so a b d =
     fails (sameTable (headerOf a) (headerOf b)) (same-so (headerOf a) (headerOf b))
-    (λ s. ⊎-elim (λ n. n (s .0)) (⊎-elim (λ n. n (s .1 .0)) (⊎-elim (λ n. n (s .1 .1 .0)) (λ n. n (s .1 .1 .1)))) d)
+    (λ s. ⊎-elim (λ n. n (s .0)) (⊎-elim (λ n. n (s .1 .0)) (λ n. n (s .1 .1))) d)
 
 so-differs : (a b : List ℕ) → sameTable (headerOf a) (headerOf b) ≡ false → Differs a b
 unfolding sameTable
 so-differs a b e =
     let h = headerOf a in
     let k = headerOf b in
-    by (eqb (h .table) (k .table))
+    by (sameKey (h .key) (k .key))
     (λ t.
-    by (eqb (h .extension) (k .extension))
-    (λ u.
     by (eqb (h .version) (k .version))
-    (λ v. inr (inr (inr (eqb-false (h .last) (k .last) (rw (t, u, v) at e)))))
-    (λ v. inr (inr (inl (eqb-false (h .version) (k .version) v)))))
-    (λ u. inr (inl (eqb-false (h .extension) (k .extension) u))))
-    (λ t. inl (eqb-false (h .table) (k .table) t))
+    (λ v. inr (inr (eqb-false (h .last) (k .last) (rw (t, v) at e))))
+    (λ v. inr (inl (eqb-false (h .version) (k .version) v))))
+    (λ t. inl (λ q. unlike (sym (one-said (h .key) (k .key) (is-one (h .key) (k .key) q)) ∙ t)))
 
 -- one section more, behind others
 lowest-append : (low : ℕ) (ss : List (List ℕ)) (s : List ℕ) → lowestAfter low (ss ++ (s ∷ [])) ≡ headerOf s .number + 1

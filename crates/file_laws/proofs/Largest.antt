@@ -7,6 +7,7 @@ use Prim.Native.Nat.{ℕ, zero, suc, _+_, _*_, _≤_}
 use native.Mathlib.Omega.{arith}
 use lib.ListN.{length, replicate, length-append}
 use borrow.Author.Tests.{le-ltb}
+use Rattle.key.specs.Key.{keyFrom}
 use Rattle.section.specs.Section.{readOf, headerOf}
 use Rattle.section.specs.declared.Header.{Header}
 use Rattle.section.specs.declared.Reading.{Reading}
@@ -48,7 +49,7 @@ unfolding readOf
 full-sound n l = rw (le-ltb 15 n l)
 
 fulls-rise : (k n : ℕ) → n + k ≤ 16 → Rising (headerOf (full 0)) n (fulls k n)
-unfolding sameTable
+unfolding sameTable keyFrom
 fulls-rise zero n l = tt
 fulls-rise (suc k) n l = (full-sound n (omega arith), refl, omega arith, fulls-rise k (n + 1) (omega arith))
 

@@ -6,3 +6,6 @@ pub mod Files
 pub mod Front
 pub mod FirstFault
 pub mod Faults
+pub mod Among
+pub mod Whole
+pub mod Longest

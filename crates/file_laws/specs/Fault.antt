@@ -1,11 +1,11 @@
 -- Document 01's faults of a file, each told by how the file is made up before it: the rows of 11 and 12, and "a fault inside a section gives that
--- section's own number, 2 to 8". "Loading reads left to right and the first fault from the left gives the answer."
+-- section's own number, 2 to 8", or 46 (request 4). "Loading reads left to right and the first fault from the left gives the answer."
 use Prim.Native.Nat.{ℕ, _<_, _≤_}
 use mathlib.Core.Path.{_≡_}
 use mathlib.Core.List.{List, [], _∷_, _++_}
 use mathlib.Core.Logic.{_⊎_}
 use lib.ListN.{length}
-use Rattle.section.specs.Section.{tableId, tableIdExtension, version, sectionNumber, lastSectionNumber, headerOf, readOf}
+use Rattle.section.specs.Section.{keyIn, version, sectionNumber, lastSectionNumber, headerOf, readOf}
 use Rattle.section.specs.declared.Reading.the-variants.{Sound, Refused}
 use Rattle.file_number.specs.Number.{largest, spelt}
 use Rattle.file_number.specs.Unreadable.{Unreadable}
@@ -40,9 +40,8 @@ pub record Comes (file : List ℕ) (ss : List (List ℕ)) (s : List ℕ) : Type 
 -- other key, version or last number
 abbrev pub Differs : List ℕ → List ℕ → Type 0
 Differs a b =
-    ¬ (tableId a ≡ tableId b)
-    ⊎ (¬ (tableIdExtension a ≡ tableIdExtension b)
-    ⊎ (¬ (version a ≡ version b) ⊎ ¬ (lastSectionNumber a ≡ lastSectionNumber b)))
+    ¬ (keyIn a ≡ keyIn b)
+    ⊎ (¬ (version a ≡ version b) ⊎ ¬ (lastSectionNumber a ≡ lastSectionNumber b))
 
 -- the first fault of a file from the left, and its number
 pub data Fault (file : List ℕ) : ℕ → Type 0 where
@@ -59,7 +58,7 @@ pub data Fault (file : List ℕ) : ℕ → Type 0 where
       → (size < shortest) ⊎ (longest < size) → Fault file 12
   past-the-file : (ss : List (List ℕ)) (size : ℕ) (rest : List ℕ) → ToCome file ss (spelt size ++ rest) → shortest ≤ size
       → size ≤ longest → length rest < size → Fault file 12
-  -- .. then its own number, 2 to 8
+  -- .. then its own number, 2 to 8 or 46
   own-number : (ss : List (List ℕ)) (s : List ℕ) → Comes file ss s → (no : ℕ) → readOf s ≡ Refused no → Fault file no
   -- .. then keys, versions or lasts differ from the first section's; its number is not above the one before it
   differs : (first : List ℕ) (later : List (List ℕ)) (s : List ℕ) → Comes file (first ∷ later) s → readOf s ≡ Sound (headerOf s)

@@ -1,19 +1,32 @@
 -- How the lines of a listing follow each other.
+--   not-added, are-added                             the rest of a key, of an NRT-IT alone
 --   no-section, a-section, no-missing, a-missing     the line of one number, where it has one
 --   no-line, one-more, all-lines                     the lines of the numbers from 0 on
 use mathlib.Core.Path.{_≡_}
-use mathlib.Core.List.{List}
+use mathlib.Core.List.{List, _++_}
 use Prim.Native.Nat.{ℕ, _+_, _*_, _≤_}
 use native.Mathlib.Numerals.{add-one}
 use native.Mathlib.Nat.{mul-suc}
 use native.Mathlib.Omega.{arith}
 use lib.ListN.{getD}
 use borrow.Author.Tests.{eq-eqb, ne-eqb}
-use Rattle.file_listing.specs.Words.{lines}
+use Rattle.key.specs.Key.{nrtIt}
+use Rattle.key.specs.declared.Key.{Key}
+use Rattle.file_listing.specs.Words.{ascii, longDecimal, field, lines}
 use Rattle.file_listing.specs.Growing.{Grew}
-use Rattle.file_listing.specs.Listing.{sectionLine, missingLine, sectionOf, missingOf}
+use Rattle.file_listing.specs.Listing.{addedWords, sectionLine, missingLine, sectionOf, missingOf}
 use Rattle.file_listing.specs.declared.Text.{Text}
 use Rattle.file_listing.proofs.Growing.{nothing, then}
+
+module _ (key : Key) (t : Text) where
+  pub not-added : ¬ (key .table ≡ nrtIt) → Grew (addedWords key) 31 t t
+  unfolding addedWords
+  not-added d = rw (ne-eqb (key .table) nrtIt d) (nothing t 31)
+
+  pub are-added : (r : Text) → key .table ≡ nrtIt → Grew (field " service " (key .service) ++ (ascii " start " ++ longDecimal (key .start))) 31 t r
+      → Grew (addedWords key) 31 t r
+  unfolding addedWords
+  are-added r e g = rw (eq-eqb (key .table) nrtIt e) g
 
 module _ (lengths : List ℕ) (n : ℕ) (t : Text) where
   pub no-section : getD lengths n 0 ≡ 0 → Grew (sectionOf lengths n) 26 t t

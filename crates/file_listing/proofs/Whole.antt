@@ -36,21 +36,21 @@ module _ (last : ℕ) (lengths : List ℕ) (t r : Text) where
   lacking e g = rw e g
 
 module _ (file : List ℕ) (scanned : Scanned) (e : scanned ≡ scanOf file) (t r : Text) (b : t ≡ empty) where
-  pub refused-text : (n : ℕ) → scanned .answer ≡ Scan.Refused n → Grew (refusedLine n) 14 t r → Grew (textOf file) 687 empty r
+  pub refused-text : (n : ℕ) → scanned .answer ≡ Scan.Refused n → Grew (refusedLine n) 14 t r → Grew (textOf file) 718 empty r
   unfolding textOf
   refused-text n a g = rw (← e, a, ← b) (wider (omega arith) g)
 
-  pub table-text : (h : Header) → scanned .answer ≡ Scan.Table h → Grew (tableText h (scanned .lengths)) 687 t r → Grew (textOf file) 687 empty r
+  pub table-text : (h : Header) → scanned .answer ≡ Scan.Table h → Grew (tableText h (scanned .lengths)) 718 t r → Grew (textOf file) 718 empty r
   unfolding textOf
   table-text h a g = rw (← e, a, ← b) g
 
 pub table-last : (file : List ℕ) (scanned : Scanned) → scanned ≡ scanOf file → (h : Header) → scanned .answer ≡ Scan.Table h → h .last ≤ 15
 table-last file scanned e h a = held file h (ap (λ s. s .answer) (sym e) ∙ a) .last
 
-module _ (file out : List ℕ) (t : Text) (long : length (t .bytes) ≡ 687) (g : Grew (textOf file) 687 empty t) where
+module _ (file out : List ℕ) (t : Text) (long : length (t .bytes) ≡ 718) (g : Grew (textOf file) 718 empty t) where
   text-size : length (textOf file) ≡ t .size
   text-size =
-      let w : t .size ≤ 687 = g .within in
+      let w : t .size ≤ 718 = g .within in
       ap length (sym (g .shows)) ∙ length-take-le (t .size) (t .bytes) (omega arith)
 
   pub too-small : length out < t .size → listing (Listed.Refused 15) out ≡ listOf file out

@@ -24,9 +24,9 @@ listOut c = out (listedCode (c .said)) (c .out)
 unfoldable pub listLent : List ℕ → List ℕ → Out
 listLent file old = listOut (listOf file old)
 
--- the bytes of the longest listing: of a complete table whose numbers have all their digits
+-- the bytes of the longest listing: of a complete NRT-IT whose numbers have all their digits
 abbrev pub largestList : ℕ
-largestList = 390
+largestList = 421
 
 -- and there is a file with such a list
 abbrev pub Longest-List : Type 0
@@ -34,7 +34,7 @@ Longest-List = (file : List ℕ) × (length (textOf file) ≡ largestList)
 
 -- Of listing a file of bytes:
 module _ (file : List ℕ) where
-  -- the text has at most 390 bytes
+  -- the text has at most 421 bytes
   abbrev pub Text-Short : Type 0
   Text-Short = Octets file → length (textOf file) ≤ largestList
 

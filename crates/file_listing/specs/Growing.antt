@@ -9,9 +9,9 @@ use Rattle.file_listing.specs.declared.Text.{Text}
 abbrev pub shown : Text → List ℕ
 shown t = take (t .size) (t .bytes)
 
--- the room for a text: a line of 47 bytes, sixteen of 26 and sixteen of 14, with five digits for every number
+-- the room for a text: a line of 78 bytes, sixteen of 26 and sixteen of 14, with ten digits for a time and five for every other number
 abbrev pub room : ℕ
-room = 687
+room = 718
 
 -- nothing is written yet
 abbrev pub empty : Text

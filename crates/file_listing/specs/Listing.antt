@@ -1,21 +1,28 @@
--- Document 01, "The lister": what is printed for a file.
+-- Document 01, "The lister": what is printed for a file. Document 02, request 4: the first line of an NRT-IT tells its whole key.
 use Prim.Native.Nat.{ℕ, _+_}
 use mathlib.Core.List.{List, [], _∷_, _++_}
-use lib.Dec.{ltb}
+use lib.Dec.{ltb, eqb}
 use lib.ListN.{length, getD, drop}
 use Rattle.base.specs.Choice.{if_then_else_, _if_, first}
 use Rattle.base.specs.Below.{every}
+use Rattle.key.specs.Key.{nrtIt}
+use Rattle.key.specs.declared.Key.{Key}
 use Rattle.section.specs.declared.Header.{Header}
 use Rattle.file.specs.Scan.{scanOf, foundAt}
 use Rattle.file.specs.declared.Scan.{Scan}
-use Rattle.file_listing.specs.Words.{ascii, field, newline, lines}
+use Rattle.file_listing.specs.Words.{ascii, field, longDecimal, newline, lines}
 use Rattle.file_listing.specs.declared.Listed.{Listed}
 
--- table 201 key 4660 version 3 last 0
+-- what the line of an NRT-IT says after its extension: service 7 start 1000000800
+unfoldable pub addedWords : Key → List ℕ
+addedWords key = if eqb (key .table) nrtIt then field " service " (key .service) ++ (ascii " start " ++ longDecimal (key .start)) else []
+
+-- table 201 key 4660 version 3 last 0, and table 223 key 4097 service 7 start 1000000800 version 3 last 0
 unfoldable pub headLine : Header → List ℕ
 headLine h =
-    field "table " (h .table)
-    ++ (field " key " (h .extension) ++ (field " version " (h .version) ++ (field " last " (h .last) ++ newline)))
+    field "table " (h .key .table)
+    ++ (field " key " (h .key .extension)
+    ++ (addedWords (h .key) ++ (field " version " (h .version) ++ (field " last " (h .last) ++ newline))))
 
 -- section 0 bytes 8
 unfoldable pub sectionLine : ℕ → ℕ → List ℕ

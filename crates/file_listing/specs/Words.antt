@@ -1,5 +1,5 @@
 -- Text as bytes: words, and decimal numbers without leading zeros.
-use Prim.Native.Nat.{ℕ, zero, suc, _+_, _/_, _%_}
+use Prim.Native.Nat.{ℕ, zero, suc, _+_, _/_, _%_, _^_}
 use Prim.Native.Char.{code}
 use Prim.Native.String as string
 use Prim.Native.String.{String}
@@ -16,9 +16,22 @@ ascii (string._∷_ c s) = code c ∷ ascii s
 unfoldable pub place : ℕ → ℕ → List ℕ
 place power n = if leb power n then (48 + n / power % 10) ∷ [] else []
 
+-- the digits of the powers of ten from 10 ^ k down to 10, each where the number reaches it
+unfoldable pub places : ℕ → ℕ → List ℕ
+places zero n = []
+places (suc k) n = place (10 ^ suc k) n ++ places k n
+
+-- a number of up to k + 1 digits
+abbrev pub digits : ℕ → ℕ → List ℕ
+digits k n = places k n ++ ((48 + n % 10) ∷ [])
+
 -- a number up to 65,535
 unfoldable pub decimal : ℕ → List ℕ
-decimal n = place 10000 n ++ (place 1000 n ++ (place 100 n ++ (place 10 n ++ ((48 + n % 10) ∷ []))))
+decimal n = digits 4 n
+
+-- one up to 4,294,967,295
+unfoldable pub longDecimal : ℕ → List ℕ
+longDecimal n = digits 9 n
 
 -- the end of a line
 abbrev pub newline : List ℕ

@@ -1,14 +1,15 @@
 // The text that the lister prints for a shelf file (document 01, "The lister"), as a function of the file's bytes.
 use file::Scan;
+use key::Key;
 use section::Header;
 ghost use mathlib.Core.Path.{_≡_};
 ghost use mathlib.Core.List.{[], _∷_, _++_};
 ghost use Prim.Native.Nat.{_+_, _<_, _≤_};
 ghost use lib.ListN.{length};
-ghost use Rattle.file_listing.specs.Words.{place as placeOf, decimal, lines};
+ghost use Rattle.file_listing.specs.Words.{place as placeOf, decimal, longDecimal, lines};
 ghost use Rattle.file_listing.specs.Growing.{room, empty, Grew};
 ghost use Rattle.file.specs.Scan.{foundAt};
-ghost use Rattle.file_listing.specs.Listing.{headLine, sectionLine, missingLine, completeLine, refusedLine, sectionOf, missingOf, endOf, tableText, textOf, listing, listOf};
+ghost use Rattle.file_listing.specs.Listing.{addedWords, headLine, sectionLine, missingLine, completeLine, refusedLine, sectionOf, missingOf, endOf, tableText, textOf, listing, listOf};
 ghost use Rattle.base.specs.Below.{every};
 ghost use Rattle.answers.specs.Answers.{out as outOf};
 ghost use Rattle.file_listing.specs.Answer.{listLent};
@@ -21,14 +22,14 @@ pub enum Listed {
 
 const NEWLINE: u8 = 10;
 
-// The room for a text: a line of 47 bytes, sixteen of 26 and sixteen of 14.
-const ROOM: usize = 687;
+// The room for a text: a line of 78 bytes, sixteen of 26 and sixteen of 14.
+const ROOM: usize = 718;
 
 // The bytes of the longest text.
-pub const LARGEST: usize = 390;
+pub const LARGEST: usize = 421;
 
 // A text that grows at its end. Each piece below says what it adds and in how many bytes at most, every number taken for five
-// digits; so counted, no listing comes to more than 687.
+// digits and a time for ten; so counted, no listing comes to more than 718.
 struct Text {
     bytes: [u8; ROOM],
     size: usize,
@@ -66,7 +67,7 @@ impl Text {
     }
 
     // The digit of a power of ten, where the number reaches it.
-    fn place(self, n: u16, power: u16) -> Text
+    fn place(self, n: u32, power: u32) -> Text
         requires { ⌜ self .size < room ⌝ }
         requires { ⌜ 0 < power ⌝ }
         ensures { λ r. ⌜ Grew (placeOf power n) 1 self r ⌝ }
@@ -76,8 +77,8 @@ impl Text {
         }
         self.byte(48 + (n / power % 10) as u8)
     }
-    // A number in decimal.
-    fn number(self, n: u16) -> Text
+    // A number of up to five digits in decimal; of a longer one the last five.
+    fn number(self, n: u32) -> Text
         requires { ⌜ self .size + 5 ≤ room ⌝ }
         ensures { λ r. ⌜ Grew (decimal n) 5 self r ⌝ }
     {
@@ -88,22 +89,50 @@ impl Text {
         d.byte(48 + (n % 10) as u8)
     }
 
+    // A number of up to ten digits.
+    fn long_number(self, n: u32) -> Text
+        requires { ⌜ self .size + 10 ≤ room ⌝ }
+        ensures { λ r. ⌜ Grew (longDecimal n) 10 self r ⌝ }
+    {
+        let a = self.place(n, 1000000000);
+        let b = a.place(n, 100000000);
+        let c = b.place(n, 10000000);
+        let d = c.place(n, 1000000);
+        let e = d.place(n, 100000);
+        e.number(n)
+    }
+
     // A word and a number.
     fn field(self, w: &[u8], n: u16) -> Text
         requires { ⌜ self .size + (length (now w) + 5) ≤ room ⌝ }
         ensures { λ r. ⌜ Grew (now (w .entry) ++ decimal n) (length (now (w .entry)) + 5) self r ⌝ }
     {
         let named = self.word(w);
-        named.number(n)
+        named.number(base::full(n))
+    }
+
+    // What an NRT-IT's line says after its extension: the rest of its key.
+    fn added_words(self, key: Key) -> Text
+        requires { ⌜ self .size + 31 ≤ room ⌝ }
+        ensures { λ r. ⌜ Grew (addedWords key) 31 self r ⌝ }
+    {
+        if key.table != key::NRT_IT {
+            return self;
+        }
+        let service = self.field(b" service ", key.service);
+        let start = service.word(b" start ");
+        start.long_number(key.start)
     }
 
     fn head_line(self, h: Header) -> Text
-        requires { ⌜ self .size + 47 ≤ room ⌝ }
-        ensures { λ r. ⌜ Grew (headLine h) 47 self r ⌝ }
+        requires { ⌜ self .size + 78 ≤ room ⌝ }
+        ensures { λ r. ⌜ Grew (headLine h) 78 self r ⌝ }
     {
-        let table = self.field(b"table ", base::half(h.table));
-        let key = table.field(b" key ", h.extension);
-        let version = key.field(b" version ", base::half(h.version));
+        let key = h.key;
+        let table = self.field(b"table ", base::half(key.table));
+        let extension = table.field(b" key ", key.extension);
+        let added = extension.added_words(key);
+        let version = added.field(b" version ", base::half(h.version));
         let last = version.field(b" last ", base::half(h.last));
         last.byte(NEWLINE)
     }
@@ -211,8 +240,8 @@ impl Text {
 
     fn table(self, h: Header, lengths: [u16; 16]) -> Text
         requires { ⌜ h .last ≤ 15 ⌝ }
-        requires { ⌜ self .size + 687 ≤ room ⌝ }
-        ensures { λ r. ⌜ Grew (tableText h lengths) 687 self r ⌝ }
+        requires { ⌜ self .size + 718 ≤ room ⌝ }
+        ensures { λ r. ⌜ Grew (tableText h lengths) 718 self r ⌝ }
     {
         let last = h.last;
         let head = self.head_line(h);
@@ -237,7 +266,7 @@ fn all_held(last: u8, lengths: [u16; 16]) -> bool
 }
 // The whole text for a file.
 fn text_for(file: &[u8]) -> Text
-    ensures { λ r. ⌜ Grew (textOf (now (file .entry))) 687 empty r ⌝ }
+    ensures { λ r. ⌜ Grew (textOf (now (file .entry))) 718 empty r ⌝ }
 {
     let scanned = file::read_file(file);
     let answer = scanned.answer;

@@ -19,7 +19,7 @@ use Rattle.shelf_laws.specs.State.{State, loadOn, saveOut, afterLoad}
 use Rattle.shelf_laws.specs.File.{carries, sectionIn}
 use Rattle.shelf_laws.specs.Answers.{isDone}
 use Rattle.shelf_laws.specs.Log.{loads}
-use Rattle.shelf_laws.proofs.Places.{key-itself}
+use Rattle.key.proofs.Keys.{key-itself}
 use Rattle.shelf_laws.proofs.Kept.{Good, Table}
 use Rattle.shelf_laws.proofs.Loaded.{load-good, load-begins}
 use Rattle.file_round.proofs.Saved.{fileFrom, saved-answer}

@@ -17,8 +17,9 @@ use Rattle.section.specs.Section.{readOf, headerOf, version, sectionNumber, las
 use Rattle.section.specs.declared.Header.{Header}
 use Rattle.section.specs.declared.Reading.{Reading}
 use Rattle.berth.specs.Berth.{sections, places, standing}
-use Rattle.shelf.specs.Record.{placeAt, holds, sameKey, placeOf}
-use Rattle.shelf.specs.declared.Key.{Key}
+use Rattle.shelf.specs.Record.{placeAt, holds, placeOf}
+use Rattle.key.specs.Key.{sameKey}
+use Rattle.key.specs.declared.Key.{Key}
 use Rattle.shelf_offer.specs.Offer.{After}
 use Rattle.shelf.specs.Record.{keyOf}
 use Rattle.file.specs.Scan.{scanOf}
@@ -31,7 +32,7 @@ use Rattle.shelf_laws.specs.Named.{keyIn}
 use Rattle.shelf_laws.specs.Answers.{begins, joins, accepted, isDone, frees}
 use Rattle.shelf_laws.specs.Log.{tableHas, loads}
 use Rattle.shelf_laws.specs.History.{Call, step, after, start, afterAll}
-use Rattle.shelf_laws.proofs.Places.{same-key}
+use Rattle.key.proofs.Keys.{same-key}
 use Rattle.shelf_laws.proofs.Kept.{Good, Table, Kept, kept-itself, Alike, alike-kept}
 use Rattle.shelf_laws.proofs.Offering.{Goes, goes}
 use Rattle.shelf_laws.proofs.Offered.{offer-good, offer-apart, offer-begins, offer-joins, joins-held, accepted-heard}

@@ -13,7 +13,7 @@ use Rattle.base.proofs.Bytes.{octets-part}
 use Rattle.base.proofs.Cases.{by}
 use Rattle.berth.specs.Berth.{berthSize, beginsAt, sections, places, standing}
 use Rattle.shelf.specs.Record.{placeAt, holds, lengthAt, placeOf}
-use Rattle.shelf.specs.declared.Key.{Key}
+use Rattle.key.specs.declared.Key.{Key}
 use Rattle.file_number.specs.Number.{spelt}
 use Rattle.file_number.proofs.Spelling.{spelt-1, spelt-2, spelt-3}
 use Rattle.file.specs.Layout.{listed, fileOf, chosen}

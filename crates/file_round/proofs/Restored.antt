@@ -16,7 +16,7 @@ use Rattle.section.specs.Section.{headerOf}
 use Rattle.section.specs.declared.Header.{Header}
 use Rattle.berth.specs.Berth.{sections, places, storeSize, standing}
 use Rattle.shelf.specs.Record.{placeAt, withPlace, lengthAt, holds, placeOf, freeOf}
-use Rattle.shelf.specs.declared.Key.{Key}
+use Rattle.key.specs.declared.Key.{Key}
 use Rattle.shelf.specs.Record.{Place}
 use Rattle.shelf.proofs.Words.{sound-place}
 use Rattle.shelf.specs.Record.{keyOf}
@@ -29,7 +29,8 @@ use Rattle.shelf_load.specs.Load.{After, loadedPlace, storedBelow, tableOf, loa
 use Rattle.shelf_load.specs.declared.Loaded.{Loaded}
 use Rattle.shelf_laws.specs.State.{State, loadOn, afterLoad}
 use Rattle.shelf_laws.specs.File.{lengthIn, carries, sectionIn}
-use Rattle.shelf_laws.proofs.Places.{key-itself, its-key, is-taken, at-same, held-at}
+use Rattle.shelf_laws.proofs.Places.{its-key, is-taken, at-same, held-at}
+use Rattle.key.proofs.Keys.{key-itself}
 use Rattle.shelf_laws.proofs.Kept.{Good, Table, Kept, kept-itself}
 use Rattle.shelf_laws.proofs.Loaded.{Carried, carried, load-begins, carriedTable}
 use Rattle.file_round.specs.Round.{bytesAt, AsLeft, Restored}

@@ -12,7 +12,7 @@ use borrow.Author.Tests.{eq-eqb, ne-eqb}
 use Rattle.base.specs.Choice.{if_then_else_, first}
 use Rattle.berth.specs.Berth.{sections, places, storeSize}
 use Rattle.shelf.specs.Record.{placeAt, lengthAt, holds, placeOf, freeOf}
-use Rattle.shelf.specs.declared.Key.{Key}
+use Rattle.key.specs.declared.Key.{Key}
 use Rattle.shelf.specs.Record.{Place}
 use Rattle.shelf_ask.specs.Ask.{holdingOf, uncopied, copy, Copy, complete, lowestMissing}
 use Rattle.shelf_ask.specs.declared.Copied.{Copied}

@@ -12,7 +12,7 @@ use borrow.Author.Tests.{eq-eqb, ne-eqb, eqb-false, le-ltb}
 use Rattle.base.proofs.Cases.{by}
 use Rattle.berth.specs.Berth.{places, storeSize}
 use Rattle.shelf.specs.Record.{placeOf}
-use Rattle.shelf.specs.declared.Key.{Key}
+use Rattle.key.specs.declared.Key.{Key}
 use Rattle.shelf.proofs.Find.{place-le}
 use Rattle.shelf_save.specs.Save.{written, savedFile, saveOf}
 use Rattle.shelf_save.specs.declared.Saved.{Saved}

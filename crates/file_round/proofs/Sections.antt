@@ -14,7 +14,9 @@ use Rattle.section.specs.Section.{readOf, headerOf}
 use Rattle.section.specs.declared.Header.{Header}
 use Rattle.section.specs.declared.Reading.{Reading}
 use Rattle.berth.specs.Berth.{sections}
-use Rattle.shelf.specs.declared.Key.{Key}
+use Rattle.key.specs.declared.Key.{Key}
+use Rattle.key.specs.Key.{sameKey}
+use Rattle.key.proofs.Keys.{same-key, one-said, is-one}
 use Rattle.shelf.specs.Record.{keyOf}
 use Rattle.file.specs.Layout.{mostCounted, chosen, sameTable, Rising, SoundTable}
 use Rattle.file_round.specs.Round.{IsSection}
@@ -30,8 +32,7 @@ pub same-table : (a b : Header) → Same a b → sameTable a b ≡ true
 unfolding sameTable
 same-table a b s =
     rw (
-      eq-eqb (a .table) (b .table) (ap (λ k. k .table) (s .key)),
-      eq-eqb (a .extension) (b .extension) (ap (λ k. k .extension) (s .key)),
+      one-said (a .key) (b .key) (is-one (a .key) (b .key) (s .key)),
       eq-eqb (a .version) (b .version) (s .version),
       eq-eqb (a .last) (b .last) (s .last),
     )
@@ -39,17 +40,13 @@ same-table a b s =
 pub same-parts : (a b : Header) → sameTable a b ≡ true → Same a b
 unfolding sameTable
 same-parts a b e =
-    let one = eqb (a .table) (b .table) in
-    let two = eqb (a .extension) (b .extension) in
-    let three = eqb (a .version) (b .version) in
+    let one = sameKey (a .key) (b .key) in
+    let two = eqb (a .version) (b .version) in
     let late = and-right one _ e in
-    let later = and-right two _ late in
-    let t : a .table ≡ b .table = eqb-true _ _ (and-left one _ e) in
-    let x : a .extension ≡ b .extension = eqb-true _ _ (and-left two _ late) in
     record {
-      key = ap (λ n. record { table = n; extension = a .extension }) t ∙ ap (λ n. record { table = b .table; extension = n }) x;
-      version = eqb-true _ _ (and-left three _ later);
-      last = eqb-true _ _ (and-right three _ later);
+      key = same-key (a .key) (b .key) (and-left one _ e);
+      version = eqb-true _ _ (and-left two _ late);
+      last = eqb-true _ _ (and-right two _ late);
     }
 
 -- numbers below n
@@ -93,7 +90,7 @@ module _ (key : Key) (version last : ℕ) (has : ℕ → Bool) (bytes : ℕ → 
     (each : (n : ℕ) → n < sections → has n ≡ true → IsSection key version last n (bytes n)) where
   -- a header of that table
   abbrev its : Header
-  its = record { table = key .table; extension = key .extension; version = version; number = 0; last = last; start = 0; length = 0 }
+  its = record { key = key; version = version; number = 0; last = last; start = 0; length = 0 }
 
   rises : (n : ℕ) → n ≤ sections → Below n (chosen n has bytes) × Rising its 0 (chosen n has bytes)
   unfolding chosen

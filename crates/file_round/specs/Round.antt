@@ -9,7 +9,7 @@ use Rattle.section.specs.declared.Header.{Header}
 use Rattle.section.specs.declared.Reading.the-variants.{Sound}
 use Rattle.berth.specs.Berth.{sections, places, standing}
 use Rattle.shelf.specs.Record.{placeAt, lengthAt, holds, placeOf}
-use Rattle.shelf.specs.declared.Key.{Key}
+use Rattle.key.specs.declared.Key.{Key}
 use Rattle.shelf.specs.Record.{keyOf}
 use Rattle.file_number.specs.Number.{Bytes}
 use Rattle.file.specs.Scan.{scanOf}

@@ -1,4 +1,4 @@
--- Which table a file is: refused by the file's first fault from the left (11, 12, or 2 to 8 for one of a section), and by 15 where its numbers
+-- Which table a file is: refused by the file's first fault from the left (11, 12, or 2 to 8 and 46 for one of a section), and by 15 where its numbers
 -- do not fit the lent buffer. Document 01 has no such question; a load that is done gives the same table a place.
 use Prim.Native.Nat.{ℕ}
 use mathlib.Core.List.{List, []}
@@ -12,7 +12,7 @@ use Rattle.file.specs.declared.Scan.{Scan}
 -- what all sections share, by the first one's header, and the length of each, 0 where the file lacks it
 abbrev pub fileTable : Header → List ℕ → Table
 fileTable h lengths =
-    record { table = h .table; extension = h .extension; version = h .version; last = h .last; lengths = lengths }
+    record { key = h .key; version = h .version; last = h .last; lengths = lengths }
 
 -- the number and the values of the answer
 abbrev pub toldBy : List ℕ → Scan → Told

@@ -15,11 +15,11 @@ pub fn table_code(file: &[u8], fields: &mut [u16]) -> u8
     match answer {
         Scan::Refused(n) => n,
         Scan::Table(header) => {
+            let key = header.key;
             let version = base::half(header.version);
             let last = base::half(header.last);
             let table = Table {
-                table: header.table,
-                extension: header.extension,
+                key,
                 version,
                 last,
                 lengths,

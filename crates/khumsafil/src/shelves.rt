@@ -1,4 +1,5 @@
-// The shelf and its files. The record is 84 numbers that the host lends.
+// The shelf and its files. The record is 96 numbers that the host lends. A table is named by the four numbers of a key, of which the last two mean
+// nothing but of an NRT-IT.
 ghost use mathlib.Core.Path.{_≡_};
 ghost use Rattle.answers.specs.Answers.{lent, out as outOf};
 ghost use Rattle.shelf_begin.specs.Answer.{beginLent};
@@ -7,8 +8,7 @@ ghost use Rattle.shelf_ask.specs.Answer.{wholeLent, completeLent, missingLent, 
 ghost use Rattle.shelf_release.specs.Answer.{releaseLent};
 ghost use Rattle.shelf_save.specs.Answer.{saveLent};
 ghost use Rattle.shelf_load.specs.Answer.{loadLent};
-ghost use Rattle.khumsafil.specs.Shelf.{givenKey};
-use shelf::Key;
+ghost use Rattle.key.specs.Key.{keyFrom};
 
 // Begins a fresh shelf: four free places and a zeroed store.
 #[no_mangle]
@@ -37,10 +37,12 @@ pub extern "C" fn khumsafil_raw_shelf_is_complete(
     store: &[u8],
     table: u8,
     extension: u16,
+    service: u16,
+    start: u32,
 ) -> bool
-    ensures { λ r. ⌜ r ≡ completeLent (now («record» .entry)) (now (store .entry)) (givenKey table extension) ⌝ }
+    ensures { λ r. ⌜ r ≡ completeLent (now («record» .entry)) (now (store .entry)) (keyFrom table extension service start) ⌝ }
 {
-    shelf_ask::is_complete(record, store, Key { table, extension })
+    shelf_ask::is_complete(record, store, key::from(table, extension, service, start))
 }
 
 // Whether a table is complete, and why it cannot be told where it cannot.
@@ -50,10 +52,12 @@ pub extern "C" fn khumsafil_raw_shelf_complete(
     store: &[u8],
     table: u8,
     extension: u16,
+    service: u16,
+    start: u32,
 ) -> u16
-    ensures { λ r. ⌜ r ≡ wholeLent (now («record» .entry)) (now (store .entry)) (givenKey table extension) ⌝ }
+    ensures { λ r. ⌜ r ≡ wholeLent (now («record» .entry)) (now (store .entry)) (keyFrom table extension service start) ⌝ }
 {
-    shelf_ask::complete_code(record, store, Key { table, extension })
+    shelf_ask::complete_code(record, store, key::from(table, extension, service, start))
 }
 
 // The lowest missing number of a table.
@@ -63,10 +67,12 @@ pub extern "C" fn khumsafil_raw_shelf_lowest_missing(
     store: &[u8],
     table: u8,
     extension: u16,
+    service: u16,
+    start: u32,
 ) -> u32
-    ensures { λ r. ⌜ r ≡ missingLent (now («record» .entry)) (now (store .entry)) (givenKey table extension) ⌝ }
+    ensures { λ r. ⌜ r ≡ missingLent (now («record» .entry)) (now (store .entry)) (keyFrom table extension service start) ⌝ }
 {
-    shelf_ask::missing_code(record, store, Key { table, extension })
+    shelf_ask::missing_code(record, store, key::from(table, extension, service, start))
 }
 
 // Which table is in a place.
@@ -89,12 +95,20 @@ pub extern "C" fn khumsafil_raw_shelf_copy_section(
     store: &[u8],
     table: u8,
     extension: u16,
+    service: u16,
+    start: u32,
     number: u8,
     out: &mut [u8],
 ) -> u32
-    ensures { λ r. ⌜ outOf r (now (out .exit)) ≡ copyLent (now («record» .entry)) (now (store .entry)) (givenKey table extension) number (now (out .entry)) ⌝ }
+    ensures { λ r. ⌜ outOf r (now (out .exit)) ≡ copyLent (now («record» .entry)) (now (store .entry)) (keyFrom table extension service start) number (now (out .entry)) ⌝ }
 {
-    shelf_ask::copy_code(record, store, Key { table, extension }, number, out)
+    shelf_ask::copy_code(
+        record,
+        store,
+        key::from(table, extension, service, start),
+        number,
+        out,
+    )
 }
 
 // Releases a table.
@@ -104,10 +118,12 @@ pub extern "C" fn khumsafil_raw_shelf_release(
     store: &mut [u8],
     table: u8,
     extension: u16,
+    service: u16,
+    start: u32,
 ) -> u8
-    ensures { λ r. ⌜ lent r (now («record» .exit)) (now (store .exit)) ≡ releaseLent (now («record» .entry)) (now (store .entry)) (givenKey table extension) ⌝ }
+    ensures { λ r. ⌜ lent r (now («record» .exit)) (now (store .exit)) ≡ releaseLent (now («record» .entry)) (now (store .entry)) (keyFrom table extension service start) ⌝ }
 {
-    shelf_release::release_code(record, store, Key { table, extension })
+    shelf_release::release_code(record, store, key::from(table, extension, service, start))
 }
 
 // Saves a table as a file.
@@ -117,11 +133,14 @@ pub extern "C" fn khumsafil_raw_shelf_save(
     store: &[u8],
     table: u8,
     extension: u16,
+    service: u16,
+    start: u32,
     out: &mut [u8],
 ) -> u32
-    ensures { λ r. ⌜ outOf r (now (out .exit)) ≡ saveLent (now («record» .entry)) (now (store .entry)) (givenKey table extension) (now (out .entry)) ⌝ }
+    ensures { λ r. ⌜ outOf r (now (out .exit)) ≡ saveLent (now («record» .entry)) (now (store .entry)) (keyFrom table extension service start) (now (out .entry)) ⌝ }
 {
-    shelf_save::save_code(record, store, Key { table, extension }, out)
+    let saved = key::from(table, extension, service, start);
+    shelf_save::save_code(record, store, saved, out)
 }
 
 // Loads a file.

@@ -3,7 +3,7 @@ ghost use mathlib.Core.Path.{_≡_};
 ghost use Rattle.khumsafil.specs.Version.{libraryVersion};
 
 // 65,536 for each major version, 256 for each minor one, 1 for each change that adds nothing.
-const VERSION: u32 = 1024;
+const VERSION: u32 = 1280;
 
 // The version, as the header that this library goes with has it.
 #[no_mangle]

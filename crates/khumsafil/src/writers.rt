@@ -4,13 +4,13 @@ ghost use Rattle.answers.specs.Answers.{out as outOf};
 ghost use Rattle.writer.specs.Answer.{label, countLent, sectionLent};
 use writer::Label;
 
-// How many sections a body of so many bytes makes, in one number: the refusal alone, or 0 in the low 8 bits and the count
-// above.
+// How many sections a body of so many bytes makes in a table with that id, in one number: the refusal alone, or 0 in the low 8 bits and
+// the count above.
 #[no_mangle]
-pub extern "C" fn khumsafil_raw_writer_count(length: usize) -> u16
-    ensures { λ r. ⌜ r ≡ countLent length ⌝ }
+pub extern "C" fn khumsafil_raw_writer_count(table: u8, length: usize) -> u16
+    ensures { λ r. ⌜ r ≡ countLent table length ⌝ }
 {
-    writer::count_code(length)
+    writer::count_code(table, length)
 }
 
 // Writes section k of the table that carries the body.

@@ -12,6 +12,7 @@ use Rattle.programme.specs.Reading.{readOf}
 use Rattle.programme.specs.declared.Count.{Count}
 use Rattle.programme.specs.declared.Programme.{Programme}
 use Rattle.programme.specs.declared.Reading.{Reading}
+use Rattle.programme.proofs.Numbers.{service-is, start-is}
 use Rattle.programme.proofs.Readings.{listed}
 
 -- the fields before the items, of which the number of items is known
@@ -48,4 +49,4 @@ module _ {s : List ℕ} {n : ℕ} (r : Reads s n) where
   read-made x y z =
       let says = listed s (r .programme) (r .reads) .says in
       let many = sym (r .many) ∙ ap (λ (p : Programme). p .items) says in
-      rw (x, y, z, many) (sym (r .reads ∙ ap Reading.Programme says))
+      rw (x ∙ service-is s, y ∙ start-is s, z, many) (sym (r .reads ∙ ap Reading.Programme says))

@@ -1,5 +1,6 @@
 -- Numbers in a few bytes, written out.
 --   two-is, three-is, four-is, five-is     high byte first
+--   service-is, start-is                   the fields of the key
 --   four-fits, five-fits                   n bytes are below 256 ^ n
 --   in-short, in-field, part-number        the number in a field, and in a part of the bytes
 --   two-made, three-made, four-made, five-made     as the code makes them
@@ -13,6 +14,7 @@ use borrow.Author.Tests.{lt-ltb, le-ltb}
 use Rattle.base.specs.Bytes.{byte}
 use Rattle.base.specs.Octets.{Octets}
 use Rattle.programme.specs.Field.{number, numberIn, low}
+use Rattle.programme.specs.Table.{serviceId, timeSpanStart}
 
 module _ (s : List ℕ) (at : ℕ) where
   pub two-is : number s at 2 ≡ byte s at * 256 + byte s (at + 1)
@@ -36,6 +38,13 @@ module _ (s : List ℕ) (at : ℕ) where
 
   pub five-fits : Octets s → low s at 5 40 ≡ number s at 5
   five-fits b = rw (five-is, four-is, two-is) (omega (arith, b at, b (at + 1), b (at + 2), b (at + 3), b (at + 4)))
+
+module _ (s : List ℕ) where
+  pub service-is : number s 8 2 ≡ serviceId s
+  service-is = two-is s 8
+
+  pub start-is : number s 10 4 ≡ timeSpanStart s
+  start-is = rw (four-is s 10, two-is s 10) (omega arith)
 
 module _ (n : ℕ) (f : List ℕ) where
   pub in-short : length f < n → 0 ≡ numberIn n f

@@ -30,22 +30,22 @@ module _ (s : List ℕ) where
   read-refused n e = rw e
 
   module _ (h : Header) (e : section.readOf s ≡ reading.Reading.Sound h) where
-    pub read-other : (h .table ≡ 0xDF → ⊥) → Reading.Refused 45 ≡ readOf s
+    pub read-other : (h .key .table ≡ 0xDF → ⊥) → Reading.Refused 45 ≡ readOf s
     unfolding readOf
-    read-other d = rw (e, ne-eqb (h .table) 0xDF d)
+    read-other d = rw (e, ne-eqb (h .key .table) 0xDF d)
 
-    module _ (t : h .table ≡ 0xDF) where
+    module _ (t : h .key .table ≡ 0xDF) where
       pub read-short : length s < 17 → Reading.Refused 43 ≡ readOf s
       unfolding readOf
       read-short l =
-          rw (e, eq-eqb (h .table) 0xDF t)
+          rw (e, eq-eqb (h .key .table) 0xDF t)
           (one-number Reading.Refused 43 (Reading.Programme (programmeOf s)) (fields s) (refl, (refl, (refl, (refl, tt))))
           (either-way (cut s 10) _ (either-way (cut s 14) _ (either-way (cut s 16) _ (rw (lt-ltb (length s) 17 l))))))
 
       pub read-whole : 17 ≤ length s → Reading.Programme (programmeOf s) ≡ readOf s
       unfolding readOf
       read-whole l =
-          rw (e, eq-eqb (h .table) 0xDF t)
+          rw (e, eq-eqb (h .key .table) 0xDF t)
           (no-row Reading.Refused 43 (Reading.Programme (programmeOf s)) (fields s)
           (rw (
             le-ltb (length s) 10 (omega arith),
@@ -58,7 +58,7 @@ module _ (s : List ℕ) where
 pub record Listed (s : List ℕ) (p : Programme) : Type 0 where
   pub header : Header
   pub sound : section.readOf s ≡ reading.Reading.Sound header
-  pub table : header .table ≡ 0xDF
+  pub table : header .key .table ≡ 0xDF
   pub long : 17 ≤ length s
   pub small : length s ≤ 1024
   pub says : p ≡ programmeOf s
@@ -72,9 +72,9 @@ listed s p e = go (section.readOf s) refl
     go : (r : reading.Reading) → section.readOf s ≡ r → Listed s p
     go (reading.Reading.Refused n) q = apart n p (read-refused s n q ∙ e)
     go (reading.Reading.Sound h) q =
-        by (eqb (h .table) 0xDF)
+        by (eqb (h .key .table) 0xDF)
         (λ t.
-        let u : h .table ≡ 0xDF = eqb-true _ _ t in
+        let u : h .key .table ≡ 0xDF = eqb-true _ _ t in
         by (ltb (length s) 17)
         (λ l. apart 43 p (read-short s h q u (ltb-true _ _ l) ∙ e))
         (λ l.

@@ -1,5 +1,6 @@
 -- Document 02, request 3: an NRT-IT section read by Table 6.5 of source document 004, and its refusals. "43 a field or loop passes
 -- the end, 44 bytes left over, 45 table id not the NRT-IT's; the section's 1 to 8 come first, then 45, the others from the left."
+-- Request 4: 46, which the section's reading gives, comes after its 8 and before 45.
 use Prim.Native.Nat.{ℕ, _-_}
 use mathlib.Core.Bool.{Bool, not}
 use mathlib.Core.List.{List, [], _∷_}
@@ -26,7 +27,8 @@ use Rattle.programme.specs.declared.Own.{Own}
 abbrev pub cut : List ℕ → ℕ → Bool
 cut s end = ltb (length s) end
 
--- 45; then field by field from the left: service_id, time_span_start, time_span_length, num_content_items_in_section
+-- 45; then field by field from the left: service_id, time_span_start, time_span_length, num_content_items_in_section. A section that 46 does
+-- not refuse holds the first two
 abbrev pub faults : List ℕ → ℕ → List Row
 faults s table =
     45 if not (eqb table nrtIt)
@@ -40,10 +42,10 @@ faults s table =
 abbrev pub programmeOf : List ℕ → Programme
 programmeOf s = record { service = serviceId s; start = timeSpanStart s; minutes = timeSpanLength s; items = numContentItems s }
 
--- the section's own numbers, 1 to 8, come first
+-- the section's own numbers, 1 to 8 and 46, come first
 abbrev pub readBy : List ℕ → reading.Reading → Reading
 readBy s (reading.Reading.Refused n) = Reading.Refused n
-readBy s (reading.Reading.Sound h) = first Reading.Refused (faults s (h .table)) (Reading.Programme (programmeOf s))
+readBy s (reading.Reading.Sound h) = first Reading.Refused (faults s (h .key .table)) (Reading.Programme (programmeOf s))
 
 -- the reading of a payload, up to its items
 unfoldable pub readOf : List ℕ → Reading

@@ -7,10 +7,9 @@ use Rattle.base.specs.Bits.{bit}
 use Rattle.base.specs.Bytes.{byte}
 use Rattle.section.specs.Section.{headerSize}
 use Rattle.programme.specs.Field.{number, only, low}
-
--- table_id: 0xDF says that the section is of an NRT-IT
-abbrev pub nrtIt : ℕ
-nrtIt = 0xDF
+-- table_id 8 of an NRT-IT is defined with the key, and service_id 16 and time_span_start 32, the first two fields of the body, with the section: its key has them
+pub use Rattle.key.specs.Key.{nrtIt}
+pub use Rattle.section.specs.Section.{serviceId, timeSpanStart}
 
 -- where each field ends, and the first content item begins
 abbrev pub serviceIdEnd : ℕ
@@ -24,14 +23,6 @@ timeSpanLengthEnd = timeSpanStartEnd + 2
 
 abbrev pub firstItemAt : ℕ
 firstItemAt = timeSpanLengthEnd + 1
-
--- service_id 16
-abbrev pub serviceId : List ℕ → ℕ
-serviceId s = number s headerSize 2
-
--- time_span_start 32
-abbrev pub timeSpanStart : List ℕ → ℕ
-timeSpanStart s = number s serviceIdEnd 4
 
 -- reserved 5; time_span_length 11
 abbrev pub timeSpanLength : List ℕ → ℕ

@@ -17,9 +17,6 @@ pub const BYTES_LEFT: u8 = 44;
 
 const OTHER_TABLE: u8 = 45;
 
-// The table id of an NRT-IT.
-pub const NRT_IT: u8 = 0xDF;
-
 // The place of the first item, behind the header and the fields before the items.
 pub const FIRST_ITEM: usize = 17;
 
@@ -138,7 +135,7 @@ pub fn count_items(payload: &[u8]) -> Count
     match section {
         Section::Refused(n) => Count::Refused(n),
         Section::Sound(header) => {
-            if header.table != NRT_IT {
+            if header.key.table != key::NRT_IT {
                 return Count::Refused(OTHER_TABLE);
             }
             if payload.len() < FIRST_ITEM {

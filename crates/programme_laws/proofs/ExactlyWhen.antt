@@ -1,5 +1,5 @@
 -- When each answer about a section is given (`specs/Theorems.antt` has the words).
---   read-own, read-45, read-43, read-exactly, read-range
+--   read-own, read-45, read-43, read-exactly, read-key, read-range
 --   step-first, step-43, step-over, step-exactly, step-range
 --   own-first, own-43, own-44, own-exactly, own-range
 use mathlib.Core.Path.{_≡_, refl, sym, ap, _∙_}
@@ -13,8 +13,11 @@ use borrow.Author.Tests.{ltb-true, ltb-false, leb-true, leb-false, eqb-true, eqb
 use Rattle.base.specs.Bytes.{byte}
 use Rattle.base.proofs.Cases.{by, same-or}
 use Rattle.section.specs.Section as section
+use Rattle.section.specs.Theorems.{OwnNumber}
 use Rattle.section.specs.declared.Reading as sections
 use Rattle.section.proofs.ExactlyWhen as sectionwhen
+use Rattle.section.proofs.Keys.{key-id}
+use Rattle.key.proofs.Keys.{key-list}
 use Rattle.programme.specs.Table.{contentDescriptorsAt, numContentDescriptors, numDescriptors, descriptorsAt}
 use Rattle.programme.specs.Reading.{readOf, programmeOf, itemOf, itemRun, itemAt, ownRun, ownAt, stepOf, ownOf}
 use Rattle.programme.specs.declared.Run.{Run}
@@ -28,7 +31,7 @@ use Rattle.programme.proofs.Readings as readings
 use Rattle.programme.proofs.Runs.{run-lies}
 use Rattle.programme.proofs.Items as items
 use Rattle.programme.proofs.Items.{itemTo}
-use Rattle.programme_laws.specs.Theorems.{SoundWith, OfNrtIt, Begun, Read-Own, Read-45, Read-43, Read-Exactly, Read-Range, ItemPasses, OwnPasses, OwnLeaves}
+use Rattle.programme_laws.specs.Theorems.{SoundWith, OfNrtIt, Begun, Read-Own, Read-45, Read-43, Read-Exactly, Read-Key, Read-Range, ItemPasses, OwnPasses, OwnLeaves}
 use Rattle.programme_laws.specs.Theorems.{Step-First, Step-Over, Step-43, Step-Exactly, Step-Range, Own-First, Own-43, Own-44, Own-Exactly, Own-Range}
 use Rattle.programme_laws.proofs.Passing.{past-found, found-past}
 
@@ -45,15 +48,15 @@ way s = go (section.readOf s) refl
     go : (r : sections.Reading) → section.readOf s ≡ r → Way s
     go (sections.Reading.Refused n) q = Way.own n q (sym (readings.read-refused s n q))
     go (sections.Reading.Sound h) q =
-        by (eqb (h .table) 0xDF)
+        by (eqb (h .key .table) 0xDF)
         (λ t.
-        let u : h .table ≡ 0xDF = eqb-true _ _ t in
+        let u : h .key .table ≡ 0xDF = eqb-true _ _ t in
         let of : OfNrtIt s = record { header = h; sound = q; table = u } in
         by (ltb (length s) 17)
         (λ l. let x : length s < 17 = ltb-true _ _ l in Way.short of x (sym (readings.read-short s h q u x)))
         (λ l. let x : 17 ≤ length s = ltb-false _ _ l in Way.whole of x (sym (readings.read-whole s h q u x))))
         (λ f.
-        let d : ¬ (h .table ≡ 0xDF) = eqb-false _ _ f in
+        let d : ¬ (h .key .table ≡ 0xDF) = eqb-false _ _ f in
         Way.other (record { header = h; sound = q; table = d }) (sym (readings.read-other s h q d)))
 
 same-number : {a b : ℕ} → Reading.Refused a ≡ Reading.Refused b → a ≡ b
@@ -62,24 +65,28 @@ same-number e = cc
 read-apart : {P : Type 0} {n : ℕ} {p : Programme} → Reading.Refused n ≡ Reading.Programme p → P
 read-apart e = absurd (let z : _≡_ {A = ℕ} 0 1 = cc in omega arith)
 
+-- a section's own number is none of the others
+none-between : {P : Type 0} (n : ℕ) → OwnNumber n → 8 < n → n < 46 → P
+none-between n o l h = absurd (⊎-elim (λ w. omega (arith, w .1)) (λ e. omega arith) o)
+
 module _ (s : List ℕ) where
-  section-range : (n : ℕ) → section.readOf s ≡ sections.Reading.Refused n → (1 ≤ n) × (n ≤ 8)
+  section-range : (n : ℕ) → section.readOf s ≡ sections.Reading.Refused n → OwnNumber n
   section-range = sectionwhen.refused-range s
 
   pub read-own : Read-Own s
-  read-own n l = (go (way s), λ q. sym (readings.read-refused s n q))
+  read-own n a b = (go (way s), λ q. sym (readings.read-refused s n q))
     where
       go : Way s → readOf s ≡ Reading.Refused n → section.readOf s ≡ sections.Reading.Refused n
       go (Way.own m q r) e = q ∙ ap sections.Reading.Refused (same-number (sym r ∙ e))
-      go (Way.other o r) e = absurd (let z : 45 ≡ n = same-number (sym r ∙ e) in omega arith)
-      go (Way.short o x r) e = absurd (let z : 43 ≡ n = same-number (sym r ∙ e) in omega arith)
+      go (Way.other o r) e = absurd (b (same-number (sym e ∙ r)))
+      go (Way.short o x r) e = absurd (a (same-number (sym e ∙ r)))
       go (Way.whole o x r) e = read-apart (sym e ∙ r)
 
   pub read-45 : Read-45 s
   read-45 = (go (way s), λ o. sym (readings.read-other s (o .header) (o .sound) (o .table)))
     where
       go : Way s → readOf s ≡ Reading.Refused 45 → SoundWith s (λ id. ¬ (id ≡ 0xDF))
-      go (Way.own m q r) e = absurd (let z : m ≡ 45 = same-number (sym r ∙ e) in let h : m ≤ 8 = section-range m q .1 in omega arith)
+      go (Way.own m q r) e = let z : m ≡ 45 = same-number (sym r ∙ e) in none-between m (section-range m q) (omega arith) (omega arith)
       go (Way.other o r) e = o
       go (Way.short o x r) e = absurd (let z : _≡_ {A = ℕ} 43 45 = same-number (sym r ∙ e) in omega arith)
       go (Way.whole o x r) e = read-apart (sym e ∙ r)
@@ -88,7 +95,7 @@ module _ (s : List ℕ) where
   read-43 = (go (way s), λ w. sym (readings.read-short s (w .0 .header) (w .0 .sound) (w .0 .table) (w .1)))
     where
       go : Way s → readOf s ≡ Reading.Refused 43 → OfNrtIt s × (length s < 17)
-      go (Way.own m q r) e = absurd (let z : m ≡ 43 = same-number (sym r ∙ e) in let h : m ≤ 8 = section-range m q .1 in omega arith)
+      go (Way.own m q r) e = let z : m ≡ 43 = same-number (sym r ∙ e) in none-between m (section-range m q) (omega arith) (omega arith)
       go (Way.other o r) e = absurd (let z : _≡_ {A = ℕ} 45 43 = same-number (sym r ∙ e) in omega arith)
       go (Way.short o x r) e = (o, x)
       go (Way.whole o x r) e = read-apart (sym e ∙ r)
@@ -99,10 +106,20 @@ module _ (s : List ℕ) where
     λ w. sym (readings.read-whole s (w .0 .0 .header) (w .0 .0 .sound) (w .0 .0 .table) (w .0 .1)) ∙ ap Reading.Programme (sym (w .1)),
   )
 
+  pub read-key : Read-Key s
+  read-key h p q e =
+      let l = readings.listed s p e in
+      let x : sections.Reading.Sound (l .header) ≡ sections.Reading.Sound h = sym (l .sound) ∙ q in
+      let same : l .header ≡ h = cc in
+      let own : h ≡ section.headerOf s = sectionwhen.sound s h .0 q .1 in
+      let id : section.tableId s ≡ 0xDF = sym (key-id s) ∙ ap (λ g. g .key .table) (sym own ∙ sym same) ∙ l .table in
+      let key = key-list (section.tableId s) (section.tableIdExtension s) (section.serviceId s) (section.timeSpanStart s) id in
+      rw (l .says, own, key) (refl, refl)
+
   pub read-range : Read-Range s
   read-range n e = go (way s)
     where
-      go : Way s → ((1 ≤ n) × (n ≤ 8)) ⊎ ((n ≡ 43) ⊎ (n ≡ 45))
+      go : Way s → OwnNumber n ⊎ ((n ≡ 43) ⊎ (n ≡ 45))
       go (Way.own m q r) = let z : m ≡ n = same-number (sym r ∙ e) in inl (rw z at (section-range m q))
       go (Way.other o r) = inr (inr (same-number (sym e ∙ r)))
       go (Way.short o x r) = inr (inl (same-number (sym e ∙ r)))
@@ -332,7 +349,7 @@ module _ (s : List ℕ) (at : ℕ) where
   -- no number of the fields before the items is 44
   never-44 : readOf s ≡ Reading.Refused 44 → ⊥
   never-44 e =
-      ⊎-elim (λ (h : (1 ≤ 44) × (44 ≤ 8)). let l : 44 ≤ 8 = h .1 in omega arith)
+      ⊎-elim (λ h. none-between 44 h (omega arith) (omega arith))
       (λ h. ⊎-elim (λ (z : _≡_ {A = ℕ} 44 43). omega arith) (λ (z : _≡_ {A = ℕ} 44 45). omega arith) h)
       (read-range s 44 e)
 

@@ -11,6 +11,8 @@ use lib.ListN.{length, drop}
 use borrow.Author.Tests.{ltb-true, ltb-false, eq-eqb, ne-eqb}
 use Rattle.base.specs.Bytes.{byte}
 use Rattle.base.proofs.Cases.{by}
+use Rattle.section.specs.Theorems.{OwnNumber}
+use Rattle.section.proofs.ExactlyWhen.{own-bounds}
 use Rattle.answers.specs.Answers.{Out, out}
 use Rattle.answers.proofs.Puts.{puts-untouched}
 use Rattle.programme.specs.Reading.{readOf, ownOf}
@@ -31,10 +33,12 @@ pub record Number (n : ℕ) : Type 0 where
   pub high : n < 256
   pub other : ¬ (n ≡ 15)
 
-pub numbered : {n : ℕ} → ((1 ≤ n) × (n ≤ 8)) ⊎ ((n ≡ 43) ⊎ (n ≡ 45)) → Number n
+pub numbered : {n : ℕ} → OwnNumber n ⊎ ((n ≡ 43) ⊎ (n ≡ 45)) → Number n
 numbered {n} x =
     ⊎-elim
-    (λ y. let a : 1 ≤ n = y .0 in let b : n ≤ 8 = y .1 in record { low = omega arith; high = omega arith; other = λ z. omega arith })
+    (λ y.
+    let w = own-bounds n y in
+    record { low = omega (arith, w .0); high = omega (arith, w .1); other = λ z. ⊎-elim (λ v. omega (arith, v .1)) (λ q. omega arith) y })
     (λ y. ⊎-elim (λ q. record { low = omega arith; high = omega arith; other = λ z. omega arith }) (λ q. record { low = omega arith; high = omega arith; other = λ z. omega arith }) y)
     x
 
@@ -116,9 +120,9 @@ refusal-back n l h = rw (ne-eqb (n % 2 ^ 8) 0 (omega arith))
 pub own-comes-back : (s : List ℕ) (at : ℕ) → Own-Comes-Back s at
 own-comes-back s at b = go (ownOf s at) refl
   where
-    small : {n : ℕ} → ((1 ≤ n) × (n ≤ 8)) ⊎ ((n ≡ 43) ⊎ ((n ≡ 44) ⊎ (n ≡ 45))) → (0 < n) × (n < 256)
+    small : {n : ℕ} → OwnNumber n ⊎ ((n ≡ 43) ⊎ ((n ≡ 44) ⊎ (n ≡ 45))) → (0 < n) × (n < 256)
     small {n} x =
-        ⊎-elim (λ y. let a : 1 ≤ n = y .0 in let b : n ≤ 8 = y .1 in (omega arith, omega arith))
+        ⊎-elim (λ y. let w = own-bounds n y in (omega (arith, w .0), omega (arith, w .1)))
         (λ y. ⊎-elim (λ q. (omega arith, omega arith)) (λ y. ⊎-elim (λ q. (omega arith, omega arith)) (λ q. (omega arith, omega arith)) y) y) x
 
     go : (x : Own) → ownOf s at ≡ x → ownBack (ownCode x) ≡ x

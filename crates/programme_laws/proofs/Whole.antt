@@ -13,6 +13,8 @@ use lib.ListN.{length, drop}
 use lib.Seq.{drop-length}
 use Rattle.base.specs.Bytes.{byte}
 use Rattle.base.specs.Octets.{Octets}
+use Rattle.section.specs.Theorems.{OwnNumber}
+use Rattle.section.proofs.ExactlyWhen.{own-bounds}
 use Rattle.section.proofs.Laws.{sound-facts}
 use Rattle.programme.specs.Field.{number}
 use Rattle.programme.specs.Table.{numContentItems, timeSpanLength, serviceId, timeSpanStart, numDescriptors}
@@ -26,6 +28,7 @@ use Rattle.programme.specs.declared.Loop.{Loop}
 use Rattle.programme.specs.declared.Item.{Item}
 use Rattle.programme.specs.declared.Step.{Step}
 use Rattle.programme.specs.declared.Own.{Own}
+use Rattle.programme.proofs.Numbers.{service-is, start-is}
 use Rattle.programme.proofs.Items as items
 use Rattle.programme.proofs.Readings.{Listed, listed}
 use Rattle.programme.proofs.Within.{Ends, own-ends, item-stands}
@@ -110,8 +113,8 @@ module _ (b : Body) (h : FitBody b) {s : List ℕ} (f : From s 8 (bodyOf b)) whe
   says =
       let spare : b .reserved < 2 ^ 5 = h .reserved in
       let span : b .minutes < 2 ^ 11 = h .minutes in
-      let service : serviceId s ≡ b .service = field-says 2 (b .service) (start-on b) at-service (h .service) in
-      let start : timeSpanStart s ≡ b .start = field-says 4 (b .start) (minutes-on b) at-start (h .start) in
+      let service : serviceId s ≡ b .service = sym (service-is s) ∙ field-says 2 (b .service) (start-on b) at-service (h .service) in
+      let start : timeSpanStart s ≡ b .start = sym (start-is s) ∙ field-says 4 (b .start) (minutes-on b) at-start (h .start) in
       let both : number s 14 2 ≡ b .reserved * 2 ^ 11 + b .minutes = field-says 2 (b .reserved * 2 ^ 11 + b .minutes) (items-on b) at-minutes (omega arith) in
       let minutes : timeSpanLength s ≡ b .minutes = omega arith in
       rw (service, start, minutes, items-say)
@@ -218,8 +221,8 @@ module _ (s : List ℕ) (b : Octets s) where
         of = record { header = r .header; sound = r .sound; table = r .table };
         body =
             record {
-              service = serviceId s;
-              start = timeSpanStart s;
+              service = number s 8 2;
+              start = number s 10 4;
               reserved = number s 14 2 / 2 ^ 11;
               minutes = timeSpanLength s;
               items = l .contents;
@@ -238,9 +241,9 @@ module _ (s : List ℕ) (b : Octets s) where
             };
         bytes =
             field-reads s b 8 2 (omega arith)
-            ∙ ap (λ m. digits 2 (serviceId s) ++ m)
+            ∙ ap (λ m. digits 2 (number s 8 2) ++ m)
             (field-reads s b 10 4 (omega arith)
-            ∙ ap (λ m. digits 4 (timeSpanStart s) ++ m)
+            ∙ ap (λ m. digits 4 (number s 10 4) ++ m)
             (field-reads s b 14 2 (omega arith)
             ∙ ap (λ m. digits 2 (number s 14 2) ++ m)
             (one s 16 (omega arith)
@@ -252,8 +255,8 @@ module _ (s : List ℕ) (b : Octets s) where
   pub read-bytes : Unrefused (answersTo s) → Said s
   read-bytes u = reads (readOf s) refl
     where
-      none : {n : ℕ} → n ≡ 0 → ((1 ≤ n) × (n ≤ 8)) ⊎ ((n ≡ 43) ⊎ ((n ≡ 44) ⊎ (n ≡ 45))) → Said s
-      none z x = absurd (⊎-elim (λ y. omega (arith, y .0)) (λ y. ⊎-elim (λ q. omega arith) (λ y. ⊎-elim (λ q. omega arith) (λ q. omega arith) y) y) x)
+      none : {n : ℕ} → n ≡ 0 → OwnNumber n ⊎ ((n ≡ 43) ⊎ ((n ≡ 44) ⊎ (n ≡ 45))) → Said s
+      none {n} z x = absurd (⊎-elim (λ y. omega (arith, own-bounds n y .0)) (λ y. ⊎-elim (λ q. omega arith) (λ y. ⊎-elim (λ q. omega arith) (λ q. omega arith) y) y) x)
 
       owns : (p : Programme) → Listed s p → (to : ℕ) → Listing s 17 to (numContentItems s) → (x : Own) → ownOf s to ≡ x → ownTold x .number ≡ 0 → Said s
       owns p r to l (Own.Loop o) q z = body-found p r to l o (own-ends s to o q)

@@ -8,6 +8,7 @@ use lib.ListN.{length, drop}
 use Rattle.base.specs.Bytes.{byte, part}
 use Rattle.base.specs.Octets.{Octets}
 use Rattle.section.specs.Section as section
+use Rattle.section.specs.Theorems.{OwnNumber}
 use Rattle.section.specs.declared.Header.{Header}
 use Rattle.section.specs.declared.Reading as sections
 use Rattle.descriptors.specs.Walk as loops
@@ -32,7 +33,7 @@ module _ (s : List ℕ) where
   pub record SoundWith (said : ℕ → Type 0) : Type 0 where
     pub header : Header
     pub sound : section.readOf s ≡ sections.Reading.Sound header
-    pub table : said (header .table)
+    pub table : said (header .key .table)
 
   -- a sound section of an NRT-IT
   abbrev pub OfNrtIt : Type 0
@@ -43,9 +44,9 @@ module _ (s : List ℕ) where
   Begun = OfNrtIt × (17 ≤ length s)
 
   -- The fields before the items:
-  -- the section's own numbers, 1 to 8, are given exactly when the section's reading gives them
+  -- any number but 43 and 45 is given exactly when the section's reading gives it, as one of its own: 1 to 8 and 46
   abbrev pub Read-Own : Type 0
-  Read-Own = (n : ℕ) → n ≤ 8 → (readOf s ≡ Reading.Refused n) ↔ (section.readOf s ≡ sections.Reading.Refused n)
+  Read-Own = (n : ℕ) → ¬ (n ≡ 43) → ¬ (n ≡ 45) → (readOf s ≡ Reading.Refused n) ↔ (section.readOf s ≡ sections.Reading.Refused n)
 
   -- 45 exactly when the section is sound and its table id is not the NRT-IT's
   abbrev pub Read-45 : Type 0
@@ -59,9 +60,17 @@ module _ (s : List ℕ) where
   abbrev pub Read-Exactly : Type 0
   Read-Exactly = (p : Programme) → (readOf s ≡ Reading.Programme p) ↔ (Begun × (p ≡ programmeOf s))
 
-  -- no number but 1 to 8, 43 and 45 is given
+  -- the service and the time that they say are those of the key of the section's table
+  abbrev pub Read-Key : Type 0
+  Read-Key =
+      (h : Header) (p : Programme)
+      → section.readOf s ≡ sections.Reading.Sound h
+      → readOf s ≡ Reading.Programme p
+      → (p .service ≡ h .key .service) × (p .start ≡ h .key .start)
+
+  -- no number but 1 to 8, 46, 43 and 45 is given
   abbrev pub Read-Range : Type 0
-  Read-Range = (n : ℕ) → readOf s ≡ Reading.Refused n → ((1 ≤ n) × (n ≤ 8)) ⊎ ((n ≡ 43) ⊎ (n ≡ 45))
+  Read-Range = (n : ℕ) → readOf s ≡ Reading.Refused n → OwnNumber n ⊎ ((n ≡ 43) ⊎ (n ≡ 45))
 
   -- one of n counted descriptors from a place passes the end: the first `before` of them end at the place `at`, and the
   -- next one, two bytes and its content, passes the payload's end
@@ -108,9 +117,9 @@ module _ (s : List ℕ) where
           → (stepOf s at k ≡ Step.Item i)
           ↔ (Begun × (k < programmeOf s .items) × (¬ ItemPasses) × (i ≡ itemOf s at))
 
-      -- no number but 1 to 8, 43 and 45 is given
+      -- no number but 1 to 8, 46, 43 and 45 is given
       abbrev pub Step-Range : Type 0
-      Step-Range = (n : ℕ) → stepOf s at k ≡ Step.Refused n → ((1 ≤ n) × (n ≤ 8)) ⊎ ((n ≡ 43) ⊎ (n ≡ 45))
+      Step-Range = (n : ℕ) → stepOf s at k ≡ Step.Refused n → OwnNumber n ⊎ ((n ≡ 43) ⊎ (n ≡ 45))
 
       -- no view leaves its own item: the name lies behind linkage, flags and its own length, the descriptors behind the name and their
       -- count, and they end the item within the payload
@@ -170,9 +179,9 @@ module _ (s : List ℕ) where
         × (ownRun s at ≡ Run.Ends (length s))
         × (l ≡ record { count = byte s at; place = at + 1; length = length s - (at + 1) }))
 
-    -- no number but 1 to 8, 43, 44 and 45 is given
+    -- no number but 1 to 8, 46, 43, 44 and 45 is given
     abbrev pub Own-Range : Type 0
-    Own-Range = (n : ℕ) → ownOf s at ≡ Own.Refused n → ((1 ≤ n) × (n ≤ 8)) ⊎ ((n ≡ 43) ⊎ ((n ≡ 44) ⊎ (n ≡ 45)))
+    Own-Range = (n : ℕ) → ownOf s at ≡ Own.Refused n → OwnNumber n ⊎ ((n ≡ 43) ⊎ ((n ≡ 44) ⊎ (n ≡ 45)))
 
     -- its descriptors, walked by the step of every loop, are as many as their count says, and then the walk is over
     abbrev pub Own-Walk : Type 0

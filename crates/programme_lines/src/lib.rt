@@ -1,4 +1,5 @@
 // The lines of the text for staff: of a section of a programme list and of its items. Each is written as the crate text writes.
+use key::Key;
 use programme::Item;
 use programme::Loop;
 use programme::Programme;
@@ -6,25 +7,44 @@ use section::Header;
 ghost use mathlib.Core.List.{[], _++_};
 ghost use Rattle.base.specs.Choice.{if_then_else_};
 ghost use Rattle.file_listing.specs.Words.{newline};
-ghost use Rattle.file_listing.specs.Listing.{headLine};
+ghost use Rattle.file_listing.specs.Listing.{addedWords, headLine};
 ghost use Rattle.text.specs.Words.{decimal};
 ghost use Rattle.text.specs.Over.{Wrote};
 ghost use Rattle.programme_lines.specs.Lines.{refusedAt, programmeLine, itemLine, flagsLine, includedLines, nameLine, descriptorsLine, listLine, itemText};
 
+// What an NRT-IT's line says after its extension: the rest of its key.
+fn added_words(out: &mut [u8], at: usize, key: Key) -> usize
+    ensures { λ r. ⌜ Wrote (addedWords key) (now (out .entry)) at (now (out .exit)) r ⌝ }
+{
+    if key.table != key::NRT_IT {
+        return at;
+    }
+    text::pair(
+        out,
+        at,
+        b" service ",
+        key.service as u64,
+        b" start ",
+        key.start as u64,
+    )
+}
+
 pub fn head_line(out: &mut [u8], at: usize, h: Header) -> usize
     ensures { λ r. ⌜ Wrote (headLine h) (now (out .entry)) at (now (out .exit)) r ⌝ }
 {
-    let key = text::pair(
+    let key = h.key;
+    let told = text::pair(
         out,
         at,
         b"table ",
-        h.table as u64,
+        key.table as u64,
         b" key ",
-        h.extension as u64,
+        key.extension as u64,
     );
+    let added = added_words(out, told, key);
     text::pair_line(
         out,
-        key,
+        added,
         b" version ",
         h.version as u64,
         b" last ",

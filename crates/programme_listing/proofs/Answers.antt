@@ -57,5 +57,5 @@ unfolding listLent
 list-told file o o' r code e q = ap (λ n. out n o') q ∙ ap listOut e
 
 -- a size in an answer fits 64 bits
-pub told-fits : (r : Listed) (n : ℕ) → n ≤ 327737 → 256 * n < 2 ^ 64
+pub told-fits : (r : Listed) (n : ℕ) → n ≤ 327768 → 256 * n < 2 ^ 64
 told-fits r n l = omega arith

@@ -17,24 +17,18 @@ use Rattle.section.specs.declared.Header.{Header}
 use Rattle.file.specs.Scan.{scanOf, foundAt}
 use Rattle.file.specs.declared.Scan.{Scan}
 use Rattle.file.proofs.Held.{held}
-use Rattle.file_listing.specs.Words as words
 use Rattle.file_listing.specs.Words.{lines}
 use Rattle.file_listing.specs.Listing.{headLine, missingLine, missingOf, refusedLine}
-use Rattle.text.proofs.Short.{place-short}
+use Rattle.file_listing.proofs.Short.{decimal-5, added-short}
 use Rattle.programme.specs.Table.{nrtIt}
 use Rattle.programme_section.proofs.Short.{section-short}
 use Rattle.programme_listing.specs.Listing.{payloadOf, sectionOf, wholeAt, endLine, listText, tableText, answerText, textOf, listing, listOf}
 use Rattle.programme_listing.specs.Theorems.{Text-Short, Always-Listed}
 use Rattle.programme_listing.specs.declared.Listed.{Listed}
 
--- a number of the lister's has at most five digits
-decimal-5 : (n : ℕ) → length (words.decimal n) ≤ 5
-unfolding words.decimal
-decimal-5 n = simp length-append (omega (arith, place-short n 10000, place-short n 1000, place-short n 100, place-short n 10))
-
-head-short : (h : Header) → length (headLine h) ≤ 47
+head-short : (h : Header) → length (headLine h) ≤ 78
 unfolding headLine
-head-short h = simp length-append (omega (arith, decimal-5 (h .table), decimal-5 (h .extension), decimal-5 (h .version), decimal-5 (h .last)))
+head-short h = simp length-append (omega (arith, decimal-5 (h .key .table), decimal-5 (h .key .extension), added-short (h .key), decimal-5 (h .version), decimal-5 (h .last)))
 
 refused-short : (n : ℕ) → length (refusedLine n) ≤ 14
 unfolding refusedLine
@@ -83,10 +77,10 @@ module _ (file : List ℕ) (h : Header) (e : scanOf file .answer ≡ Scan.Table 
       let last : h .last ≤ 15 = held file h e .last in
       simp length-append (omega (arith, numbers-short (h .last + 1), end-short (every (h .last + 1) (wholeAt file starts lengths))))
 
-  table-short : length (tableText file starts lengths h) ≤ 327737
+  table-short : length (tableText file starts lengths h) ≤ 327768
   unfolding tableText
   table-short =
-      by (eqb (h .table) nrtIt)
+      by (eqb (h .key .table) nrtIt)
       (λ t. rw t (simp length-append (omega (arith, head-short h, list-short))))
       (λ f. rw f (simp length-append (omega (arith, head-short h))))
 
@@ -94,7 +88,7 @@ pub text-short : (file : List ℕ) → Text-Short file
 unfolding textOf
 text-short file = go (scanOf file .answer) refl
   where
-    go : (a : Scan) → scanOf file .answer ≡ a → length (answerText file (scanOf file .starts) (scanOf file .lengths) a) ≤ 327737
+    go : (a : Scan) → scanOf file .answer ≡ a → length (answerText file (scanOf file .starts) (scanOf file .lengths) a) ≤ 327768
     go (Scan.Refused n) e = omega (arith, refused-short n)
     go (Scan.Table h) e = table-short file h e
 
@@ -102,7 +96,7 @@ pub always-listed : (file old : List ℕ) → Always-Listed file old
 unfolding listOf
 always-listed file old l = rw (le-ltb (length old) (length (textOf file)) (omega (arith, text-short file)))
 
-pub listed-within : (file old : List ℕ) (n : ℕ) (after : List ℕ) → listing (Listed.Bytes n) after ≡ listOf file old → (n ≤ length after) × (n ≤ 327737)
+pub listed-within : (file old : List ℕ) (n : ℕ) (after : List ℕ) → listing (Listed.Bytes n) after ≡ listOf file old → (n ≤ length after) × (n ≤ 327768)
 unfolding listOf
 listed-within file old n after e =
     by (ltb (length old) (length (textOf file)))

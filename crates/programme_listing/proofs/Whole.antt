@@ -46,13 +46,13 @@ module _ (file starts lengths : List ℕ) {out after : List ℕ} {at end : ℕ} 
   the-list last whole v e w x = then v (then w (rw e at x))
 
   module _ (h : Header) {mid : List ℕ} {between : ℕ} (v : Wrote (headLine h) out at mid between) where
-    pub a-list : h .table ≡ 223 → Wrote (listText file starts lengths (h .last)) mid between after end → Wrote (tableText file starts lengths h) out at after end
+    pub a-list : h .key .table ≡ 223 → Wrote (listText file starts lengths (h .last)) mid between after end → Wrote (tableText file starts lengths h) out at after end
     unfolding tableText
-    a-list e w = rw (eq-eqb (h .table) 223 e) (then v w)
+    a-list e w = rw (eq-eqb (h .key .table) 223 e) (then v w)
 
-    pub no-list : (h .table ≡ 223 → ⊥) → Wrote otherLine mid between after end → Wrote (tableText file starts lengths h) out at after end
+    pub no-list : (h .key .table ≡ 223 → ⊥) → Wrote otherLine mid between after end → Wrote (tableText file starts lengths h) out at after end
     unfolding tableText
-    no-list d w = rw (ne-eqb (h .table) 223 d) (then v w)
+    no-list d w = rw (ne-eqb (h .key .table) 223 d) (then v w)
 
 module _ (file : List ℕ) (scanned : Scanned) (e : scanned ≡ scanOf file) {out after : List ℕ} {end : ℕ} where
   pub refused-text : (n : ℕ) → scanned .answer ≡ Scan.Refused n → n < 256 → Wrote (field "refused " n ++ newline) out 0 after end → Wrote (textOf file) out 0 after end

@@ -41,9 +41,9 @@ module _ (file starts lengths : List ℕ) where
   listText last =
       lines (last + 1) sectionOf ++ (lines (last + 1) (missingOf lengths) ++ endLine (every (last + 1) wholeAt))
 
-  -- table 223 key 4096 version 3 last 1
+  -- table 223 key 4096 service 3152 start 1000000800 version 3 last 1
   unfoldable pub tableText : Header → List ℕ
-  tableText h = headLine h ++ (if eqb (h .table) nrtIt then listText (h .last) else otherLine)
+  tableText h = headLine h ++ (if eqb (h .key .table) nrtIt then listText (h .last) else otherLine)
 
   -- a bad file prints its refusal and no more
   abbrev pub answerText : Scan → List ℕ

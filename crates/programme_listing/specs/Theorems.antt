@@ -9,9 +9,9 @@ use Rattle.programme_listing.specs.Listing.{textOf, listing, listOf}
 use Rattle.programme_listing.specs.Answer.{listedIn, listLent}
 use Rattle.programme_listing.specs.declared.Listed.{Listed}
 
--- a room for any text: a first line of at most 47 bytes, at most 20 bytes for each byte of sixteen sections of 1,024, and a last line of 10
+-- a room for any text: a first line of at most 78 bytes, at most 20 bytes for each byte of sixteen sections of 1,024, and a last line of 10
 abbrev pub room : ℕ
-room = 327737
+room = 327768
 
 -- Of a call that fills an output with a text, or is refused:
 pub record Filled (text old : List ℕ) (left : Out) : Type 0 where

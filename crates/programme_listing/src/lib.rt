@@ -22,8 +22,8 @@ pub enum Listed {
     Refused(u8),
 }
 
-// An output of so many bytes is never too small: 47 of the first line, 20 for each byte of sixteen sections of 1,024, and 10 of the last.
-pub const ROOM: usize = 327737;
+// An output of so many bytes is never too small: 78 of the first line, 20 for each byte of sixteen sections of 1,024, and 10 of the last.
+pub const ROOM: usize = 327768;
 
 // Section n, where the file holds it.
 fn section_of(
@@ -139,7 +139,7 @@ fn table_text(
     ensures { λ r. ⌜ Wrote (tableText (now (file .entry)) starts lengths h) (now (out .entry)) at (now (out .exit)) r ⌝ }
 {
     let head = programme_lines::head_line(out, at, h);
-    if h.table == programme::NRT_IT {
+    if h.key.table == key::NRT_IT {
         return list_text(out, head, h.last, file, starts, lengths);
     }
     text::word(out, head, b"no programme list\n")

@@ -33,8 +33,8 @@ never-44 : (s : List ℕ) → readOf s ≡ Reading.Refused 44 → ⊥
 unfolding readOf section.readOf
 never-44 s =
     among reading.Reading.Refused (λ r. readBy s r ≡ Reading.Refused 44 → ⊥) (section.faults s) (reading.Reading.Sound (section.headerOf s))
-    (apart 1 refl, (apart 2 refl, (apart 3 refl, (apart 4 refl, (apart 5 refl, (apart 6 refl, (apart 7 refl, (apart 8 refl, tt))))))))
-    (among Reading.Refused (λ r. r ≡ Reading.Refused 44 → ⊥) (faults s (section.headerOf s .table)) (Reading.Programme (programmeOf s))
+    (apart 1 refl, (apart 2 refl, (apart 3 refl, (apart 4 refl, (apart 5 refl, (apart 6 refl, (apart 7 refl, (apart 8 refl, (apart 46 refl, tt)))))))))
+    (among Reading.Refused (λ r. r ≡ Reading.Refused 44 → ⊥) (faults s (section.headerOf s .key .table)) (Reading.Programme (programmeOf s))
     (apart 45 refl, (apart 43 refl, (apart 43 refl, (apart 43 refl, (apart 43 refl, tt)))))
     (λ e. let z : _≡_ {A = ℕ} 0 1 = cc in omega arith))
 

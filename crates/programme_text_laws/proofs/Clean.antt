@@ -13,14 +13,15 @@ use Rattle.base.specs.Bytes.{part}
 use Rattle.base.specs.Octets.{Octets}
 use Rattle.base.proofs.Bytes.{octets-part}
 use Rattle.base.proofs.Cases.{by}
+use Rattle.key.specs.declared.Key.{Key}
 use Rattle.section.specs.declared.Header.{Header}
 use Rattle.file.specs.Scan.{scanOf, foundAt}
 use Rattle.file.specs.declared.Scan.{Scan}
 use Rattle.file_listing.specs.Words as words
 use Rattle.file_listing.specs.Words.{ascii, newline, lines}
-use Rattle.file_listing.specs.Listing.{headLine, missingLine, missingOf, refusedLine}
+use Rattle.file_listing.specs.Listing.{addedWords, headLine, missingLine, missingOf, refusedLine}
 use Rattle.text.specs.Words.{field}
-use Rattle.text.proofs.Clean.{Plain, plain-join, plain-word, good, all-good, plain-decimal, plain-lister, plain-escaped}
+use Rattle.text.proofs.Clean.{Plain, plain-join, plain-word, good, all-good, plain-decimal, plain-lister, plain-long, plain-escaped}
 use Rattle.programme.specs.Table.{nrtIt}
 use Rattle.programme.specs.Reading.{readOf, stepOf, ownOf}
 use Rattle.programme.specs.declared.Programme.{Programme}
@@ -51,12 +52,20 @@ one w n e = plain-join (plain-word (ascii w) e) (plain-decimal n)
 listed : (w : String) (n : ℕ) → all-good (ascii w) ≡ true → Plain (words.field w n)
 listed w n e = plain-join (plain-word (ascii w) e) (plain-lister n)
 
+added : (key : Key) → Plain (addedWords key)
+unfolding addedWords all-good good
+added key =
+    by (eqb (key .table) nrtIt)
+    (λ t.
+    rw t (plain-join (listed " service " (key .service) refl) (plain-join (plain-word (ascii " start ") refl) (plain-long (key .start)))))
+    (λ f. rw f none)
+
 head : (h : Header) → Plain (headLine h)
 unfolding headLine all-good good
 head h =
-    plain-join (listed "table " (h .table) refl)
-    (plain-join (listed " key " (h .extension) refl)
-    (plain-join (listed " version " (h .version) refl) (plain-join (listed " last " (h .last) refl) ended)))
+    plain-join (listed "table " (h .key .table) refl)
+    (plain-join (listed " key " (h .key .extension) refl)
+    (plain-join (added (h .key)) (plain-join (listed " version " (h .version) refl) (plain-join (listed " last " (h .last) refl) ended))))
 
 missing : (n : ℕ) → Plain (missingLine n)
 unfolding missingLine all-good good
@@ -180,7 +189,7 @@ module _ (file starts lengths : List ℕ) (o : Octets file) where
   table : (h : Header) → Plain (tableText file starts lengths h)
   unfolding tableText all-good good
   table h =
-      by (eqb (h .table) nrtIt)
+      by (eqb (h .key .table) nrtIt)
       (λ t. rw t (plain-join (head h) (list (h .last))))
       (λ f. rw f (plain-join (head h) (plain-word otherLine refl)))
 

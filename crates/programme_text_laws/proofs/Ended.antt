@@ -10,7 +10,7 @@ use Rattle.section.specs.declared.Header.{Header}
 use Rattle.file.specs.Scan.{foundAt}
 use Rattle.file_listing.specs.Words as words
 use Rattle.file_listing.specs.Words.{newline, lines}
-use Rattle.file_listing.specs.Listing.{headLine, missingLine, missingOf}
+use Rattle.file_listing.specs.Listing.{addedWords, headLine, missingLine, missingOf}
 use Rattle.text.specs.Words.{field}
 use Rattle.programme.specs.Reading.{readOf, stepOf, ownOf}
 use Rattle.programme.specs.declared.Programme.{Programme}
@@ -56,8 +56,9 @@ join a b p q = record { after = go }
 head : (h : Header) → Line (headLine h)
 unfolding headLine
 head h =
-    front (words.field "table " (h .table))
-    (front (words.field " key " (h .extension)) (front (words.field " version " (h .version)) (front (words.field " last " (h .last)) new)))
+    front (words.field "table " (h .key .table))
+    (front (words.field " key " (h .key .extension))
+    (front (addedWords (h .key)) (front (words.field " version " (h .version)) (front (words.field " last " (h .last)) new))))
 
 missing : (n : ℕ) → Line (missingLine n)
 unfolding missingLine

@@ -17,6 +17,7 @@ use Rattle.programme.specs.declared.Step.{Step}
 use Rattle.programme.specs.declared.Own.{Own}
 use Rattle.programme.proofs.Items as items
 use Rattle.programme_laws.specs.Walk.{onward, walk, walkOf, reached, Accepted, Unrefused, answersTo}
+use Rattle.section.proofs.ExactlyWhen.{own-bounds}
 use Rattle.programme_laws.proofs.ExactlyWhen as when
 use Rattle.programme_section.specs.Section.{ownRead, stepRead, itemsRead, readRead, sectionRead}
 use Rattle.programme_text_laws.specs.Theorems.{Section-Read}
@@ -24,14 +25,14 @@ use Rattle.programme_text_laws.specs.Theorems.{Section-Read}
 module _ (s : List ℕ) where
   -- no refusal's number is 0
   reading-above : (n : ℕ) → readOf s ≡ Reading.Refused n → 1 ≤ n
-  reading-above n e = ⊎-elim (λ w. w .0) (⊎-elim (λ q. omega arith) (λ q. omega arith)) (when.read-range s n e)
+  reading-above n e = ⊎-elim (λ w. own-bounds n w .0) (⊎-elim (λ q. omega arith) (λ q. omega arith)) (when.read-range s n e)
 
   step-above : (at k n : ℕ) → stepOf s at k ≡ Step.Refused n → 1 ≤ n
-  step-above at k n e = ⊎-elim (λ w. w .0) (⊎-elim (λ q. omega arith) (λ q. omega arith)) (when.step-range s at k n e)
+  step-above at k n e = ⊎-elim (λ w. own-bounds n w .0) (⊎-elim (λ q. omega arith) (λ q. omega arith)) (when.step-range s at k n e)
 
   own-above : (at n : ℕ) → ownOf s at ≡ Own.Refused n → 1 ≤ n
   own-above at n e =
-      ⊎-elim (λ w. w .0) (⊎-elim (λ q. omega arith) (⊎-elim (λ q. omega arith) (λ q. omega arith))) (when.own-range s at n e)
+      ⊎-elim (λ w. own-bounds n w .0) (⊎-elim (λ q. omega arith) (⊎-elim (λ q. omega arith) (λ q. omega arith))) (when.own-range s at n e)
 
   -- the table's own loop
   own-exactly : (at : ℕ) → (ownRead s (ownOf s at) ≡ true) ↔ (ownTold (ownOf s at) .number ≡ 0)

@@ -55,7 +55,7 @@ module _ (file : List ℕ) (h : Header) (list : ListFile file h) where
   last-line : LastLine (endLine whole) (textOf file)
   unfolding textOf tableText listText
   last-line =
-      rw (list .0, eq-eqb (h .table) 0xDF (list .1))
+      rw (list .0, eq-eqb (h .key .table) 0xDF (list .1))
       (behind (headLine h) (lines (h .last + 1) (sectionOf file starts lengths)) (lines (h .last + 1) (missingOf lengths)) (endLine whole)
       (before-last file starts lengths h (h .last + 1)))
 

@@ -51,7 +51,7 @@ module _ (file : List ℕ) where
   -- of a file that is accepted, and whose table id is the NRT-IT's
   module _ (h : Header) where
     abbrev pub ListFile : Type 0
-    ListFile = (scanOf file .answer ≡ Scan.Table h) × (h .table ≡ 0xDF)
+    ListFile = (scanOf file .answer ≡ Scan.Table h) × (h .key .table ≡ 0xDF)
 
     -- the last line is whole exactly when every section from 0 to the last is held and read to its end,
     abbrev pub Whole-Exactly : Type 0

@@ -42,6 +42,12 @@ module _ (s t : List ℕ) (same : SameButReserved s t) where
         current-same,
         byte-same 6 refl,
         byte-same 7 refl,
+        byte-same 8 refl,
+        byte-same 9 refl,
+        byte-same 10 refl,
+        byte-same 11 refl,
+        byte-same 12 refl,
+        byte-same 13 refl,
       )
 
 pub disregarded : (s t : List ℕ) → Disregarded s t

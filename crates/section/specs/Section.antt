@@ -1,11 +1,13 @@
--- Document 01, "A section": the layout of the eight header bytes, high bit first, and the numbers 1 to 8.
+-- Document 01, "A section": the layout of the eight header bytes, high bit first, and the numbers 1 to 8. Document 02, request 4: the key, and 46.
 use Prim.Native.Nat.{ℕ, _+_, _-_, _/_, _%_, _*_}
 use mathlib.Core.List.{List, [], _∷_}
-use mathlib.Core.Bool.{_||_}
+use mathlib.Core.Bool.{_||_, _&&_}
 use lib.ListN.{length}
 use lib.Dec.{ltb, eqb}
 use Rattle.base.specs.Bytes.{byte, word}
-use Rattle.base.specs.Choice.{Row, _if_, first}
+use Rattle.base.specs.Choice.{if_then_else_, Row, _if_, first}
+use Rattle.key.specs.Key.{nrtIt, keyFrom}
+use Rattle.key.specs.declared.Key.{Key}
 use Rattle.section.specs.declared.Header.{Header}
 use Rattle.section.specs.declared.Reading.{Reading}
 use Rattle.section.specs.declared.Reading.the-variants.{Sound, Refused}
@@ -67,7 +69,27 @@ sectionNumber s = byte s 6
 abbrev pub lastSectionNumber : List ℕ → ℕ
 lastSectionNumber s = byte s 7
 
--- "Numbers of refusal", 1 to 8
+-- what follows the header of an NRT-IT (source document 004, Table 6.5): service_id 16
+abbrev pub serviceId : List ℕ → ℕ
+serviceId s = word s 8
+
+-- time_span_start 32
+abbrev pub timeSpanStart : List ℕ → ℕ
+timeSpanStart s = word s 10 * 65536 + word s 12
+
+-- so many bytes of an NRT-IT hold its key
+abbrev pub keySize : ℕ
+keySize = 14
+
+-- what is so of an NRT-IT, and 0 of every other table
+unfoldable pub ofList : ℕ → ℕ → ℕ
+ofList table n = if eqb table nrtIt then n else 0
+
+-- the key of a section's table
+abbrev pub keyIn : List ℕ → Key
+keyIn s = keyFrom (tableId s) (tableIdExtension s) (serviceId s) (timeSpanStart s)
+
+-- "Numbers of refusal", 1 to 8; then 46, an NRT-IT too short to hold its key
 abbrev pub faults : List ℕ → List Row
 faults s =
     1 if ltb (length s) headerSize
@@ -78,14 +100,18 @@ faults s =
     ∷ 6 if ltb (lastSectionNumber s) (sectionNumber s)
     ∷ 7 if ltb highestLast (lastSectionNumber s)
     ∷ 8 if eqb (currentNext s) 0
+    ∷ 46 if (eqb (tableId s) nrtIt && ltb (length s) keySize)
     ∷ []
+
+-- the first of them that applies, 0 where none does
+unfoldable pub faultOf : List ℕ → ℕ
+faultOf s = first (λ n. n) (faults s) 0
 
 -- what a sound section says; the body follows the header
 abbrev pub headerOf : List ℕ → Header
 headerOf s =
     record {
-      table = tableId s;
-      extension = tableIdExtension s;
+      key = keyIn s;
       version = version s;
       number = sectionNumber s;
       last = lastSectionNumber s;

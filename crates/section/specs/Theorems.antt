@@ -1,5 +1,5 @@
 -- What is proved of a reading, in words of the payload `s`, and the words for it: each statement is a theorem of `proofs/` by the same name in small letters.
-use Prim.Native.Nat.{ℕ, _-_, _/_, _%_, _<_, _≤_}
+use Prim.Native.Nat.{ℕ, _-_, _/_, _%_, _^_, _<_, _≤_}
 use mathlib.Core.Path.{_≡_}
 use mathlib.Core.List.{List, [], _∷_}
 use mathlib.Core.Logic.{_↔_, _⊎_}
@@ -7,7 +7,9 @@ use lib.ListN.{length}
 use Rattle.base.specs.Bytes.{byte}
 use Rattle.base.specs.Octets.{Octets}
 use Rattle.base.specs.Tables.{Rule, _says_, None, above}
-use Rattle.section.specs.Section.{syntaxIndicator, privateIndicator, sectionLength, sectionSize, sectionNumber, lastSectionNumber, currentNext}
+use Rattle.key.specs.Key.{nrtIt}
+use Rattle.key.specs.declared.Key.{Key}
+use Rattle.section.specs.Section.{tableId, tableIdExtension, serviceId, timeSpanStart, keyIn, syntaxIndicator, privateIndicator, sectionLength, sectionSize, sectionNumber, lastSectionNumber, currentNext}
 use Rattle.section.specs.Section.{headerOf, readOf, numberOf}
 use Rattle.section.specs.declared.Header.{Header}
 use Rattle.section.specs.declared.Reading.{Reading}
@@ -24,6 +26,7 @@ pub record SoundFacts (s : List ℕ) (h : Header) : Type 0 where
   pub number : h .number ≤ h .last
   pub last : h .last ≤ 15
   pub version : h .version < 32
+  pub holds-key : h .key .table ≡ nrtIt → 14 ≤ length s
   pub none : numberOf (readOf s) ≡ 0
 
 -- two payloads that differ at most in reserved bits
@@ -35,6 +38,17 @@ pub record SameButReserved (s t : List ℕ) : Type 0 where
   pub above-reserved : byte s 1 / 64 ≡ byte t 1 / 64
   pub below-reserved : byte s 1 % 16 ≡ byte t 1 % 16
   pub version-and-current : byte s 5 % 64 ≡ byte t 5 % 64
+
+-- a section's own numbers
+abbrev pub OwnNumber : ℕ → Type 0
+OwnNumber n = ((1 ≤ n) × (n ≤ 8)) ⊎ (n ≡ 46)
+
+-- the numbers of a key fit their bits
+pub record FitsKey (key : Key) : Type 0 where
+  pub table : key .table < 2 ^ 8
+  pub extension : key .extension < 2 ^ 16
+  pub service : key .service < 2 ^ 16
+  pub start : key .start < 2 ^ 32
 
 module _ (s : List ℕ) where
   -- payload under 8 bytes
@@ -69,6 +83,10 @@ module _ (s : List ℕ) where
   abbrev pub NotCurrent : Type 0
   NotCurrent = currentNext s ≡ 0
 
+  -- an NRT-IT too short to hold its key
+  abbrev pub KeyShort : Type 0
+  KeyShort = (tableId s ≡ nrtIt) × (length s < 14)
+
   abbrev pub table : List Rule
   table =
       1 says PayloadShort
@@ -79,6 +97,7 @@ module _ (s : List ℕ) where
       ∷ 6 says NumberAboveLast
       ∷ 7 says LastAbove15
       ∷ 8 says NotCurrent
+      ∷ 46 says KeyShort
       ∷ []
 
   abbrev pub NoneBefore : ℕ → Type 0
@@ -109,6 +128,9 @@ module _ (s : List ℕ) where
   abbrev pub Refused-8 : Type 0
   Refused-8 = (numberOf (readOf s) ≡ 8) ↔ (NoneBefore 8 × NotCurrent)
 
+  abbrev pub Refused-46 : Type 0
+  Refused-46 = (numberOf (readOf s) ≡ 46) ↔ (NoneBefore 46 × KeyShort)
+
   -- no number is given exactly when none is so
   abbrev pub Not-Refused : Type 0
   Not-Refused = (numberOf (readOf s) ≡ 0) ↔ None table
@@ -117,17 +139,29 @@ module _ (s : List ℕ) where
   abbrev pub Sound-Exactly : Type 0
   Sound-Exactly = (h : Header) → (readOf s ≡ Sound h) ↔ (None table × (h ≡ headerOf s))
 
-  -- no number but 1 to 8 is given
+  -- no number but 1 to 8 and 46 is given
   abbrev pub Refused-Range : Type 0
-  Refused-Range = (n : ℕ) → readOf s ≡ Refused n → (1 ≤ n) × (n ≤ 8)
+  Refused-Range = (n : ℕ) → readOf s ≡ Refused n → OwnNumber n
 
-  -- of bytes, the table id is a byte and the extension a 16-bit number
+  -- of bytes, the table id is a byte, extension and service_id are 16-bit numbers and time_span_start is one of 32
   abbrev pub Sound-Fits : Type 0
-  Sound-Fits = (h : Header) → readOf s ≡ Sound h → Octets s → (h .table < 256) × (h .extension < 65536)
+  Sound-Fits = (h : Header) → readOf s ≡ Sound h → Octets s → FitsKey (h .key)
 
   -- two answers that keep the promise of `section::read` are equal
   abbrev pub Unique : Type 0
   Unique = (x y : Reading) → x ≡ readOf s → y ≡ readOf s → x ≡ y
+
+-- Two sections, the bytes of which may be any, are of one table: NRT-ITs where extension, service_id and time_span_start are the same, and one of
+-- another id where table id and extension are, whatever stands in the bodies
+abbrev pub Lists-Told-Apart : List ℕ → List ℕ → Type 0
+Lists-Told-Apart s t =
+    tableId s ≡ nrtIt → tableId t ≡ nrtIt
+    → (keyIn s ≡ keyIn t)
+    ↔ ((tableIdExtension s ≡ tableIdExtension t) × (serviceId s ≡ serviceId t) × (timeSpanStart s ≡ timeSpanStart t))
+
+abbrev pub Others-Told-Apart : List ℕ → List ℕ → Type 0
+Others-Told-Apart s t =
+    ¬ (tableId s ≡ nrtIt) → (keyIn s ≡ keyIn t) ↔ ((tableId s ≡ tableId t) × (tableIdExtension s ≡ tableIdExtension t))
 
 -- reserved bits are disregarded
 abbrev pub Disregarded : List ℕ → List ℕ → Type 0

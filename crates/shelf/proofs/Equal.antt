@@ -13,7 +13,7 @@ use lib.Seq.{getD-set-same, getD-set-other}
 use Rattle.base.specs.Below.{some, lowest}
 use Rattle.base.proofs.Cases.{by, same-or}
 use Rattle.berth.specs.Berth.{places}
-use Rattle.shelf.specs.declared.Key.{Key}
+use Rattle.key.specs.declared.Key.{Key}
 use Rattle.shelf.specs.Record.{Place}
 use Rattle.shelf.specs.Record.{Shelf}
 use Rattle.shelf.specs.Record.{freePlace, placeAt, withPlace, spoiledPlace, alike, spoiledOf, hasKey, placeOf, freeOf, Same}

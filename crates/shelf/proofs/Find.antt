@@ -11,9 +11,10 @@ use Rattle.base.specs.Below.{lowest}
 use Rattle.base.proofs.Below.{lowest-le, lowest-holds, lowest-below}
 use Rattle.base.proofs.Cases.{and-left}
 use Rattle.berth.specs.Berth.{places}
-use Rattle.shelf.specs.declared.Key.{Key}
+use Rattle.key.specs.declared.Key.{Key}
+use Rattle.key.specs.Key.{sameKey}
 use Rattle.shelf.specs.Record.{Shelf}
-use Rattle.shelf.specs.Record.{placeAt, sameKey, hasKey, placeOf, freeOf}
+use Rattle.shelf.specs.Record.{placeAt, hasKey, placeOf, freeOf}
 
 pub lowest-at : (n : ℕ) {i : ℕ} (f : ℕ → Bool) → i ≡ n → lowest i f ≡ i → lowest n f ≡ n
 lowest-at n f e h = rw e at h

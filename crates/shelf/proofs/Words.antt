@@ -5,7 +5,7 @@
 --   sound-place              what a taken place of a record that is not spoiled is like
 --   one-place, place-only    and there a key has one place
 use mathlib.Core.Path.{_≡_, sym, ap, _∙_}
-use mathlib.Core.Bool.{Bool, true, false, not}
+use mathlib.Core.Bool.{Bool, true, false, not, _&&_}
 use mathlib.Core.Logic.{_↔_, _⊎_, ⊎-elim, inl, inr}
 use Prim.Native.Nat.{ℕ, _<_, _≤_}
 use native.Mathlib.Omega.{arith}
@@ -16,9 +16,12 @@ use Rattle.base.proofs.Cases.{by, same-or}
 use Rattle.shelf.proofs.Find.{place-has, place-first}
 use Rattle.base.specs.Below.{some, lowest}
 use Rattle.base.proofs.Below.{some-which, some-found, lowest-all, lowest-below}
-use Rattle.base.proofs.Tables.{words, same, or-so, fails, denied}
+use Rattle.base.proofs.Tables.{words, itself, same, or-so, and-so, fails, denied}
 use Rattle.berth.specs.Berth.{places, sections, berthSize}
-use Rattle.shelf.specs.declared.Key.{Key}
+use Rattle.key.specs.declared.Key.{Key}
+use Rattle.key.specs.Key.{sameKey}
+pub use Rattle.key.proofs.Keys.{OneKey}
+use Rattle.key.proofs.Keys.{same-exactly, one-is, is-one}
 use Rattle.shelf.specs.Record.{Place}
 use Rattle.shelf.specs.Record.{Shelf}
 use Rattle.shelf.specs.Record.{placeAt, lengthAt, spoiledPlace, alike, spoiledOf, hasKey, placeOf, freeOf}
@@ -54,10 +57,6 @@ Wrong place =
     (λ n. Held place n × ((place .last < n) ⊎ ((lengthAt place n < 8) ⊎ (berthSize < lengthAt place n))))
     ⊎ ¬ (Some sections (Held place))))
 
--- one key
-abbrev pub OneKey : Key → Key → Type 0
-OneKey a b = (a .table ≡ b .table) × (a .extension ≡ b .extension)
-
 -- a place is taken and has that key
 abbrev pub HasKey : Place → Key → Type 0
 HasKey place key = (place .taken ≡ true) × OneKey (place .key) key
@@ -81,7 +80,9 @@ spoiled-place place = search (words, some-so) depth 20
 
 two-alike : (a b : Place) → Decides (alike a b) ((a .taken ≡ true) × ((b .taken ≡ true) × OneKey (a .key) (b .key)))
 unfolding alike
-two-alike a b = search words depth 12
+two-alike a b =
+    and-so (a .taken) (b .taken && sameKey (a .key) (b .key)) (itself (a .taken))
+    (and-so (b .taken) (sameKey (a .key) (b .key)) (itself (b .taken)) (same-exactly (a .key) (b .key)))
 
 pub decided : (shelf : Shelf) → Decides (spoiledOf shelf) (Spoiled shelf)
 unfolding spoiledOf
@@ -101,9 +102,9 @@ spoiled-exactly shelf = decided shelf
 not-over : {a b : ℕ} → ¬ (a < b) → b ≤ a
 not-over {a} {b} h = omega (arith, h)
 
-has-key : (place : Place) (key : Key) → Decides (hasKey place key) (HasKey place key)
+pub has-key : (place : Place) (key : Key) → Decides (hasKey place key) (HasKey place key)
 unfolding hasKey
-has-key place key = search words depth 12
+has-key place key = and-so (place .taken) (sameKey (place .key) key) (itself (place .taken)) (same-exactly (place .key) key)
 
 free : (t : Bool) → Decides (not t) (t ≡ false)
 free t = (not-true t, λ e. ap not e)
@@ -163,5 +164,5 @@ module _ (shelf : Shelf) (e : spoiledOf shelf ≡ false) where
       let q : HasKey (placeAt shelf (placeOf shelf key)) key
       = has-key (placeAt shelf (placeOf shelf key)) key .0 (place-has shelf key (omega (arith, l, h))) in
       absurd
-      (one-place (placeOf shelf key) p l h (q .0) (k .0) (q .1 .0 ∙ sym (k .1 .0), q .1 .1 ∙ sym (k .1 .1)))))
+      (one-place (placeOf shelf key) p l h (q .0) (k .0) (is-one _ _ (one-is _ _ (q .1) ∙ sym (one-is _ _ (k .1)))))))
       (same-or p (placeOf shelf key))

@@ -7,9 +7,9 @@ use lib.Dec.{eqb, ltb}
 use lib.ListN.{length, getD}
 use Rattle.base.specs.Choice.{if_then_else_}
 use Rattle.berth.specs.Berth.{sections, places}
-use Rattle.shelf.specs.declared.Key.{Key}
-use Rattle.shelf.specs.Record.{placeOf, freeOf}
-use Rattle.shelf.specs.Layout.{count, keyNumber, atVersion, atLast, atMask, listed, lengthIn, shelfIn}
+use Rattle.key.specs.declared.Key.{Key}
+use Rattle.shelf.specs.Record.{noKey, placeOf, freeOf}
+use Rattle.shelf.specs.Layout.{count, keyNumber, restNumber, keyAt, atVersion, atLast, atMask, listed, lengthIn, shelfIn}
 
 -- so many numbers are a record, and it has place p
 abbrev pub hasPlace : ℕ → ℕ → Bool
@@ -28,6 +28,12 @@ freeAmong words = if eqb (length words) count then freeOf (shelfIn words) else p
 
 unfoldable pub keyAmong : List ℕ → ℕ → ℕ
 keyAmong words p = if hasPlace (length words) p then keyNumber words p else 0
+
+unfoldable pub restAmong : List ℕ → ℕ → ℕ
+restAmong words p = if hasPlace (length words) p then restNumber words p else 0
+
+unfoldable pub keyFound : List ℕ → ℕ → Key
+keyFound words p = if hasPlace (length words) p then keyAt words p else noKey
 
 unfoldable pub versionAmong : List ℕ → ℕ → ℕ
 versionAmong words p = if hasPlace (length words) p then getD words (atVersion p) 0 else 0

@@ -9,7 +9,8 @@ use lib.ListN.{getD, set, replicate}
 use Rattle.base.specs.Below.{some, lowest}
 use Rattle.section.specs.declared.Header.{Header}
 use Rattle.berth.specs.Berth.{places, sections, berthSize}
-use Rattle.shelf.specs.declared.Key.{Key}
+use Rattle.key.specs.declared.Key.{Key}
+use Rattle.key.specs.Key.{sameKey}
 
 -- a place: free, or a table with the byte length of each of its sixteen sections; 0 where a section is not held. A held length 0
 -- cannot be said so: Layout reads it as 1, which is wrong as well
@@ -24,12 +25,16 @@ pub record Place : Type 0 where
 pub record Shelf : Type 0 where
   pub places : List Place
 
+-- what stands for the key where there is no table
+abbrev pub noKey : Key
+noKey = record { table = 0; extension = 0; service = 0; start = 0 }
+
 -- a place that is free, as a fresh shelf has it
 abbrev pub freePlace : Place
 freePlace =
     record {
       taken = false;
-      key = record { table = 0; extension = 0 };
+      key = noKey;
       version = 0;
       last = 0;
       lengths = replicate sections 0;
@@ -70,12 +75,9 @@ lengthAt place n = getD (place .lengths) n 0
 abbrev pub holds : Place → ℕ → Bool
 holds place n = not (eqb (lengthAt place n) 0)
 
--- a table's key is its table id with its table id extension
+-- a table's key is that of its sections
 abbrev pub keyOf : Header → Key
-keyOf h = record { table = h .table; extension = h .extension }
-
-abbrev pub sameKey : Key → Key → Bool
-sameKey a b = eqb (a .table) (b .table) && eqb (a .extension) (b .extension)
+keyOf h = h .key
 
 -- 18: a held number above last, or a held length outside 8 to 1,024
 abbrev pub wrongAt : Place → ℕ → Bool

@@ -16,7 +16,7 @@ use Rattle.answers.proofs.Fills.{Refusal, size-back, refusal-back, through, ref
 use Rattle.berth.specs.Berth.{sections, berthSize, standing}
 use Rattle.berth.proofs.Berths.{standing-length}
 use Rattle.shelf.specs.Record.{Shelf, placeAt, lengthAt, placeOf}
-use Rattle.shelf.specs.declared.Key.{Key}
+use Rattle.key.specs.declared.Key.{Key}
 use Rattle.shelf.specs.Layout.{shelfAt}
 use Rattle.shelf_ask.specs.declared.Holding.{Holding}
 use Rattle.shelf_ask.specs.declared.Whole.{Whole}

@@ -16,10 +16,10 @@ use Rattle.answers.proofs.Fills.{Refusal}
 use Rattle.section.specs.Section.{readOf}
 use Rattle.section.specs.declared.Header.{Header}
 use Rattle.section.specs.declared.Reading.{Reading}
-use Rattle.section.proofs.ExactlyWhen.{refused-range}
+use Rattle.section.proofs.ExactlyWhen.{refused-range, own-bounds}
 use Rattle.berth.specs.Berth.{places, storeSize, standing}
 use Rattle.shelf.specs.Record.{Shelf, keyOf, placeAt, lengthAt, holds, spoiledOf, placeOf, freeOf}
-use Rattle.shelf.specs.declared.Key.{Key}
+use Rattle.key.specs.declared.Key.{Key}
 use Rattle.shelf.specs.Layout.{shelfAt}
 use Rattle.shelf_write.specs.Writes.{freshWords}
 use Rattle.shelf_begin.specs.Begin as Begin
@@ -130,7 +130,7 @@ module _ (words store : List ℕ) where
         (Offer.readingOf shelf store payload r .store)
     reading-so (Reading.Sound h) e = sound-so h
     reading-so (Reading.Refused n) e =
-        let r : (1 ≤ n) × (n ≤ 8) = refused-range payload n e in unoffered-so n (omega (arith, r .0, r .1))
+        let r = own-bounds n (refused-range payload n e) in unoffered-so n (omega (arith, r .0, r .1))
 
     pub offer-keeps : Offer-Keeps words store payload
     unfolding offerLent OfferOn.offerOn Offer.offerOf
@@ -189,7 +189,7 @@ module _ (words store : List ℕ) where
     answered-so (Scan.Refused n) e = unloaded-so (Scan.Refused n) n (fault (scan-range file n e))
       where
         fault : FileFault n → Refusal n
-        fault = ⊎-elim (λ a. omega (arith, a .0, a .1)) (⊎-elim (λ q. omega arith) (λ q. omega arith))
+        fault = ⊎-elim (⊎-elim (λ a. omega (arith, a .0, a .1)) (λ q. omega arith)) (⊎-elim (λ q. omega arith) (λ q. omega arith))
 
     pub load-keeps : Load-Keeps words store file
     unfolding loadLent LoadOn.loadOn Load.loadOf

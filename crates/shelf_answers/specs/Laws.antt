@@ -9,7 +9,7 @@ use mathlib.Core.Logic.{_↔_}
 use Rattle.answers.specs.Answers.{Lent, refusalIn, Fills}
 use Rattle.berth.specs.Berth.{standing}
 use Rattle.shelf.specs.Record.{Shelf, lengthAt, placeOf}
-use Rattle.shelf.specs.declared.Key.{Key}
+use Rattle.key.specs.declared.Key.{Key}
 use Rattle.shelf.specs.Layout.{shelfAt}
 use Rattle.shelf_begin.specs.declared.Begun.{Begun}
 use Rattle.shelf_begin.specs.On.{beginOn}

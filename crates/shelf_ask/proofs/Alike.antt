@@ -8,7 +8,7 @@ use Prim.Native.Nat.{ℕ}
 use lib.ListN.{length}
 use Rattle.base.specs.Choice.{if_then_else_, first}
 use Rattle.shelf.specs.Record.{Same, placeAt}
-use Rattle.shelf.specs.declared.Key.{Key}
+use Rattle.key.specs.declared.Key.{Key}
 use Rattle.shelf.specs.Record.{Shelf}
 use Rattle.shelf.proofs.Equal.{same-spoiled, same-place}
 use Rattle.shelf_ask.specs.Ask.{holdingOf, copyOf, wholeOf, missingOf, complete, lowestMissing, uncopied, copyFrom, copy}

@@ -20,7 +20,7 @@ use Rattle.base.specs.Tables.{Rule, _says_, None, above, said, Agree}
 use Rattle.base.proofs.Cases.{by}
 use Rattle.base.proofs.Tables.{given, passed, silent, among, words}
 use Rattle.shelf.specs.Record.{placeAt, lengthAt, placeOf}
-use Rattle.shelf.specs.declared.Key.{Key}
+use Rattle.key.specs.declared.Key.{Key}
 use Rattle.shelf.specs.Record.{Place}
 use Rattle.shelf.specs.Record.{Shelf}
 use Rattle.berth.specs.Berth.{places, storeSize}

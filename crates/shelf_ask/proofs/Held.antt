@@ -19,7 +19,7 @@ use Rattle.berth.specs.Berth.{places, sections, berthSize, storeSize}
 use Rattle.berth.specs.Calls.{goesIn, copiedIn}
 use Rattle.berth.proofs.Steps.{is-berth}
 use Rattle.shelf.specs.Record.{placeAt, lengthAt, spoiledOf, placeOf}
-use Rattle.shelf.specs.declared.Key.{Key}
+use Rattle.key.specs.declared.Key.{Key}
 use Rattle.shelf.specs.Record.{Shelf}
 use Rattle.shelf.proofs.Find.{place-le, place-taken}
 use Rattle.shelf.proofs.Words.{sound-place}

@@ -1,5 +1,5 @@
 -- What is read in the numbers of a table that is held.
---   place-read, read-count        the place, and that there are 84 numbers
+--   place-read, read-count        the place, and that there are 96 numbers
 --   last-read, last-low           its last number
 --   gap-read                      its lowest missing number
 --   length-read, length-past, lengths-read      the length of a section, and all sixteen
@@ -15,7 +15,7 @@ use Rattle.base.specs.Bits.{bit}
 use Rattle.base.specs.Below.{lowest}
 use Rattle.base.proofs.Cases.{by}
 use Rattle.shelf.specs.Record.{placeAt, lengthAt, holds, spoiledOf, placeOf}
-use Rattle.shelf.specs.declared.Key.{Key}
+use Rattle.key.specs.declared.Key.{Key}
 use Rattle.shelf.specs.Layout.{lengthIn, lengthsIn, takenIn, tableIn, shelfAt}
 use Rattle.shelf.specs.Calls.{placeAmong, lastAmong, maskAmong, lengthAmong, lengthsAmong}
 use Rattle.shelf.proofs.Lists.{length-listed, listed-same}
@@ -35,7 +35,7 @@ module _ (words : List ℕ) (size : ℕ) (key : Key) (p : ℕ) (e : holdingOf (s
   is : In (shelfAt words) size key p
   is = held (shelfAt words) size key p e
 
-  pub read-count : length words ≡ 84
+  pub read-count : length words ≡ 96
   read-count = spoiled-count words (is .sound)
 
   pub read-taken : takenIn words p ≡ true
@@ -77,7 +77,7 @@ module _ (words : List ℕ) (size : ℕ) (key : Key) (p : ℕ) (e : holdingOf (s
 
   pub length-past : {c : ℕ} (n : ℕ) → c ≡ lengthAmong words p n → 16 ≤ n → c ≡ 0
   unfolding lengthAmong
-  length-past n q h = q ∙ rw (eq-eqb (length words) 84 read-count, lt-ltb p 4 (is .place), le-ltb n 16 h)
+  length-past n q h = q ∙ rw (eq-eqb (length words) 96 read-count, lt-ltb p 4 (is .place), le-ltb n 16 h)
 
   pub length-read : {c : ℕ} (n : ℕ) → c ≡ lengthAmong words p n → c ≡ lengthAt (placeAt (shelfAt words) p) n
   length-read n q =

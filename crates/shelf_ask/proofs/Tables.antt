@@ -6,7 +6,7 @@
 --   lent-refused, lent-table                      both ways out of the question over lent numbers
 --   table-untouched, table-accepted               a refused question leaves the buffer as it was; it is accepted exactly when
 --   same-told                                     records that are not spoiled are equal exactly when they tell the same table in each place
---   twenty                                        a table is told in twenty numbers
+--   whole-told                                    a table is told in twenty-three numbers
 use mathlib.Core.Path.{_≡_, refl, sym, ap, subst, _∙_}
 use mathlib.Core.Bool.{Bool, true, false, not, _&&_}
 use mathlib.Core.List.{List, [], _∷_}
@@ -23,11 +23,12 @@ use Rattle.answers.specs.Answers.{told, out, puts}
 use Rattle.answers.proofs.Puts.{puts-refused, puts-untouched, puts-accepted}
 use Rattle.tables.specs.declared.Table.{Table}
 use Rattle.tables.specs.Numbers.{tableNumbers, tablePut}
+use Rattle.key.proofs.Keys.{one-is}
 use Rattle.shelf.specs.Record.{Shelf, Place, placeAt, spoiledOf, Same}
 use Rattle.shelf.specs.Layout.{shelfAt, shelfIn, placeIn, tableIn, lengthsIn, lengthIn, takenIn}
 use Rattle.shelf.specs.Calls.{keyAmong, lengthAmong}
 use Rattle.shelf.proofs.Lists.{length-listed, listed-same}
-use Rattle.shelf.proofs.Numbers.{at-count, spoiled-count, place-at, taken-at, table-at, among-key, among-version, among-last, among-length}
+use Rattle.shelf.proofs.Numbers.{at-count, spoiled-count, place-at, taken-at, table-at, among-key, found-key, among-version, among-last, among-length}
 use Rattle.shelf_ask.specs.Ask.{unlentNo}
 use Rattle.shelf_ask.specs.Tables.{placeTable, untold, takenOf, tableTold, SameTold}
 use Rattle.shelf_ask.specs.Calls.{tableAmong}
@@ -106,21 +107,16 @@ apart : true ≡ false → ⊥
 apart e = let z : _≡_ {A = ℕ} 0 1 = cc in omega arith
 
 -- a place by its parts
-place-of : Bool → ℕ → ℕ → ℕ → ℕ → List ℕ → Place
-place-of taken table extension version last lengths =
-    record { taken = taken; key = record { table = table; extension = extension }; version = version; last = last; lengths = lengths }
+same-place : (x y : Place) → x .taken ≡ y .taken → x .key ≡ y .key → x .version ≡ y .version → x .last ≡ y .last → x .lengths ≡ y .lengths → x ≡ y
+same-place x y t k c d l = rw (t, k, c, d, l)
 
-same-place : (x y : Place) → x .taken ≡ y .taken → x .key .table ≡ y .key .table → x .key .extension ≡ y .key .extension
-    → x .version ≡ y .version → x .last ≡ y .last → x .lengths ≡ y .lengths → x ≡ y
-unfolding place-of
-same-place x y t a b c d l =
-    let made : place-of (x .taken) (x .key .table) (x .key .extension) (x .version) (x .last) (x .lengths)
-    ≡ place-of (y .taken) (y .key .table) (y .key .extension) (y .version) (y .last) (y .lengths) = cc in
-    made
+-- a number of 32 bits by its halves
+halves : (a b : ℕ) → a / 65536 ≡ b / 65536 → a % 65536 ≡ b % 65536 → a ≡ b
+halves a b e f = omega (arith, e, f)
 
 -- numbers of 16 bits, of a record that is not spoiled
 module _ (words : List ℕ) (p : ℕ) (short : getD words (64 + 4 * p) 0 < 65536) (s : spoiledOf (shelfAt words) ≡ false) where
-  counted : length words ≡ 84
+  counted : length words ≡ 96
   counted = spoiled-count words s
 
   -- there are four places
@@ -130,7 +126,7 @@ module _ (words : List ℕ) (p : ℕ) (short : getD words (64 + 4 * p) 0 < 65536
 
   key-past : 4 ≤ p → keyAmong words p ≡ 0
   unfolding keyAmong
-  key-past h = rw (eq-eqb (length words) 84 counted, le-ltb p 4 h)
+  key-past h = rw (eq-eqb (length words) 96 counted, le-ltb p 4 h)
 
   -- the head's first number, out of the two
   head-of : (a b : ℕ) → a < 65536 → (a + 65536 * b) / 256 % 256 ≡ a / 256
@@ -166,12 +162,8 @@ module _ (words : List ℕ) (p : ℕ) (short : getD words (64 + 4 * p) 0 < 65536
   same-table : p < 4 → tableAmong words p ≡ placeTable (tableIn words p)
   unfolding tableIn lengthsIn
   same-table h =
-      let k : keyAmong words p ≡ getD words (64 + 4 * p) 0 + 65536 * getD words (65 + 4 * p) 0 = among-key words p counted h in
-      let a : keyAmong words p % 256 ≡ getD words (64 + 4 * p) 0 % 256 = omega arith in
-      let b : keyAmong words p / 65536 ≡ getD words (65 + 4 * p) 0 = omega arith in
       rw (
-        a,
-        b,
+        found-key words p counted h,
         among-version words p counted h,
         among-last words p counted h,
         listed-same 16 (lengthAmong words p) (lengthIn words p) (λ n l. among-length words p counted h n l),
@@ -222,14 +214,17 @@ module _ (words store : List ℕ) (p : ℕ) (fields : List ℕ) where
   table-untouched = puts-untouched (tableTold (shelfAt words) (length store) p) fields
 
 -- a place is told by whether it is taken and by its numbers
-place-by : (x y : Place) → x .taken ≡ y .taken → tableNumbers (placeTable x) ≡ tableNumbers (placeTable y) → x ≡ y
+pub place-by : (x y : Place) → x .taken ≡ y .taken → tableNumbers (placeTable x) ≡ tableNumbers (placeTable y) → x ≡ y
 place-by x y t e =
     let a : x .key .table ≡ y .key .table = cc in
     let b : x .key .extension ≡ y .key .extension = cc in
+    let f : x .key .service ≡ y .key .service = cc in
+    let g : x .key .start / 65536 ≡ y .key .start / 65536 = cc in
+    let h : x .key .start % 65536 ≡ y .key .start % 65536 = cc in
     let c : x .version ≡ y .version = cc in
     let d : x .last ≡ y .last = cc in
     let l : x .lengths ≡ y .lengths = cc in
-    same-place x y t a b c d l
+    same-place x y t (one-is (x .key) (y .key) (a, b, f, halves (x .key .start) (y .key .start) g h)) c d l
 
 module _ (a b : Shelf) (size : ℕ) (w : size ≡ storeSize) (s : spoiledOf a ≡ false) (r : spoiledOf b ≡ false) where
   told-taken : (x : Shelf) → spoiledOf x ≡ false → (p : ℕ) → p < places → placeAt x p .taken ≡ true → tableTold x size p ≡ told 0 (tableNumbers (placeTable (placeAt x p)))
@@ -273,8 +268,8 @@ module _ (a b : Shelf) (size : ℕ) (w : size ≡ storeSize) (s : spoiledOf a �
 pub same-told : SameTold
 same-told a b s r = (same-tables a b storeSize refl s r, tables-same a b storeSize refl s r)
 
--- a table is told in twenty numbers
-sixteen : (words : List ℕ) (p : ℕ) → length words ≡ 84 → p < 4 → length (placeAt (shelfAt words) p .lengths) ≡ 16
+-- a table is told in twenty-three numbers
+sixteen : (words : List ℕ) (p : ℕ) → length words ≡ 96 → p < 4 → length (placeAt (shelfAt words) p .lengths) ≡ 16
 unfolding placeIn tableIn lengthsIn
 sixteen words p n h =
     rw (at-count words n, place-at words p h)
@@ -304,22 +299,22 @@ module _ (words : List ℕ) (size p : ℕ) where
       (λ w. other-than-0 (sym (taken-17 shelf size p w) ∙ e) z (omega arith))
       (same-or size storeSize)
 
-  pub twenty : tableTold shelf size p .number ≡ 0 → length (tableTold shelf size p .values) ≡ 20
-  twenty e = go (takenOf shelf size p) refl
+  pub whole-told : tableTold shelf size p .number ≡ 0 → length (tableTold shelf size p .values) ≡ 23
+  whole-told e = go (takenOf shelf size p) refl
     where
-      go : (h : Holding) → takenOf shelf size p ≡ h → length (tableTold shelf size p .values) ≡ 20
+      go : (h : Holding) → takenOf shelf size p ≡ h → length (tableTold shelf size p .values) ≡ 23
       go (Holding.Refused n) q = absurd (refused-by n q (ap (λ t. t .number) (sym (told-refused shelf size p n q)) ∙ e))
       go (Holding.In k) q =
           let i = taken-says shelf size p k q in
           let l : length (placeAt shelf p .lengths) ≡ 16 = sixteen words p (spoiled-count words (i .sound)) (i .place) in
           ap (λ t. length (t .values)) (told-table shelf size p k q) ∙ rw l
 
--- the question is answered exactly when neither 17, 18 nor 14 is so and twenty numbers are lent
+-- the question is answered exactly when neither 17, 18 nor 14 is so and twenty-three numbers are lent
 pub table-accepted : (words store : List ℕ) (p : ℕ) (fields : List ℕ)
-    → (tableLent words store p fields .code ≡ 0) ↔ ((tableTold (shelfAt words) (length store) p .number ≡ 0) × (20 ≤ length fields))
+    → (tableLent words store p fields .code ≡ 0) ↔ ((tableTold (shelfAt words) (length store) p .number ≡ 0) × (23 ≤ length fields))
 unfolding tableLent
 table-accepted words store p fields =
     let both = puts-accepted (tableTold (shelfAt words) (length store) p) fields in (
-      λ e. let w = both .0 e in (w .0, rw (twenty words (length store) p (w .0)) at (w .1)),
-      λ w. both .1 (w .0, rw (twenty words (length store) p (w .0)) (w .1)),
+      λ e. let w = both .0 e in (w .0, rw (whole-told words (length store) p (w .0)) at (w .1)),
+      λ w. both .1 (w .0, rw (whole-told words (length store) p (w .0)) (w .1)),
     )

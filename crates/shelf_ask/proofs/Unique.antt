@@ -2,7 +2,7 @@
 use mathlib.Core.Path.{_≡_, sym, ap, _∙_}
 use mathlib.Core.List.{List}
 use Prim.Native.Nat.{ℕ}
-use Rattle.shelf.specs.declared.Key.{Key}
+use Rattle.key.specs.declared.Key.{Key}
 use Rattle.shelf.specs.Record.{Shelf}
 use Rattle.shelf_ask.specs.Ask.{holdingOf, copy, copyOf, wholeOf, missingOf}
 use Rattle.shelf_ask.specs.declared.Holding.{Holding}

@@ -6,7 +6,7 @@ use lib.Dec.{eqb}
 use lib.ListN.{length}
 use Rattle.base.specs.Choice.{if_then_else_}
 use Rattle.answers.specs.Answers.{Out, out, sizeCode, sizeOr, puts}
-use Rattle.shelf.specs.declared.Key.{Key}
+use Rattle.key.specs.declared.Key.{Key}
 use Rattle.shelf.specs.Layout.{shelfAt}
 use Rattle.shelf_ask.specs.Ask.{Copy, copyOf, wholeOf, missingOf}
 use Rattle.shelf_ask.specs.Tables.{tableTold}

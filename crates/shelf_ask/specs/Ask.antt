@@ -8,7 +8,7 @@ use Rattle.base.specs.Choice.{if_then_else_, Row, _if_, first}
 use Rattle.base.specs.Below.{every, lowest}
 use Rattle.berth.specs.Berth.{places, storeSize, standing}
 use Rattle.shelf.specs.Record.{placeAt, lengthAt, holds, spoiledOf, placeOf}
-use Rattle.shelf.specs.declared.Key.{Key}
+use Rattle.key.specs.declared.Key.{Key}
 use Rattle.shelf.specs.Record.{Place}
 use Rattle.shelf.specs.Record.{Shelf}
 use Rattle.shelf_ask.specs.declared.Holding.{Holding}

@@ -19,8 +19,7 @@ use Rattle.shelf_ask.specs.declared.Holding.{Holding}
 abbrev pub placeTable : Place → Table
 placeTable place =
     record {
-      table = place .key .table;
-      extension = place .key .extension;
+      key = place .key;
       version = place .version;
       last = place .last;
       lengths = place .lengths;

@@ -2,7 +2,7 @@
 // table is in a place. The record is the numbers that the host lends.
 use berth::PLACES;
 use berth::STORE;
-use shelf::Key;
+use key::Key;
 use tables::Table;
 ghost use mathlib.Core.Path.{_≡_};
 ghost use mathlib.Core.Bool.{not};
@@ -224,15 +224,12 @@ fn taken_in(words: &[u16], size: usize, p: usize) -> Holding
 fn table_in(words: &[u16], p: usize) -> Table
     ensures { λ r. ⌜ r ≡ tableAmong (now (words .entry)) p ⌝ }
 {
-    let head = shelf::key_number(words, p);
-    let table = (head % 256) as u8;
-    let extension = (head / 65536) as u16;
+    let key = shelf::key_in(words, p);
     let version = shelf::version_of(words, p);
     let last = shelf::last_of(words, p);
     let lengths = shelf::lengths_of(words, p);
     Table {
-        table,
-        extension,
+        key,
         version,
         last,
         lengths,

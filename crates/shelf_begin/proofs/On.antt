@@ -1,6 +1,6 @@
 -- Beginning a shelf on lent numbers.
 --   begin-17, begin-18, begun      what the code leaves
---   begin-done                     84 numbers and 65,536 bytes are a fresh shelf's
+--   begin-done                     96 numbers and 65,536 bytes are a fresh shelf's
 --   begin-unique                   two answers that keep the promise are equal, with the numbers and the stores that they leave
 use mathlib.Core.Path.{_≡_, sym, ap, _∙_}
 use mathlib.Core.List.{List}

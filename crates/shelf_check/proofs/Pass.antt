@@ -8,26 +8,32 @@ use native.Mathlib.Omega.{arith}
 use lib.Dec.{eqb, leb}
 use borrow.Author.Tests.{leb-true, eqb-false, not-true, not-false}
 use Rattle.base.proofs.Cases.{same-or, and-left, and-right, or-left, or-right}
-use Rattle.shelf_check.specs.Fine.{FineColumn, FineColumns, FineHeads, NoneAbove, OneHeld}
-use Rattle.shelf.specs.Layout.{keyNumber}
+use Rattle.shelf_check.specs.Fine.{FineColumn, FineColumns, FineMasks, Apart, NoneAbove, OneHeld, wideNumber}
+use Rattle.shelf.specs.Record.{alike}
+use Rattle.shelf.specs.Layout.{keyNumber, placeIn}
+use Rattle.shelf_check.proofs.Whole.{differ, differ-wide}
 
 module _ (words : List ℕ) where
-  -- a top of at most 1,016 says that the first i columns are fine
-  pub record Seen (top i : ℕ) : Type 0 where
-    pub each : top ≤ 1016 → (k : ℕ) → k < i → FineColumn words k
+  -- where nothing has stopped the pass, the first i columns are fine
+  pub record Seen (stops : Bool) (i : ℕ) : Type 0 where
+    pub each : stops ≡ false → (k : ℕ) → k < i → FineColumn words k
 
-  pub seen-none : (top : ℕ) → Seen top 0
-  seen-none top = record { each = λ t k h. absurd (omega arith) }
+  pub seen-none : (stops : Bool) → Seen stops 0
+  seen-none stops = record { each = λ t k h. absurd (omega arith) }
 
-  pub seen-more : {top : ℕ} (top' i : ℕ) → Seen top i → (top' ≤ 1016 → (top ≤ 1016) × FineColumn words i) → Seen top' (i + 1)
-  seen-more top' i s f =
+  pub seen-more : {stops head length : Bool} (i : ℕ) → Seen stops i → (head ≡ false → length ≡ false → FineColumn words i) → Seen (stops || (head || length)) (i + 1)
+  seen-more {stops} {head} {length} i s f =
       record {
         each =
             λ t k h.
-            ⊎-elim (λ (e : k ≡ i). rw e (f t .1)) (λ d. s .each (f t .0) k (omega (arith, d))) (same-or k i);
+            let now = or-right stops (head || length) t in
+            ⊎-elim
+            (λ (e : k ≡ i). rw e (f (or-left head length now) (or-right head length now)))
+            (λ d. s .each (or-left stops (head || length) t) k (omega (arith, d)))
+            (same-or k i);
       }
 
-  pub seen-all : {top i : ℕ} → Seen top i → i ≡ 16 → top ≤ 1016 → FineColumns words
+  pub seen-all : {stops : Bool} {i : ℕ} → Seen stops i → i ≡ 16 → stops ≡ false → FineColumns words
   seen-all s e t k h = s .each t k (omega arith)
 
 -- a fact of each of four
@@ -67,44 +73,79 @@ link : (a b : Bool) → a || b ≡ false → (a ≡ false) × (b ≡ false)
 link a b e = (or-left a b e, or-right a b e)
 
 module _ (words : List ℕ) where
-  apart : (p q : ℕ) {m n : ℕ} → m ≡ keyNumber words p → n ≡ keyNumber words q → eqb m n ≡ false → keyNumber words p ≡ keyNumber words q → ⊥
-  apart p q {m} {n} i j e z = eqb-false m n e (i ∙ z ∙ sym j)
-
-  -- a chain of which no test stops the pass
-  pub heads-fine :
+  -- a chain over the masks of which none stops the pass
+  pub masks-fine :
       {low a b c d : Bool}
-      {m n o q : ℕ}
       → (low ≡ true → (p : ℕ) → p < 4 → NoneAbove words p)
       → (a ≡ false → OneHeld words 0)
       → (b ≡ false → OneHeld words 1)
       → (c ≡ false → OneHeld words 2)
       → (d ≡ false → OneHeld words 3)
-      → m ≡ keyNumber words 0
-      → n ≡ keyNumber words 1
-      → o ≡ keyNumber words 2
-      → q ≡ keyNumber words 3
-      → not ((((((((((not low || a) || b) || c) || d) || eqb m n) || eqb m o) || eqb n o) || eqb m q) || eqb n q) || eqb o q) ≡ true
-      → FineHeads words
-  heads-fine {low} f g h k l i j s t e =
-      let oq = link _ _ (not-true _ e) in
-      let nq = link _ _ (oq .0) in
-      let mq = link _ _ (nq .0) in
-      let no = link _ _ (mq .0) in
-      let mo = link _ _ (no .0) in
-      let mn = link _ _ (mo .0) in
-      let x = link _ _ (mn .0) in
+      → (((not low || a) || b) || c) || d ≡ false
+      → FineMasks words
+  masks-fine {low} f g h k l e =
+      let x = link _ _ e in
       let y = link _ _ (x .0) in
       let z = link _ _ (y .0) in
       let w = link _ _ (z .0) in
+      record { low = f (not-false low (w .0)); held = four (OneHeld words) (g (w .1)) (h (z .1)) (k (y .1)) (l (x .1)) }
+
+  -- numbers of which no two are the same, where the same key has the same number
+  apart-by :
+      (number : ℕ → ℕ)
+      → ((p q : ℕ) → ¬ (number p ≡ number q) → alike (placeIn words p) (placeIn words q) ≡ false)
+      → {m n o q : ℕ}
+      → m ≡ number 0
+      → n ≡ number 1
+      → o ≡ number 2
+      → q ≡ number 3
+      → (eqb m n ≡ false) × (eqb m o ≡ false) × (eqb n o ≡ false) × (eqb m q ≡ false) × (eqb n q ≡ false) × (eqb o q ≡ false)
+      → Apart words
+  apart-by number other i j s t e =
       record {
-        low = f (not-false low (w .0));
-        held = four (OneHeld words) (g (w .1)) (h (z .1)) (k (y .1)) (l (x .1));
-        apart =
-            pair (λ p q. keyNumber words p ≡ keyNumber words q → ⊥)
-            (apart 0 1 i j (mn .1))
-            (apart 0 2 i s (mo .1))
-            (apart 1 2 j s (no .1))
-            (apart 0 3 i t (mq .1))
-            (apart 1 3 j t (nq .1))
-            (apart 2 3 s t (oq .1));
+        pair =
+            pair (λ p q. alike (placeIn words p) (placeIn words q) ≡ false)
+            (other 0 1 (λ z. eqb-false _ _ (e .0) (i ∙ z ∙ sym j)))
+            (other 0 2 (λ z. eqb-false _ _ (e .1) (i ∙ z ∙ sym s)))
+            (other 1 2 (λ z. eqb-false _ _ (e .2) (j ∙ z ∙ sym s)))
+            (other 0 3 (λ z. eqb-false _ _ (e .3) (i ∙ z ∙ sym t)))
+            (other 1 3 (λ z. eqb-false _ _ (e .4) (j ∙ z ∙ sym t)))
+            (other 2 3 (λ z. eqb-false _ _ (e .5) (s ∙ z ∙ sym t)));
       }
+
+  module _ {m n o q : ℕ} where
+    -- the heads
+    module _ (i : m ≡ keyNumber words 0) (j : n ≡ keyNumber words 1) (s : o ≡ keyNumber words 2) (t : q ≡ keyNumber words 3) where
+      pub heads-fine :
+          {stop : Bool}
+          → (stop ≡ false → FineMasks words)
+          → (((((stop || eqb m n) || eqb m o) || eqb n o) || eqb m q) || eqb n q) || eqb o q ≡ false
+          → FineMasks words × Apart words
+      heads-fine f e =
+          let oq = link _ _ e in
+          let nq = link _ _ (oq .0) in
+          let mq = link _ _ (nq .0) in
+          let no = link _ _ (mq .0) in
+          let mo = link _ _ (no .0) in
+          let mn = link _ _ (mo .0) in
+          (f (mn .0), apart-by (keyNumber words) (differ words) i j s t (mn .1, mo .1, no .1, mq .1, nq .1, oq .1))
+
+    -- heads and lists
+    pub lists-fine :
+        m ≡ wideNumber words 0
+        → n ≡ wideNumber words 1
+        → o ≡ wideNumber words 2
+        → q ≡ wideNumber words 3
+        → not (((((eqb m n || eqb m o) || eqb n o) || eqb m q) || eqb n q) || eqb o q) ≡ true
+        → Apart words
+    lists-fine i j s t e =
+        let oq = link _ _ (not-true _ e) in
+        let nq = link _ _ (oq .0) in
+        let mq = link _ _ (nq .0) in
+        let no = link _ _ (mq .0) in
+        let mo = link _ _ (no .0) in
+        apart-by (wideNumber words) (differ-wide words) i j s t (mo .0, mo .1, no .1, mq .1, nq .1, oq .1)
+
+-- where the heads begin alike
+pub both-fine : {words : List ℕ} {stop r : Bool} → (stop ≡ false → FineMasks words) → (r ≡ true → Apart words) → not stop && r ≡ true → FineMasks words × Apart words
+both-fine {stop = stop} {r = r} f g e = (f (not-true stop (and-left (not stop) r e)), g (and-right (not stop) r e))

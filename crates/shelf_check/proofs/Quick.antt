@@ -1,16 +1,16 @@
 -- The quick pass: what it shows of each place is enough.
 --   place-sound     of a place, taken or free
---   passed          of the record
---   both-pass       the same of the two answers
-use mathlib.Core.Path.{_≡_, refl}
+--   keys-decide     then the keys decide of the record
+--   both-pass, keys-asked   so of the pass, and where only the masks were asked
+use mathlib.Core.Path.{_≡_, refl, sym, _∙_}
 use mathlib.Core.Bool.{Bool, true, false, not, _&&_}
 use mathlib.Core.List.{List}
-use Prim.Native.Nat.{ℕ, _+_, _*_, _/_, _%_, _<_, _≤_}
+use Prim.Native.Nat.{ℕ, _+_, _*_, _%_, _<_, _≤_}
 use native.Mathlib.Nat.{zero-add}
 use native.Mathlib.Omega.{arith}
 use lib.Dec.{eqb}
 use lib.ListN.{getD}
-use borrow.Author.Tests.{eq-eqb, ne-eqb, eqb-true, le-ltb}
+use borrow.Author.Tests.{eq-eqb, ne-eqb, le-ltb, not-true}
 use Rattle.base.specs.Below.{some}
 use Rattle.base.proofs.Below.{some-all, some-which, some-found}
 use Rattle.base.proofs.Cases.{by, and-left, and-right}
@@ -19,8 +19,7 @@ use Rattle.base.specs.Bits.{bit}
 use Rattle.shelf.specs.Layout.{tableIn, takenIn, placeIn, shelfIn}
 use Rattle.base.proofs.Bits.{none-above, one-set}
 use Rattle.shelf.proofs.Numbers.{length-in}
-use Rattle.shelf_check.specs.Fine.{FineLength, FineColumns, FineHeads, NoneAbove, OneHeld}
-use Rattle.shelf.specs.Layout.{keyNumber}
+use Rattle.shelf_check.specs.Fine.{FineLength, FineColumns, FineMasks, Apart, NoneAbove, OneHeld, anyAlike}
 use Rattle.shelf_check.proofs.Four.{some-four, pairs}
 
 -- sixteen lengths
@@ -96,58 +95,43 @@ module _ (words : List ℕ) (p : ℕ) where
   unfolding placeIn spoiledPlace
   place-sound f o v l s = by (takenIn words p) (λ t. rw t (table-sound f o v l s)) (λ t. rw t)
 
-no-both : (a b : Bool) → (a ≡ true → b ≡ true → ⊥) → a && b ≡ false
-no-both true true h = absurd (h refl refl)
-no-both true false h = refl
-no-both false b h = refl
-
--- two places whose heads begin differently
-differ : (words : List ℕ) (p q : ℕ) → (keyNumber words p ≡ keyNumber words q → ⊥) → alike (placeIn words p) (placeIn words q) ≡ false
-unfolding alike placeIn tableIn
-differ words p q d =
-    by (takenIn words p)
-    (λ s.
-    by (takenIn words q)
-    (λ t.
-    rw (s, t)
-    (no-both
-    (eqb (getD words (64 + 4 * p) 0 % 256) (getD words (64 + 4 * q) 0 % 256))
-    (eqb (getD words (65 + 4 * p) 0) (getD words (65 + 4 * q) 0))
-    (λ k x.
-    d
-    (omega (
-      arith,
-      eqb-true (getD words (64 + 4 * p) 0 / 256) 1 s,
-      eqb-true (getD words (64 + 4 * q) 0 / 256) 1 t,
-      eqb-true (getD words (64 + 4 * p) 0 % 256) (getD words (64 + 4 * q) 0 % 256) k,
-      eqb-true (getD words (65 + 4 * p) 0) (getD words (65 + 4 * q) 0) x,
-    )))))
-    (λ t. rw (s, t)))
-    (λ s. rw s)
-
 module _ (words : List ℕ) where
-  passed : FineHeads words → FineColumns words → spoiledOf (shelfIn words) ≡ false
-  unfolding spoiledOf shelfIn
-  passed f g =
+  -- masks, lengths, versions and lasts are fine: then the keys decide
+  pub keys-decide : FineMasks words → FineColumns words → spoiledOf (shelfIn words) ≡ anyAlike words
+  unfolding spoiledOf shelfIn anyAlike
+  keys-decide f g =
       rw (
         some-four (λ p. spoiledPlace (placeAt (shelfIn words) p)),
-        pairs (λ p q. alike (placeAt (shelfIn words) p) (placeAt (shelfIn words) q)),
         place-sound words 0 (f .low 0 (omega arith)) (f .held 0 (omega arith)) (g 2 (omega arith) .head) (g 3 (omega arith) .head) (λ k h. rw zero-add (g k h .first)),
         place-sound words 1 (f .low 1 (omega arith)) (f .held 1 (omega arith)) (g 6 (omega arith) .head) (g 7 (omega arith) .head) (λ k h. g k h .second),
         place-sound words 2 (f .low 2 (omega arith)) (f .held 2 (omega arith)) (g 10 (omega arith) .head) (g 11 (omega arith) .head) (λ k h. g k h .third),
         place-sound words 3 (f .low 3 (omega arith)) (f .held 3 (omega arith)) (g 14 (omega arith) .head) (g 15 (omega arith) .head) (λ k h. g k h .fourth),
-        differ words 0 1 (f .apart 0 1 (omega arith) (omega arith)),
-        differ words 0 2 (f .apart 0 2 (omega arith) (omega arith)),
-        differ words 1 2 (f .apart 1 2 (omega arith) (omega arith)),
-        differ words 0 3 (f .apart 0 3 (omega arith) (omega arith)),
-        differ words 1 3 (f .apart 1 3 (omega arith) (omega arith)),
-        differ words 2 3 (f .apart 2 3 (omega arith) (omega arith)),
+        pairs (λ p q. alike (placeAt (shelfIn words) p) (placeAt (shelfIn words) q)),
+        pairs (λ p q. alike (placeIn words p) (placeIn words q)),
       )
+
+  none-alike : Apart words → anyAlike words ≡ false
+  unfolding anyAlike
+  none-alike a =
+      some-all (λ q. some q (λ p. alike (placeIn words p) (placeIn words q))) 4
+      (λ q j. some-all (λ p. alike (placeIn words p) (placeIn words q)) q (λ p i. a .pair p q i j))
 
   pub both-pass :
       {a b : Bool}
-      → (a ≡ true → FineHeads words)
+      → (a ≡ true → FineMasks words × Apart words)
       → (b ≡ true → FineColumns words)
       → a && b ≡ true
       → spoiledOf (shelfIn words) ≡ false
-  both-pass {a} {b} f g e = passed (f (and-left a b e)) (g (and-right a b e))
+  both-pass {a} {b} f g e =
+      let heads = f (and-left a b e) in
+      keys-decide (heads .0) (g (and-right a b e)) ∙ none-alike (heads .1)
+
+  -- the same where only the masks were asked
+  pub keys-asked :
+      {stop b r : Bool}
+      → (stop ≡ false → FineMasks words)
+      → (b ≡ true → FineColumns words)
+      → not stop && b ≡ true
+      → r ≡ anyAlike words
+      → r ≡ spoiledOf (shelfIn words)
+  keys-asked {stop} {b} f g e k = k ∙ sym (keys-decide (f (not-true stop (and-left (not stop) b e))) (g (and-right (not stop) b e)))

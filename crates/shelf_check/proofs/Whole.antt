@@ -1,8 +1,8 @@
 -- The test in full: each case of a section, of a place and of a pair.
 --   wrong-none, wrong-above, wrong-short, wrong-long      a section, by its length and the table's last
 --   free-place, high-version, high-last, none-held, of-lengths   a place
---   free-first, keys-alike   a pair
---   all-four      the record
+--   free-first, differ, differ-wide, heads-differ, keys-alike   a pair
+--   all-pairs, all-four      the record
 --   all, all-asked, all-in      all of the numbers, as a part of themselves
 use mathlib.Core.Path.{_≡_, refl, sym, ap, _∙_}
 use mathlib.Core.Bool.{Bool, true, false, not, _||_}
@@ -17,21 +17,25 @@ use Rattle.base.specs.Below.{some}
 use Rattle.base.proofs.Below.{some-all, some-which, some-found}
 use Rattle.base.specs.Bytes.{part}
 use Rattle.base.proofs.Bytes.{part-whole}
-use Rattle.base.proofs.Cases.{by}
+use Rattle.base.proofs.Cases.{by, unlike}
 use Rattle.shelf.specs.Record.{lengthAt, holds, wrongAt, alike, spoiledPlace, spoiledOf, placeAt}
 use Rattle.base.specs.Bits.{bit}
 use Rattle.shelf.specs.Layout.{tableIn, takenIn, placeIn, shelfIn, shelfAt}
 use Rattle.shelf.specs.Calls.{lengthAmong, lastAmong, versionAmong}
 use Rattle.base.proofs.Bits.{one-set}
-use Rattle.shelf.proofs.Numbers.{length-in, held-at, among-length, among-last, among-version, at-count, no-both}
-use Rattle.shelf.specs.Layout.{keyNumber}
+use Rattle.shelf.proofs.Numbers.{length-in, held-at, among-length, among-last, among-version, at-count, at-id, at-further}
+use Rattle.shelf.specs.Layout.{keyNumber, restNumber, keyAt}
+use Rattle.key.specs.declared.Key.{Key}
+use Rattle.key.specs.Key.{sameKey}
+use Rattle.key.proofs.Keys.{said-one, same-key, is-one, key-list}
+use Rattle.shelf_check.specs.Fine.{anyAlike, wideNumber}
 use Rattle.shelf_check.proofs.Four.{some-four, pairs}
 
 last-of : (words : List ℕ) (p n : ℕ) → n < 16 → ltb (tableIn words p .last) n ≡ ltb (getD words (67 + 4 * p) 0) n
 unfolding tableIn
 last-of words p n h = refl
 
-module _ (words : List ℕ) (fits : length words ≡ 84) (p : ℕ) (hp : p < 4) where
+module _ (words : List ℕ) (fits : length words ≡ 96) (p : ℕ) (hp : p < 4) where
   -- a section that is held or not
   module _ (n : ℕ) (hn : n < 16) {size : ℕ} (s : size ≡ lengthAmong words p n) where
     size-is : lengthAt (tableIn words p) n ≡ size
@@ -110,61 +114,129 @@ module _ (words : List ℕ) (p q : ℕ) where
   unfolding alike placeIn
   free-first d = rw (ne-eqb (getD words (64 + 4 * p) 0 / 256) 1 d)
 
-  abbrev a : ℕ
-  a = getD words (64 + 4 * p) 0
-
-  abbrev b : ℕ
-  b = getD words (64 + 4 * q) 0
-
-  abbrev x : ℕ
-  x = getD words (65 + 4 * p) 0
-
-  abbrev y : ℕ
-  y = getD words (65 + 4 * q) 0
-
-  pub keys-alike :
-      {m n : ℕ}
-      → a / 256 ≡ 1
-      → a < 65536
-      → b < 65536
-      → m ≡ keyNumber words p
-      → n ≡ keyNumber words q
-      → eqb m n ≡ alike (placeIn words p) (placeIn words q)
+  -- places whose heads begin differently
+  pub differ : (keyNumber words p ≡ keyNumber words q → ⊥) → alike (placeIn words p) (placeIn words q) ≡ false
   unfolding alike placeIn tableIn
-  keys-alike {m} {n} t u v i j =
-      rw (eq-eqb (a / 256) 1 t)
-      (by (takenIn words q)
+  differ d =
+      by (takenIn words p)
       (λ s.
-      rw s
-      (by (eqb m n)
-      (λ e.
-      let k : m ≡ n = eqb-true m n e in
-      rw (e, eq-eqb (a % 256) (b % 256) (omega arith), eq-eqb x y (omega arith)))
-      (λ e.
-      rw e
-      (sym
-      (no-both (eqb (a % 256) (b % 256)) (eqb x y)
-      (λ f g. eqb-false m n e (omega (arith, eqb-true (a % 256) (b % 256) f, eqb-true x y g, eqb-true (b / 256) 1 s))))))))
-      (λ s. rw s (ne-eqb m n (λ z. eqb-false (b / 256) 1 s (omega arith)))))
+      by (takenIn words q)
+      (λ t.
+      rw (s, t)
+      (by (sameKey (keyAt words p) (keyAt words q))
+      (λ k.
+      let one = said-one (keyAt words p) (keyAt words q) k in
+      let table : getD words (64 + 4 * p) 0 % 256 ≡ getD words (64 + 4 * q) 0 % 256 = sym (at-id words p) ∙ (one .0 ∙ at-id words q) in
+      let extension : getD words (65 + 4 * p) 0 ≡ getD words (65 + 4 * q) 0 = sym (at-further words p) ∙ (one .1 ∙ at-further words q) in
+      absurd (d (omega (arith, eqb-true (getD words (64 + 4 * p) 0 / 256) 1 s, eqb-true (getD words (64 + 4 * q) 0 / 256) 1 t))))
+      (λ k. k)))
+      (λ t. rw (s, t)))
+      (λ s. rw s)
+
+  -- places whose heads begin alike, and of whose lists more differs
+  same-rest : keyAt words p ≡ keyAt words q → getD words (64 + 4 * p) 0 ≡ 479 → getD words (64 + 4 * q) 0 ≡ 479
+      → restNumber words p ≡ restNumber words q
+  unfolding keyAt
+  same-rest k a b =
+      let one = key-list (getD words (64 + 4 * p) 0 % 256) (getD words (65 + 4 * p) 0) (getD words (84 + 3 * p) 0) (getD words (85 + 3 * p) 0 * 65536 + getD words (86 + 3 * p) 0) (omega arith) in
+      let two = key-list (getD words (64 + 4 * q) 0 % 256) (getD words (65 + 4 * q) 0) (getD words (84 + 3 * q) 0) (getD words (85 + 3 * q) 0 * 65536 + getD words (86 + 3 * q) 0) (omega arith) in
+      let all = is-one _ _ (sym one ∙ k ∙ two) in
+      rw (all .2, all .3)
+
+  taken-both : alike (placeIn words p) (placeIn words q) ≡ true → (takenIn words p ≡ true) × (takenIn words q ≡ true) × (keyAt words p ≡ keyAt words q)
+  unfolding alike placeIn tableIn
+  taken-both e =
+      by (takenIn words p)
+      (λ s.
+      by (takenIn words q)
+      (λ t. (s, t, same-key _ _ (rw (s, t) at e)))
+      (λ t. absurd (unlike (sym (rw (s, t) at e)))))
+      (λ s. absurd (unlike (sym (rw s at e))))
+
+  alike-wide : alike (placeIn words p) (placeIn words q) ≡ true → wideNumber words p ≡ wideNumber words q
+  unfolding wideNumber
+  alike-wide e =
+      let w = taken-both e in
+      let table : getD words (64 + 4 * p) 0 % 256 ≡ getD words (64 + 4 * q) 0 % 256
+      = sym (at-id words p) ∙ (ap (λ k. k .table) (w .2) ∙ at-id words q) in
+      let extension : getD words (65 + 4 * p) 0 ≡ getD words (65 + 4 * q) 0
+      = sym (at-further words p) ∙ (ap (λ k. k .extension) (w .2) ∙ at-further words q) in
+      let first : getD words (64 + 4 * p) 0 ≡ getD words (64 + 4 * q) 0
+      = omega (arith, eqb-true (getD words (64 + 4 * p) 0 / 256) 1 (w .0), eqb-true (getD words (64 + 4 * q) 0 / 256) 1 (w .1)) in
+      by (eqb (getD words (64 + 4 * q) 0) 479)
+      (λ l.
+      let two : getD words (64 + 4 * q) 0 ≡ 479 = eqb-true _ _ l in
+      rw (same-rest (w .2) (first ∙ two) two, first, extension, l))
+      (λ l. rw (first, extension, l))
+
+  pub differ-wide : ¬ (wideNumber words p ≡ wideNumber words q) → alike (placeIn words p) (placeIn words q) ≡ false
+  differ-wide d = by (alike (placeIn words p) (placeIn words q)) (λ e. absurd (d (alike-wide e))) (λ e. e)
+
+  module _ {m n : ℕ} (i : m ≡ keyNumber words p) (j : n ≡ keyNumber words q) where
+    pub heads-differ : (m ≡ n → ⊥) → false ≡ alike (placeIn words p) (placeIn words q)
+    heads-differ d = sym (differ (λ e. d (i ∙ e ∙ sym j)))
+
+    -- places whose heads begin alike, where the first is taken
+    pub keys-alike :
+        getD words (64 + 4 * p) 0 / 256 ≡ 1
+        → getD words (64 + 4 * p) 0 < 65536
+        → getD words (64 + 4 * q) 0 < 65536
+        → m ≡ n
+        → {r : Bool} {k l : Key}
+        → r ≡ sameKey k l
+        → k ≡ keyAt words p
+        → l ≡ keyAt words q
+        → r ≡ alike (placeIn words p) (placeIn words q)
+    unfolding alike placeIn tableIn
+    keys-alike t u v e f g h =
+        let same : keyNumber words p ≡ keyNumber words q = sym i ∙ e ∙ j in
+        f ∙ rw (eq-eqb (getD words (64 + 4 * p) 0 / 256) 1 t, eq-eqb (getD words (64 + 4 * q) 0 / 256) 1 (omega arith), g, h)
+
+-- a place's number, as it is made
+module _ (words : List ℕ) (p : ℕ) {n : ℕ} (e : n ≡ keyNumber words p) where
+  pub wide-plain : (getD words (64 + 4 * p) 0 ≡ 479 → ⊥) → n ≡ wideNumber words p
+  unfolding wideNumber
+  wide-plain d = rw (ne-eqb (getD words (64 + 4 * p) 0) 479 d) e
+
+  pub wide-list : getD words (64 + 4 * p) 0 ≡ 479 → {r : ℕ} → r ≡ restNumber words p → n + r % 2 ^ 32 * 2 ^ 32 ≡ wideNumber words p
+  unfolding wideNumber
+  wide-list t f = rw (eq-eqb (getD words (64 + 4 * p) 0) 479 t, e, f)
 
 -- the record
-pub all-four :
+pub all-pairs :
     (words : List ℕ)
-    {e f g h i j k l m n : Bool}
-    → e ≡ spoiledPlace (placeIn words 0)
-    → f ≡ spoiledPlace (placeIn words 1)
-    → g ≡ spoiledPlace (placeIn words 2)
-    → h ≡ spoiledPlace (placeIn words 3)
+    {i j k l m n : Bool}
     → i ≡ alike (placeIn words 0) (placeIn words 1)
     → j ≡ alike (placeIn words 0) (placeIn words 2)
     → k ≡ alike (placeIn words 1) (placeIn words 2)
     → l ≡ alike (placeIn words 0) (placeIn words 3)
     → m ≡ alike (placeIn words 1) (placeIn words 3)
     → n ≡ alike (placeIn words 2) (placeIn words 3)
-    → (((e || f) || g) || h) || ((i || (j || k)) || ((l || m) || n)) ≡ spoiledOf (shelfIn words)
-unfolding spoiledOf shelfIn
-all-four words e f g h i j k l m n =
-    rw (some-four (λ p. spoiledPlace (placeAt (shelfIn words) p)), pairs (λ p q. alike (placeAt (shelfIn words) p) (placeAt (shelfIn words) q)), e, f, g, h, i, j, k, l, m, n)
+    → (i || (j || k)) || ((l || m) || n) ≡ anyAlike words
+unfolding anyAlike
+all-pairs words i j k l m n = rw (pairs (λ p q. alike (placeIn words p) (placeIn words q)), i, j, k, l, m, n)
+
+pub all-four :
+    (words : List ℕ)
+    {e f g h i : Bool}
+    → e ≡ spoiledPlace (placeIn words 0)
+    → f ≡ spoiledPlace (placeIn words 1)
+    → g ≡ spoiledPlace (placeIn words 2)
+    → h ≡ spoiledPlace (placeIn words 3)
+    → i ≡ anyAlike words
+    → (((e || f) || g) || h) || i ≡ spoiledOf (shelfIn words)
+unfolding spoiledOf shelfIn anyAlike
+all-four words e f g h i =
+    rw (
+      some-four (λ p. spoiledPlace (placeAt (shelfIn words) p)),
+      pairs (λ p q. alike (placeAt (shelfIn words) p) (placeAt (shelfIn words) q)),
+      e,
+      f,
+      g,
+      h,
+      i,
+      pairs (λ p q. alike (placeIn words p) (placeIn words q)),
+    )
 
 -- all of the numbers, lent as a part of themselves
 module _ (words : List ℕ) where
@@ -174,5 +246,5 @@ module _ (words : List ℕ) where
   pub all-asked : {r : Bool} → r ≡ spoiledOf (shelfAt (part words 0 (length words - 0))) → r ≡ spoiledOf (shelfAt words)
   all-asked e = e ∙ ap (λ w. spoiledOf (shelfAt w)) all
 
-  pub all-in : {r : Bool} → length words ≡ 84 → r ≡ spoiledOf (shelfIn (part words 0 (length words - 0))) → r ≡ spoiledOf (shelfAt words)
+  pub all-in : {r : Bool} → length words ≡ 96 → r ≡ spoiledOf (shelfIn (part words 0 (length words - 0))) → r ≡ spoiledOf (shelfAt words)
   all-in n e = e ∙ ap (λ w. spoiledOf (shelfIn w)) all ∙ sym (ap spoiledOf (at-count words n))

@@ -1,11 +1,17 @@
--- The quick pass is a first look at all 84 numbers alike, whether a place is taken or not. Where it says yes, FineColumns and FineHeads hold, and the
--- two together are enough for a record that is not spoiled; where it does not, 18 is asked in its own words.
-use Prim.Native.Nat.{ℕ, _+_, _/_, _%_, _^_, _<_, _≤_}
+-- The quick pass is a first look at the numbers before the rest of the keys, whether a place is taken or not. Where it says yes, FineColumns, FineMasks and Apart hold, and the
+-- three together are enough for a record that is not spoiled; where it does not, 18 is asked in its own words.
+use Prim.Native.Nat.{ℕ, _+_, _*_, _/_, _%_, _^_, _<_, _≤_}
 use mathlib.Core.Path.{_≡_}
+use mathlib.Core.Bool.{Bool, false}
+use Rattle.base.specs.Below.{some}
 use mathlib.Core.List.{List, [], _∷_}
 use lib.ListN.{getD}
 use Rattle.berth.specs.Berth.{berthSize, places, sections}
-use Rattle.shelf.specs.Layout.{heads, atLength, atLast, atMask, keyNumber}
+use Rattle.shelf.specs.Record.{alike}
+use Rattle.shelf.specs.Layout.{heads, atLength, atTable, atLast, atMask, keyNumber, restNumber, placeIn}
+use Rattle.key.specs.Key.{nrtIt}
+use Rattle.base.specs.Choice.{if_then_else_}
+use lib.Dec.{eqb}
 
 -- the most that each number of the heads may be
 abbrev pub headBounds : List ℕ
@@ -38,8 +44,22 @@ pub record OneHeld (words : List ℕ) (p : ℕ) : Type 0 where
   pub some : getD words (atMask p) 0 ≡ 0 → ⊥
   pub fits : getD words (atMask p) 0 < 65536
 
--- in each place something is held and nothing above last, and no two heads have the same first two numbers
-pub record FineHeads (words : List ℕ) : Type 0 where
+-- two taken places have one key
+unfoldable pub anyAlike : List ℕ → Bool
+anyAlike words = some places (λ q. some q (λ p. alike (placeIn words p) (placeIn words q)))
+
+-- in each place something is held and nothing above last
+pub record FineMasks (words : List ℕ) : Type 0 where
   pub low : (p : ℕ) → p < places → NoneAbove words p
   pub held : (p : ℕ) → p < places → OneHeld words p
-  pub apart : (p q : ℕ) → p < q → q < places → keyNumber words p ≡ keyNumber words q → ⊥
+
+-- no two taken places have one key
+pub record Apart (words : List ℕ) : Type 0 where
+  pub pair : (p q : ℕ) → p < q → q < places → alike (placeIn words p) (placeIn words q) ≡ false
+
+-- the first two numbers of a head as one, and above them, of an NRT-IT, service_id and the lower 16 bits of time_span_start
+unfoldable pub wideNumber : List ℕ → ℕ → ℕ
+wideNumber words p =
+    if eqb (getD words (atTable p) 0) (256 + nrtIt)
+    then keyNumber words p + restNumber words p % 2 ^ 32 * 2 ^ 32
+    else keyNumber words p

@@ -37,7 +37,7 @@ use Rattle.shelf_histories.specs.Numbers.{replied, answered, called, inN
 
 -- a refusal of the range is a number of 8 bits, and not 0
 below-256 : (n : ℕ) → Refusing n → n < 256
-below-256 n r = let m : n ≤ 16 = r .1 in omega arith
+below-256 n r = let m : n ≤ 46 = r .1 in omega arith
 
 -- a size comes back out of its number
 pub size-in : (n : ℕ) → n < 65536 → sizeIn (sizeCode n) ≡ n
@@ -57,33 +57,33 @@ offered-number Offered.Began r = refl
 offered-number Offered.BeganAgain r = refl
 offered-number Offered.Added r = refl
 offered-number Offered.Repeat r = refl
-offered-number (Offered.Refused n) r = let m : n ≤ 16 = r .1 in omega arith
+offered-number (Offered.Refused n) r = let m : n ≤ 46 = r .1 in omega arith
 
 loaded-number : (a : Loaded) → LoadRange a → refusalIn (loadedCode a) ≡ Load.numberOf a
 loaded-number Loaded.Done r = refl
-loaded-number (Loaded.Refused n) r = let m : n ≤ 16 = r .1 in omega arith
+loaded-number (Loaded.Refused n) r = let m : n ≤ 46 = r .1 in omega arith
 
 released-number : (a : Released) → ReleaseRange a → refusalIn (releasedCode a) ≡ Release.numberOf a
 released-number Released.Done r = refl
-released-number (Released.Refused n) r = let m : n ≤ 16 = r .1 in omega arith
+released-number (Released.Refused n) r = let m : n ≤ 46 = r .1 in omega arith
 
 copied-number : (a : Copied) → CopyRange a → refusalIn (copiedCode a) ≡ Ask.copiedNo a
 copied-number (Copied.Bytes n) r = omega arith
-copied-number (Copied.Refused n) r = let m : n ≤ 16 = r .1 in omega arith
+copied-number (Copied.Refused n) r = let m : n ≤ 46 = r .1 in omega arith
 
 whole-number : (a : Whole) → WholeRange a → refusalIn (wholeCode a) ≡ Ask.wholeNo a
 whole-number Whole.Complete r = refl
 whole-number Whole.Incomplete r = refl
-whole-number (Whole.Refused n) r = let m : n ≤ 16 = r .1 in omega arith
+whole-number (Whole.Refused n) r = let m : n ≤ 46 = r .1 in omega arith
 
 missing-number : (a : Missing) → MissingRange a → refusalIn (missingCode a) ≡ Ask.missingNo a
 missing-number Missing.Nothing r = refl
 missing-number (Missing.Number n) r = let e : (512 + 65536 * n) % 256 ≡ 0 = omega arith in e
-missing-number (Missing.Refused n) r = let m : n ≤ 16 = r .1 in omega arith
+missing-number (Missing.Refused n) r = let m : n ≤ 46 = r .1 in omega arith
 
 saved-number : (a : Saved) → SaveRange a → refusalIn (savedCode a) ≡ Save.numberOf a
 saved-number (Saved.Bytes n) r = omega arith
-saved-number (Saved.Refused n) r = let m : n ≤ 16 = r .1 in omega arith
+saved-number (Saved.Refused n) r = let m : n ≤ 46 = r .1 in omega arith
 
 pub reply-number : (a : Reply) → ReplyRange a → refusalIn (replied a .code) ≡ replyNo a
 reply-number (copied c) r = copied-number (c .said) r

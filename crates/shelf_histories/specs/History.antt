@@ -6,7 +6,7 @@ use mathlib.Core.List.{List, [], _∷_}
 use lib.ListN.{length}
 use Rattle.answers.specs.Answers.{Lent, Out, out}
 use Rattle.berth.specs.Berth.{storeSize}
-use Rattle.shelf.specs.declared.Key.{Key}
+use Rattle.key.specs.declared.Key.{Key}
 use Rattle.shelf.specs.Layout.{count, shelfAt}
 use Rattle.shelf_begin.specs.Answer.{beginLent}
 use Rattle.shelf_offer.specs.Answer.{offerLent}

@@ -22,7 +22,7 @@ use Rattle.base.proofs.Cases.{by}
 use Rattle.base.proofs.Tables.{among}
 use Rattle.berth.specs.Berth.{sections, places, storeSize, berthSize, standing}
 use Rattle.shelf.specs.Record.{placeAt, lengthAt, holds, placeOf}
-use Rattle.shelf.specs.declared.Key.{Key}
+use Rattle.key.specs.declared.Key.{Key}
 use Rattle.shelf.proofs.Words.{sound-place}
 use Rattle.shelf_ask.specs.Ask.{complete, lowestMissing, copy, wholeNo, asked, uncopied, copyFrom, copyOf, wholeOf, missingOf}
 use Rattle.shelf_ask.specs.declared.Copied.{Copied}

@@ -7,7 +7,7 @@ use native.Mathlib.Omega.{arith}
 use Rattle.base.specs.Choice.{if_then_else_}
 use Rattle.base.specs.Below.{every}
 use Rattle.base.proofs.Below.{every-all, every-each}
-use Rattle.shelf.specs.declared.Key.{Key}
+use Rattle.key.specs.declared.Key.{Key}
 use Rattle.shelf_ask.specs.declared.Whole.{Whole}
 use Rattle.shelf_laws.specs.History.{Call, afterAll, logOf, wholeAfter}
 use Rattle.shelf_laws.specs.Log.{heldBy, since, lastSince}

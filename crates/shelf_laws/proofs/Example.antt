@@ -7,6 +7,7 @@ use lib.ListN.{length}
 use borrow.Author.Tests.{eq-eqb}
 use Rattle.base.specs.Bytes.{zeros}
 use Rattle.base.specs.Below.{lowest, every}
+use Rattle.key.specs.Key.{keyFrom}
 use Rattle.section.specs.Section.{readOf}
 use Rattle.berth.specs.Berth.{storeSize}
 use Rattle.berth.proofs.Laid.{zeros-length}
@@ -29,7 +30,8 @@ p1 = 0xC9 ∷ 0x70 ∷ 0x05 ∷ 0x12 ∷ 0x34 ∷ 0xC7 ∷ 0x00 ∷ 0x00 ∷ []
 abbrev once : List Call
 once = Call.offer p1 ∷ []
 
-pub its-key : keyIn p1 ≡ record { table = 201; extension = 4660 }
+pub its-key : keyIn p1 ≡ record { table = 201; extension = 4660; service = 0; start = 0 }
+unfolding keyFrom
 its-key = refl
 
 pub begins-it : offerTo start p1 .said ≡ Offered.Began

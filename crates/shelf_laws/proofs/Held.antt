@@ -13,7 +13,7 @@ use Rattle.base.specs.Choice.{if_then_else_}
 use Rattle.base.proofs.Cases.{by, unlike}
 use Rattle.berth.specs.Berth.{places}
 use Rattle.shelf.specs.Record.{placeOf}
-use Rattle.shelf.specs.declared.Key.{Key}
+use Rattle.key.specs.declared.Key.{Key}
 use Rattle.shelf_release.specs.Release.{After}
 use Rattle.shelf_release.specs.declared.Released.{Released}
 use Rattle.shelf_laws.specs.State.{State}

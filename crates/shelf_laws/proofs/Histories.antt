@@ -17,8 +17,9 @@ use Rattle.base.proofs.Cases.{by, unlike, and-left, and-right}
 use Rattle.section.specs.Section.{sectionNumber}
 use Rattle.berth.specs.Berth.{places, storeSize}
 use Rattle.berth.proofs.Laid.{zeros-length}
-use Rattle.shelf.specs.Record.{fresh, freePlace, placeAt, sameKey, spoiledPlace, spoiledOf, alike, hasKey, placeOf}
-use Rattle.shelf.specs.declared.Key.{Key}
+use Rattle.shelf.specs.Record.{fresh, freePlace, placeAt, spoiledPlace, spoiledOf, alike, hasKey, placeOf}
+use Rattle.key.specs.Key.{sameKey}
+use Rattle.key.specs.declared.Key.{Key}
 use Rattle.shelf_offer.specs.declared.Offered.{Offered}
 use Rattle.shelf_laws.specs.State.{State, offerTo, loadOn, releaseFrom}
 use Rattle.shelf_laws.specs.File.{carries}
@@ -27,7 +28,8 @@ use Rattle.shelf_laws.specs.Answers.{begins, joins, accepted, isDone, fr
 use Rattle.shelf_laws.specs.History.{Call, Entry, entry, step, after, logged, start, afterAll, logOf}
 use Rattle.shelf_laws.specs.Log.{loads, beginning, accepting, releasing, heldBy, since, versionSince, lastSince, bytesSince}
 use Rattle.shelf_laws.proofs.Truth.{or-none}
-use Rattle.shelf_laws.proofs.Places.{same-key, key-itself, has-not, not-held}
+use Rattle.shelf_laws.proofs.Places.{has-not, not-held}
+use Rattle.key.proofs.Keys.{same-key, key-itself}
 use Rattle.shelf_laws.proofs.Kept.{Good, Table, Kept, kept-as, Alike, alike-kept}
 use Rattle.shelf_laws.proofs.Offered.{offer-good, offer-apart, offer-begins, offer-joins, joins-held}
 use Rattle.shelf_laws.proofs.Released.{release-good, release-apart, release-done}

@@ -15,7 +15,7 @@ use lib.ListN.{length}
 use Rattle.base.proofs.Cases.{same-or, unlike}
 use Rattle.berth.specs.Berth.{sections, places, storeSize, berthSize, standing}
 use Rattle.shelf.specs.Record.{placeAt, withPlace, lengthAt, holds, spoiledOf, hasKey, placeOf}
-use Rattle.shelf.specs.declared.Key.{Key}
+use Rattle.key.specs.declared.Key.{Key}
 use Rattle.shelf.specs.Record.{Place}
 use Rattle.shelf.proofs.Words.{Wrong, sound-place}
 use Rattle.shelf_laws.specs.State.{State, Formed}

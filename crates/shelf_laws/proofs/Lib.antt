@@ -11,7 +11,6 @@ pub mod Released
 pub mod HandedOut
 pub mod Loaded
 pub mod Octets
-pub mod Faults
 pub mod Histories
 pub mod Held
 pub mod Full
@@ -24,3 +23,4 @@ pub mod Complete
 pub mod Reception
 pub mod Example
 pub mod Tables
+pub mod Apart

@@ -24,8 +24,9 @@ use Rattle.section.specs.declared.Header.{Header}
 use Rattle.section.proofs.Laws.{sound-facts}
 use Rattle.berth.specs.Berth.{sections, places, storeSize, berthSize, padded, standing}
 use Rattle.berth.proofs.Berths.{Spared, standing-first}
-use Rattle.shelf.specs.Record.{placeAt, withPlace, lengthAt, holds, sameKey, hasKey, spoiledOf, placeOf, freeOf}
-use Rattle.shelf.specs.declared.Key.{Key}
+use Rattle.shelf.specs.Record.{placeAt, withPlace, lengthAt, holds, hasKey, spoiledOf, placeOf, freeOf}
+use Rattle.key.specs.Key.{sameKey}
+use Rattle.key.specs.declared.Key.{Key}
 use Rattle.shelf.proofs.Words.{Wrong}
 use Rattle.shelf.specs.Record.{keyOf}
 use Rattle.file.specs.Layout.{sameTable}
@@ -41,7 +42,8 @@ use Rattle.shelf_laws.specs.Answers.{isDone}
 use Rattle.shelf_laws.specs.Log.{tableHas, tableVersion, tableLast, loads}
 use Rattle.shelf_laws.specs.Laws.{LoadRefused, LoadElsewhere}
 use Rattle.shelf_laws.proofs.Berths.{Berth, put-length, put-berth, put-elsewhere}
-use Rattle.shelf_laws.proofs.Places.{at-same, has-not, its-key, unheld, free-le, free-at, right, same-key, key-itself}
+use Rattle.shelf_laws.proofs.Places.{at-same, has-not, its-key, unheld, free-le, free-at, right}
+use Rattle.key.proofs.Keys.{same-key, key-itself}
 use Rattle.shelf_laws.proofs.Kept.{Good, Table, Kept, Alike, alike-itself, alike-with, key-with, good-with}
 
 -- what is so of an accepted file's table
@@ -60,12 +62,12 @@ module _ (a b : Header) (e : sameTable a b ≡ true) where
   same-version : a .version ≡ b .version
   unfolding sameTable
   same-version =
-      eqb-true _ _ (and-left (eqb (a .version) (b .version)) _ (and-right (eqb (a .extension) (b .extension)) _ (and-right (eqb (a .table) (b .table)) _ e)))
+      eqb-true _ _ (and-left (eqb (a .version) (b .version)) _ (and-right (sameKey (a .key) (b .key)) _ e))
 
   same-last : a .last ≡ b .last
   unfolding sameTable
   same-last =
-      eqb-true _ _ (and-right (eqb (a .version) (b .version)) _ (and-right (eqb (a .extension) (b .extension)) _ (and-right (eqb (a .table) (b .table)) _ e)))
+      eqb-true _ _ (and-right (eqb (a .version) (b .version)) _ (and-right (sameKey (a .key) (b .key)) _ e))
 
 module _ (file : List ℕ) (h : Header) (e : scanOf file .answer ≡ Scan.Table h) where
   holding : Holds file h (scanOf file .starts) (scanOf file .lengths)

@@ -1,7 +1,7 @@
 -- From a fresh shelf with a store of 65,536 bytes, whatever they are, no call of any history is answered 17 or 18.
 use mathlib.Core.List.{List, [], _∷_}
 use mathlib.Core.Path.{_≡_}
-use Prim.Native.Nat.{_≤_}
+use Prim.Native.Nat.{ℕ}
 use native.Mathlib.Omega.{arith}
 use Rattle.shelf.specs.Record.{fresh}
 use Rattle.shelf_offer.specs.Offer as Offer
@@ -21,56 +21,62 @@ use Rattle.shelf_laws.specs.Laws.{Never17Nor18}
 use Rattle.shelf_laws.proofs.Ranges.{OfferRange, LoadRange, ReleaseRange, CopyRange, WholeRange, MissingRange, SaveRange, ReplyRange, Range, ranges-from}
 use Rattle.shelf_laws.proofs.Histories.{fresh-holds}
 
-offer-16 : (a : Offered) → OfferRange a → Offer.numberOf a ≤ 16
-offer-16 Offered.Began r = omega arith
-offer-16 Offered.BeganAgain r = omega arith
-offer-16 Offered.Added r = omega arith
-offer-16 Offered.Repeat r = omega arith
-offer-16 (Offered.Refused n) r = r .1
+-- neither 17 nor 18
+abbrev Late : ℕ → Type 0
+Late n = (n ≡ 17 → ⊥) × (n ≡ 18 → ⊥)
 
-load-16 : (a : Loaded) → LoadRange a → Load.numberOf a ≤ 16
-load-16 Loaded.Done r = omega arith
-load-16 (Loaded.Refused n) r = r .1
+none-given : Late 0
+none-given = (λ e. omega arith, λ e. omega arith)
 
-release-16 : (a : Released) → ReleaseRange a → Release.numberOf a ≤ 16
-release-16 Released.Done r = omega arith
-release-16 (Released.Refused n) r = r .1
+offer-late : (a : Offered) → OfferRange a → Late (Offer.numberOf a)
+offer-late Offered.Began r = none-given
+offer-late Offered.BeganAgain r = none-given
+offer-late Offered.Added r = none-given
+offer-late Offered.Repeat r = none-given
+offer-late (Offered.Refused n) r = (r .2, r .3)
 
-copy-16 : (a : Copied) → CopyRange a → copiedNo a ≤ 16
-copy-16 (Copied.Bytes n) r = omega arith
-copy-16 (Copied.Refused n) r = r .1
+load-late : (a : Loaded) → LoadRange a → Late (Load.numberOf a)
+load-late Loaded.Done r = none-given
+load-late (Loaded.Refused n) r = (r .2, r .3)
 
-whole-16 : (a : Whole) → WholeRange a → wholeNo a ≤ 16
-whole-16 Whole.Complete r = omega arith
-whole-16 Whole.Incomplete r = omega arith
-whole-16 (Whole.Refused n) r = r .1
+release-late : (a : Released) → ReleaseRange a → Late (Release.numberOf a)
+release-late Released.Done r = none-given
+release-late (Released.Refused n) r = (r .2, r .3)
 
-missing-16 : (a : Missing) → MissingRange a → missingNo a ≤ 16
-missing-16 Missing.Nothing r = omega arith
-missing-16 (Missing.Number n) r = omega arith
-missing-16 (Missing.Refused n) r = r .1
+copy-late : (a : Copied) → CopyRange a → Late (copiedNo a)
+copy-late (Copied.Bytes n) r = none-given
+copy-late (Copied.Refused n) r = (r .2, r .3)
 
-save-16 : (a : Saved) → SaveRange a → Save.numberOf a ≤ 16
-save-16 (Saved.Bytes n) r = omega arith
-save-16 (Saved.Refused n) r = r .1
+whole-late : (a : Whole) → WholeRange a → Late (wholeNo a)
+whole-late Whole.Complete r = none-given
+whole-late Whole.Incomplete r = none-given
+whole-late (Whole.Refused n) r = (r .2, r .3)
 
-reply-16 : (a : Reply) → ReplyRange a → replyNo a ≤ 16
-reply-16 (copied c) r = copy-16 (c .said) r
-reply-16 (wholly said) r = whole-16 said r
-reply-16 (lacking said) r = missing-16 said r
-reply-16 (saved c) r = save-16 (c .said) r
+missing-late : (a : Missing) → MissingRange a → Late (missingNo a)
+missing-late Missing.Nothing r = none-given
+missing-late (Missing.Number n) r = none-given
+missing-late (Missing.Refused n) r = (r .2, r .3)
 
-pub most-16 : (e : Entry) → Range e → numberIn e ≤ 16
-most-16 (offered payload said) r = offer-16 said r
-most-16 (loaded file said) r = load-16 said r
-most-16 (released key said) r = release-16 said r
-most-16 (asked question said) r = reply-16 said r
+save-late : (a : Saved) → SaveRange a → Late (Save.numberOf a)
+save-late (Saved.Bytes n) r = none-given
+save-late (Saved.Refused n) r = (r .2, r .3)
+
+reply-late : (a : Reply) → ReplyRange a → Late (replyNo a)
+reply-late (copied c) r = copy-late (c .said) r
+reply-late (wholly said) r = whole-late said r
+reply-late (lacking said) r = missing-late said r
+reply-late (saved c) r = save-late (c .said) r
+
+pub entry-late : (e : Entry) → Range e → Late (numberIn e)
+entry-late (offered payload said) r = offer-late said r
+entry-late (loaded file said) r = load-late said r
+entry-late (released key said) r = release-late said r
+entry-late (asked question said) r = reply-late said r
 
 neither : (log : List Entry) → Each Range log → Each (λ e. (numberIn e ≡ 17 → ⊥) × (numberIn e ≡ 18 → ⊥)) log
 neither [] r = tt
 neither (e ∷ log) r =
-    let b : numberIn e ≤ 16 = most-16 e (r .0) in
-    ((λ z. omega arith, λ z. omega arith), neither log (r .1))
+    (entry-late e (r .0), neither log (r .1))
 
 pub never-17-18 : Never17Nor18
 never-17-18 store lent h =

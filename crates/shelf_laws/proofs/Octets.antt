@@ -15,7 +15,7 @@ use Rattle.base.proofs.Bytes.{octets-part}
 use Rattle.base.proofs.Cases.{by}
 use Rattle.berth.specs.Berth.{sections, storeSize, laid, padded, put, wiped, wipedWhere}
 use Rattle.shelf.specs.Record.{placeAt, holds, placeOf, freeOf}
-use Rattle.shelf.specs.declared.Key.{Key}
+use Rattle.key.specs.declared.Key.{Key}
 use Rattle.file.specs.Scan.{scanOf}
 use Rattle.file.specs.declared.Scan.{Scan}
 use Rattle.shelf_offer.specs.Offer as Offer

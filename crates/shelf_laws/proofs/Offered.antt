@@ -15,8 +15,9 @@ use Rattle.section.specs.Section.{headerOf, sectionNumber}
 use Rattle.section.proofs.Laws.{SoundFacts, sound-facts}
 use Rattle.berth.specs.Berth.{sections, places, berthSize, put, wipedWhere, standing}
 use Rattle.berth.proofs.Berths.{where-length, where-spared}
-use Rattle.shelf.specs.Record.{placeAt, holds, sameKey, hasKey, placeOf, freeOf}
-use Rattle.shelf.specs.declared.Key.{Key}
+use Rattle.shelf.specs.Record.{placeAt, holds, hasKey, placeOf, freeOf}
+use Rattle.key.specs.Key.{sameKey}
+use Rattle.key.specs.declared.Key.{Key}
 use Rattle.shelf_offer.specs.Offer.{After}
 use Rattle.shelf_offer.specs.declared.Offered.{Offered}
 use Rattle.shelf_laws.specs.State.{State, offerTo, afterOffer}
@@ -24,7 +25,8 @@ use Rattle.shelf_laws.specs.Named.{keyIn, ownPlace}
 use Rattle.shelf_laws.specs.Answers.{begins, joins, stores, accepted}
 use Rattle.shelf_laws.specs.Laws.{OfferRefused, OfferRepeat}
 use Rattle.shelf_laws.proofs.Berths.{put-elsewhere}
-use Rattle.shelf_laws.proofs.Places.{key-itself, same-owner, its-key, has-not, held-at, unheld, free-at, one-key}
+use Rattle.shelf_laws.proofs.Places.{same-owner, its-key, has-not, held-at, unheld, free-at, one-key}
+use Rattle.key.proofs.Keys.{key-itself}
 use Rattle.shelf_laws.proofs.Offering.{Heard, HeardOf, Goes, goes, own-berth}
 use Rattle.shelf_laws.proofs.OnlyNamed.{again-berth}
 use Rattle.shelf_laws.proofs.Kept.{Good, Table, Kept, kept-itself, Alike, alike-itself, alike-with}

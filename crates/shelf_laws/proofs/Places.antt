@@ -1,5 +1,4 @@
 -- Laws of the shelf's record.
---   same-key, key-itself                              a test for equal keys holds of equal keys only
 --   has-key, its-key, is-taken, has-not, same-owner   whose table is in a place
 --   at-same, at-other, formed-with                    a record with another place
 --   one-key                                           in an unspoiled record no key stands twice
@@ -22,22 +21,14 @@ use Rattle.base.proofs.Cases.{by, same-or, unlike, and-left, and-right}
 use Rattle.base.proofs.Below.{lowest-le, lowest-holds, lowest-below, lowest-all}
 use Rattle.base.proofs.Tables.{fails, denied}
 use Rattle.berth.specs.Berth.{places, sections, berthSize}
-use Rattle.shelf.specs.Record.{freePlace, placeAt, withPlace, lengthAt, holds, sameKey, spoiledOf, hasKey, placeOf, freeOf}
-use Rattle.shelf.specs.declared.Key.{Key}
+use Rattle.shelf.specs.Record.{freePlace, placeAt, withPlace, lengthAt, holds, spoiledOf, hasKey, placeOf, freeOf}
+use Rattle.key.specs.Key.{sameKey}
+use Rattle.key.specs.declared.Key.{Key}
+use Rattle.key.proofs.Keys.{one-is, is-one, same-key, key-itself}
 use Rattle.shelf.specs.Record.{Place}
 use Rattle.shelf.specs.Record.{Shelf}
 use Rattle.shelf.proofs.Words.{Held, Wrong, OneKey, Spoiled, decided, SoundPlace, one-place}
 use Rattle.shelf_laws.specs.State.{Formed}
-
-pub one-is : (a b : Key) → OneKey a b → a ≡ b
-one-is a b k = ap (λ n. record { table = n; extension = a .extension }) (k .0) ∙ ap (λ n. record { table = b .table; extension = n }) (k .1)
-
-pub same-key : (a b : Key) → sameKey a b ≡ true → a ≡ b
-same-key a b e =
-    one-is a b (eqb-true _ _ (and-left (eqb (a .table) (b .table)) _ e), eqb-true _ _ (and-right (eqb (a .table) (b .table)) _ e))
-
-pub key-itself : (a : Key) → sameKey a a ≡ true
-key-itself a = rw (eq-eqb (a .table) (a .table) refl, eq-eqb (a .extension) (a .extension) refl)
 
 module _ (place : Place) (key : Key) where
   pub has-key : place .taken ≡ true → place .key ≡ key → hasKey place key ≡ true
@@ -98,7 +89,7 @@ module _ (shelf : Shelf) (key : Key) where
     apart : (p q : ℕ) → p < q → q < places → hasKey (placeAt shelf p) key ≡ true → hasKey (placeAt shelf q) key ≡ true → ⊥
     apart p q l h a b =
         let e : placeAt shelf p .key ≡ placeAt shelf q .key = its-key _ key a ∙ sym (its-key _ key b) in
-        one-place shelf sound p q l h (is-taken _ key a) (is-taken _ key b) (ap (λ k. k .table) e, ap (λ k. k .extension) e)
+        one-place shelf sound p q l h (is-taken _ key a) (is-taken _ key b) (is-one _ _ e)
 
     pub one-key : (p q : ℕ) → p < places → q < places → hasKey (placeAt shelf p) key ≡ true → hasKey (placeAt shelf q) key ≡ true → p ≡ q
     one-key p q i j a b =

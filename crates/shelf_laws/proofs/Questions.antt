@@ -10,7 +10,7 @@ use borrow.Author.Tests.{ltb-true, ltb-false}
 use Rattle.base.proofs.Cases.{by}
 use Rattle.berth.specs.Berth.{sections}
 use Rattle.shelf.specs.Record.{placeOf}
-use Rattle.shelf.specs.declared.Key.{Key}
+use Rattle.key.specs.declared.Key.{Key}
 use Rattle.shelf_laws.specs.State.{State, copyOut}
 use Rattle.shelf_laws.specs.History.{Question, about, Call, Entry, copied, wholly, lacking, saved, reply, afterAll, logOf}
 use Rattle.shelf_laws.specs.Log.{heldBy, since, bytesSince}

@@ -3,15 +3,16 @@
 --   ranges-all    it is so of every entry of every log
 use mathlib.Core.Path.{_≡_, sym, _∙_}
 use mathlib.Core.List.{List, [], _∷_}
+use mathlib.Core.Logic.{⊎-elim, inr}
 use Prim.Native.Nat.{ℕ, _<_, _≤_}
 use native.Mathlib.Omega.{arith}
 use lib.Dec.{eqb}
 use borrow.Author.Tests.{eqb-true, eqb-false}
 use Rattle.base.proofs.Cases.{by, unlike}
-use Rattle.section.proofs.ExactlyWhen.{refused-range}
+use Rattle.section.proofs.ExactlyWhen.{OwnNumber, refused-range}
 use Rattle.berth.specs.Berth.{places}
 use Rattle.shelf.specs.Record.{placeOf}
-use Rattle.shelf.specs.declared.Key.{Key}
+use Rattle.key.specs.declared.Key.{Key}
 use Rattle.shelf_offer.specs.Offer as Offer
 use Rattle.shelf_offer.specs.declared.Offered.{Offered}
 use Rattle.shelf_release.specs.Release as Release
@@ -31,11 +32,24 @@ use Rattle.shelf_laws.proofs.Offering as Offering
 use Rattle.shelf_laws.proofs.Released as Releasing
 use Rattle.shelf_laws.proofs.Loaded as Loading
 use Rattle.shelf_laws.proofs.Asked.{refused-14, unheld-reply, Answers, held-answer}
-use Rattle.shelf_laws.proofs.Faults.{scan-range}
+use Rattle.shelf_load.proofs.Faults.{FileFault, scan-range}
 use Rattle.shelf_laws.proofs.Histories.{Holds, step-holds, start-holds}
 
+-- a refusal that is neither 17 nor 18
 abbrev pub Refusing : ℕ → Type 0
-Refusing n = (1 ≤ n) × (n ≤ 16)
+Refusing n = (1 ≤ n) × (n ≤ 46) × (n ≡ 17 → ⊥) × (n ≡ 18 → ⊥)
+
+few : {n : ℕ} → 1 ≤ n → n ≤ 16 → Refusing n
+few l h = (l, omega arith, λ e. omega arith, λ e. omega arith)
+
+-- a section's own number, and a file's
+own : {n : ℕ} → OwnNumber n → Refusing n
+own = ⊎-elim (λ r. few (r .0) (omega (arith, r .1))) (λ e. (omega arith, omega arith, λ q. omega arith, λ q. omega arith))
+
+fault : {n : ℕ} → FileFault n → Refusing n
+fault =
+    ⊎-elim (⊎-elim (λ r. few (omega (arith, r .0)) (omega (arith, r .1))) (λ e. own (inr e)))
+    (⊎-elim (λ e. few (omega arith) (omega arith)) (λ e. few (omega arith) (omega arith)))
 
 abbrev pub OfferRange : Offered → Type 0
 OfferRange Offered.Began = Unit {0}
@@ -87,10 +101,10 @@ module _ (s : State) (g : Good s) where
   offer-refusal payload (Offering.Refusal.17-store l) = absurd (l (g .lent))
   offer-refusal payload (Offering.Refusal.18-spoiled _ e) = absurd (unlike (sym e ∙ g .unspoiled))
   offer-refusal payload (Offering.Refusal.unsound n _ _ e) =
-      let b : n ≤ 8 = refused-range payload n e .1 in (refused-range payload n e .0, omega arith)
-  offer-refusal payload (Offering.Refusal.9-full _ _ _) = (omega arith, omega arith)
-  offer-refusal payload (Offering.Refusal.10-last _ _ _ _) = (omega arith, omega arith)
-  offer-refusal payload (Offering.Refusal.10-differs _ _ _ _ _ _) = (omega arith, omega arith)
+      own (refused-range payload n e)
+  offer-refusal payload (Offering.Refusal.9-full _ _ _) = few (omega arith) (omega arith)
+  offer-refusal payload (Offering.Refusal.10-last _ _ _ _) = few (omega arith) (omega arith)
+  offer-refusal payload (Offering.Refusal.10-differs _ _ _ _ _ _) = few (omega arith) (omega arith)
 
   offer-range : (payload : List ℕ) {r : Offer.After} → Offering.Goes s payload r → OfferRange (r .said)
   offer-range payload (Offering.Goes.refuses n y) = offer-refusal payload y
@@ -103,9 +117,9 @@ module _ (s : State) (g : Good s) where
   load-refusal file (Loading.Refusal.17-store _ l) = absurd (l (g .lent))
   load-refusal file (Loading.Refusal.18-spoiled _ e) = absurd (unlike (sym e ∙ g .unspoiled))
   load-refusal file (Loading.Refusal.faulty n e) =
-      let b : n ≤ 12 = scan-range file n e .1 in (scan-range file n e .0, omega arith)
-  load-refusal file (Loading.Refusal.13-held _ _) = (omega arith, omega arith)
-  load-refusal file (Loading.Refusal.9-full _ _ _) = (omega arith, omega arith)
+      fault (scan-range file n e)
+  load-refusal file (Loading.Refusal.13-held _ _) = few (omega arith) (omega arith)
+  load-refusal file (Loading.Refusal.9-full _ _ _) = few (omega arith) (omega arith)
 
   load-range : (file : List ℕ) {scan : Scan} {r : Load.After} → Loading.Goes s file scan r → LoadRange (r .said)
   load-range file (Loading.Goes.refuses _ _ y) = load-refusal file y
@@ -114,23 +128,23 @@ module _ (s : State) (g : Good s) where
   release-refusal : (key : Key) {n : ℕ} → Releasing.Refusal s key n → Refusing n
   release-refusal key (Releasing.Refusal.17-store l) = absurd (l (g .lent))
   release-refusal key (Releasing.Refusal.18-spoiled e) = absurd (unlike (sym e ∙ g .unspoiled))
-  release-refusal key (Releasing.Refusal.14-unheld _) = (omega arith, omega arith)
+  release-refusal key (Releasing.Refusal.14-unheld _) = few (omega arith) (omega arith)
 
   release-range : (key : Key) {r : Release.After} → Releasing.Goes s key r → ReleaseRange (r .said)
   release-range key (Releasing.Goes.refuses _ y) = release-refusal key y
   release-range key (Releasing.Goes.done _ _ _) = tt
 
   answer-range : (q : Question) → Answers ReplyRange q
-  answer-range (Question.copy key n out) = ((omega arith, omega arith), (omega arith, omega arith), λ n i bytes. i)
+  answer-range (Question.copy key n out) = (few (omega arith) (omega arith), few (omega arith) (omega arith), λ n i bytes. i)
   answer-range (Question.whole key) = (tt, tt)
   answer-range (Question.missing key) = (tt, λ n. tt)
-  answer-range (Question.save key out) = ((omega arith, omega arith), λ n i bytes. i)
+  answer-range (Question.save key out) = (few (omega arith) (omega arith), λ n i bytes. i)
 
   unheld-range : (q : Question) → ReplyRange (refused-14 q)
-  unheld-range (Question.copy key n out) = (omega arith, omega arith)
-  unheld-range (Question.whole key) = (omega arith, omega arith)
-  unheld-range (Question.missing key) = (omega arith, omega arith)
-  unheld-range (Question.save key out) = (omega arith, omega arith)
+  unheld-range (Question.copy key n out) = few (omega arith) (omega arith)
+  unheld-range (Question.whole key) = few (omega arith) (omega arith)
+  unheld-range (Question.missing key) = few (omega arith) (omega arith)
+  unheld-range (Question.save key out) = few (omega arith) (omega arith)
 
   reply-range : (q : Question) → ReplyRange (reply s q)
   reply-range q =

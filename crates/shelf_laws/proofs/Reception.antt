@@ -22,10 +22,11 @@ use Rattle.section.specs.Section.{readOf, headerOf, numberOf, version, sectionN
 use Rattle.section.specs.declared.Reading.{Reading}
 use Rattle.section.specs.declared.Reading.the-variants.{Sound, Refused}
 use Rattle.section.proofs.Laws.{sound-facts}
-use Rattle.section.proofs.ExactlyWhen.{refused-range}
+use Rattle.section.proofs.ExactlyWhen.{refused-range, own-bounds}
 use Rattle.berth.specs.Berth.{sections, places, standing}
-use Rattle.shelf.specs.Record.{placeAt, sameKey, placeOf}
-use Rattle.shelf.specs.declared.Key.{Key}
+use Rattle.shelf.specs.Record.{placeAt, placeOf}
+use Rattle.key.specs.Key.{sameKey}
+use Rattle.key.specs.declared.Key.{Key}
 use Rattle.shelf_offer.specs.Offer as Offer
 use Rattle.shelf_offer.specs.declared.Offered.{Offered}
 use Rattle.shelf_release.specs.declared.Released.{Released}
@@ -41,7 +42,7 @@ use Rattle.shelf_laws.specs.Log.{loads}
 use Rattle.shelf_laws.specs.Reception.{SectionOf, OfferedIn, Fits, Undisturbed}
 use Rattle.shelf_laws.specs.Laws.{MoreReception}
 use Rattle.shelf_laws.proofs.Truth.{or-none, or-true, and-true, and-false}
-use Rattle.shelf_laws.proofs.Places.{same-key, key-itself}
+use Rattle.key.proofs.Keys.{same-key, key-itself}
 use Rattle.shelf_laws.proofs.Offering.{Refusal, Goes, goes, number-16}
 use Rattle.shelf_laws.proofs.Kept.{Good, Table, Kept, kept-as, kept-for, Alike, alike-itself, alike-kept}
 use Rattle.shelf_laws.proofs.Offered.{offer-apart, offer-begins, offer-joins, accepted-heard}
@@ -61,7 +62,7 @@ read-sound payload e = go (readOf payload) refl
     go : (r : Reading) → readOf payload ≡ r → readOf payload ≡ Sound (headerOf payload)
     go (Sound h) q = q ∙ ap Sound (sound-facts payload h q .header)
     go (Refused n) q =
-        let b : 1 ≤ n = refused-range payload n q .0 in
+        let b : 1 ≤ n = own-bounds n (refused-range payload n q) .0 in
         let z : n ≡ 0 = sym (ap numberOf q) ∙ e in
         absurd (omega arith)
 

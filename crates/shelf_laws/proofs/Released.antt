@@ -16,15 +16,17 @@ use borrow.Author.Tests.{eqb-true, eqb-false}
 use Rattle.base.proofs.Cases.{by, same-or, unlike}
 use Rattle.berth.specs.Berth.{sections, places, storeSize, berthSize, wipedWhere, standing}
 use Rattle.berth.proofs.Berths.{where-length, where-spared}
-use Rattle.shelf.specs.Record.{freePlace, placeAt, withPlace, sameKey, hasKey, spoiledOf, placeOf}
-use Rattle.shelf.specs.declared.Key.{Key}
+use Rattle.shelf.specs.Record.{freePlace, placeAt, withPlace, hasKey, spoiledOf, placeOf}
+use Rattle.key.specs.Key.{sameKey}
+use Rattle.key.specs.declared.Key.{Key}
 use Rattle.shelf_release.specs.Release.{After, releaseOf}
 use Rattle.shelf_release.specs.declared.Released.{Released}
 use Rattle.shelf_laws.specs.State.{State, releaseFrom, afterRelease}
 use Rattle.shelf_laws.specs.Named.{releaseNames}
 use Rattle.shelf_laws.specs.Answers.{frees}
 use Rattle.shelf_laws.specs.Laws.{ReleaseElsewhere}
-use Rattle.shelf_laws.proofs.Places.{key-itself, at-same, at-other, has-not, its-key, held-at, placed, not-held, one-key}
+use Rattle.shelf_laws.proofs.Places.{at-same, at-other, has-not, its-key, held-at, placed, not-held, one-key}
+use Rattle.key.proofs.Keys.{key-itself}
 use Rattle.shelf_laws.proofs.Kept.{Good, Alike, alike-itself, alike-with, good-with}
 
 module _ (s : State) (key : Key) where

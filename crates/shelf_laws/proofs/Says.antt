@@ -18,7 +18,7 @@ use Rattle.section.specs.declared.Reading.the-variants.{Sound, Refused}
 use Rattle.section.proofs.Laws.{sound-facts}
 use Rattle.berth.specs.Berth.{sections, places, storeSize, standing}
 use Rattle.shelf.specs.Record.{placeAt, lengthAt, holds, placeOf, freeOf}
-use Rattle.shelf.specs.declared.Key.{Key}
+use Rattle.key.specs.declared.Key.{Key}
 use Rattle.shelf_offer.specs.Offer.{After, newOf, heldOf, soundOf, offerOf}
 use Rattle.shelf_offer.specs.declared.Offered.{Offered}
 use Rattle.shelf_laws.specs.State.{State, offerTo}

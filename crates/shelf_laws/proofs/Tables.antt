@@ -17,10 +17,10 @@ use Rattle.answers.specs.Answers.{told}
 use Rattle.tables.specs.Numbers.{tableNumbers}
 use Rattle.berth.specs.Berth.{sections, places}
 use Rattle.shelf.specs.Record.{Place, placeAt, lengthAt, holds, placeOf, freeOf}
-use Rattle.shelf.specs.declared.Key.{Key}
+use Rattle.key.specs.declared.Key.{Key}
 use Rattle.shelf.proofs.Lists.{filled-all}
 use Rattle.shelf_ask.specs.Tables.{placeTable}
-use Rattle.shelf_ask.proofs.Tables.{taken-14, taken-place, told-refused, told-table}
+use Rattle.shelf_ask.proofs.Tables.{taken-14, taken-place, told-refused, told-table, place-by}
 use Rattle.shelf_load.specs.Load.{After, loadedPlace}
 use Rattle.file.specs.declared.Scan.{Scan}
 use Rattle.file.specs.Scan.{scanOf}
@@ -30,7 +30,7 @@ use Rattle.shelf_laws.specs.Answers.{isDone}
 use Rattle.shelf_laws.specs.History.{Call, Entry, afterAll, logOf}
 use Rattle.shelf_laws.specs.Log.{heldBy, since, bytesSince}
 use Rattle.shelf_laws.specs.Tables.{lengthSince, numbersBy, tellsOf, HeldTold, ToldHeld, ToldOnce, LoadTold}
-use Rattle.shelf_laws.proofs.Places.{one-is, has-key, its-key, is-taken, at-same, place-of}
+use Rattle.shelf_laws.proofs.Places.{has-key, its-key, is-taken, at-same, place-of}
 use Rattle.shelf_laws.proofs.Kept.{Good, Kept, kept-key}
 use Rattle.shelf_laws.proofs.Loaded.{Goes, goes, load-good}
 use Rattle.shelf_laws.proofs.Histories.{loggedTable, holds-all}
@@ -83,7 +83,7 @@ module _ (h : List Call) (key : Key) (t : heldBy key (logOf h) ≡ true) where
   numbers-kept =
       let k : placeAt s.shelf at .key ≡ key = its-key (placeAt s.shelf at) key (kept-key s kept) in
       let l = filled-all (placeAt s.shelf at .lengths) sections sections (lengthSince key log) refl (good .formed .sixteen at (kept .taken)) length-kept in
-      rw (ap (λ (x : Key). x .table) k, ap (λ (x : Key). x .extension) k, kept .version, kept .last, l)
+      rw (k, kept .version, kept .last, l)
 
   pub told-at : tellsOf s at ≡ told 0 (numbersBy key log)
   told-at =
@@ -119,9 +119,7 @@ told-once h p q e =
     let same : told 0 (tableNumbers (placeTable (placeAt s.shelf p))) ≡ told 0 (tableNumbers (placeTable (placeAt s.shelf q))) =
     sym (tells-taken s g p i t) ∙ e ∙ tells-taken s g q j u in
     let values : tableNumbers (placeTable (placeAt s.shelf p)) ≡ tableNumbers (placeTable (placeAt s.shelf q)) = ap (λ x. x .values) same in
-    let table : placeAt s.shelf p .key .table ≡ placeAt s.shelf q .key .table = cc in
-    let extension : placeAt s.shelf p .key .extension ≡ placeAt s.shelf q .key .extension = cc in
-    let key : placeAt s.shelf p .key ≡ placeAt s.shelf q .key = one-is _ _ (table, extension) in
+    let key : placeAt s.shelf p .key ≡ placeAt s.shelf q .key = ap (λ (x : Place). x .key) (place-by (placeAt s.shelf p) (placeAt s.shelf q) (t ∙ sym u) values) in
     let here = place-of s.shelf (placeAt s.shelf q .key) (g .unspoiled) p i (has-key (placeAt s.shelf p) (placeAt s.shelf q .key) t key) in
     let there = place-of s.shelf (placeAt s.shelf q .key) (g .unspoiled) q j (has-key (placeAt s.shelf q) (placeAt s.shelf q .key) u refl) in
     inr (sym here ∙ there))

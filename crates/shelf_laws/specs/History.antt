@@ -6,7 +6,7 @@ use Rattle.base.specs.Bytes.{zeros}
 use Rattle.base.specs.Octets.{Octets}
 use Rattle.berth.specs.Berth.{storeSize}
 use Rattle.shelf.specs.Record.{fresh}
-use Rattle.shelf.specs.declared.Key.{Key}
+use Rattle.key.specs.declared.Key.{Key}
 use Rattle.shelf_offer.specs.Offer as Offer
 use Rattle.shelf_offer.specs.declared.Offered.{Offered}
 use Rattle.shelf_release.specs.Release as Release

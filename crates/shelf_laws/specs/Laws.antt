@@ -9,7 +9,7 @@ use Rattle.base.specs.Choice.{if_then_else_}
 use Rattle.section.specs.Section.{sectionNumber}
 use Rattle.berth.specs.Berth.{sections, storeSize, berthSize, standing}
 use Rattle.shelf.specs.Record.{fresh}
-use Rattle.shelf.specs.declared.Key.{Key}
+use Rattle.key.specs.declared.Key.{Key}
 use Rattle.shelf_offer.specs.declared.Offered.{Offered}
 use Rattle.shelf_release.specs.declared.Released.{Released}
 use Rattle.file.specs.Scan.{scanOf}

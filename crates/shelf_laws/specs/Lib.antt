@@ -10,3 +10,4 @@ pub mod Loads
 pub mod Reception
 pub mod Laws
 pub mod Tables
+pub mod Apart

@@ -7,8 +7,8 @@ use lib.Dec.{eqb}
 use Rattle.base.specs.Choice.{if_then_else_}
 use Rattle.section.specs.Section.{version, sectionNumber, lastSectionNumber}
 use Rattle.berth.specs.Berth.{places}
-use Rattle.shelf.specs.Record.{sameKey}
-use Rattle.shelf.specs.declared.Key.{Key}
+use Rattle.key.specs.Key.{sameKey}
+use Rattle.key.specs.declared.Key.{Key}
 use Rattle.shelf.specs.Record.{keyOf}
 use Rattle.file.specs.Scan.{scanOf}
 use Rattle.file.specs.declared.Scan.{Scan}

@@ -7,7 +7,7 @@ use lib.Dec.{eqb}
 use Rattle.section.specs.Section.{headerOf, sectionNumber}
 use Rattle.berth.specs.Berth.{places}
 use Rattle.shelf.specs.Record.{placeAt, holds, placeOf, freeOf}
-use Rattle.shelf.specs.declared.Key.{Key}
+use Rattle.key.specs.declared.Key.{Key}
 use Rattle.shelf.specs.Record.{Shelf}
 use Rattle.shelf.specs.Record.{keyOf}
 use Rattle.shelf_offer.specs.declared.Offered.{Offered}
@@ -15,7 +15,7 @@ use Rattle.shelf_release.specs.declared.Released.{Released}
 use Rattle.shelf_load.specs.declared.Loaded.{Loaded}
 use Rattle.shelf_laws.specs.File.{carries}
 
--- the key in a payload's header
+-- the key of a payload's table, by its header
 abbrev pub keyIn : List ℕ → Key
 keyIn payload = keyOf (headerOf payload)
 

@@ -8,7 +8,7 @@ use mathlib.Core.List.{List}
 use lib.Dec.{eqb}
 use Rattle.base.specs.Choice.{if_then_else_}
 use Rattle.section.specs.Section.{version, sectionNumber, lastSectionNumber}
-use Rattle.shelf.specs.declared.Key.{Key}
+use Rattle.key.specs.declared.Key.{Key}
 use Rattle.shelf_offer.specs.declared.Offered.{Offered}
 use Rattle.shelf_laws.specs.History.{Entry}
 use Rattle.shelf_laws.specs.Log.{heldBy, since, versionSince, lastSince, bytesSince, Full}

@@ -8,7 +8,7 @@ use lib.ListN.{length, drop}
 use Rattle.base.specs.Choice.{if_then_else_, Row, _if_, first}
 use Rattle.base.specs.Below.{every, lowest}
 use Rattle.berth.specs.Berth.{sections}
-use Rattle.shelf.specs.declared.Key.{Key}
+use Rattle.key.specs.declared.Key.{Key}
 use Rattle.shelf_ask.specs.Ask.{Copy, copy}
 use Rattle.shelf_ask.specs.declared.Copied.{Copied}
 use Rattle.shelf_ask.specs.declared.Whole.{Whole}

@@ -5,7 +5,7 @@ use mathlib.Core.Path.{_≡_}
 use mathlib.Core.Bool.{true}
 use Rattle.section.specs.Section.{readOf, headerOf, version, sectionNumber, lastSectionNumber}
 use Rattle.section.specs.declared.Reading.the-variants.{Sound}
-use Rattle.shelf.specs.declared.Key.{Key}
+use Rattle.key.specs.declared.Key.{Key}
 use Rattle.shelf_offer.specs.declared.Offered.{Offered}
 use Rattle.shelf_release.specs.declared.Released.{Released}
 use Rattle.shelf_load.specs.declared.Loaded.{Loaded}

@@ -5,7 +5,7 @@ use mathlib.Core.Path.{_≡_}
 use lib.ListN.{length}
 use Rattle.berth.specs.Berth.{places, sections}
 use Rattle.shelf.specs.Record.{placeAt}
-use Rattle.shelf.specs.declared.Key.{Key}
+use Rattle.key.specs.declared.Key.{Key}
 use Rattle.shelf.specs.Record.{Shelf}
 use Rattle.shelf_offer.specs.Offer as Offer
 use Rattle.shelf_release.specs.Release as Release

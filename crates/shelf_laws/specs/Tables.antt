@@ -1,5 +1,5 @@
 -- Which tables are held after a history, by the log alone, and which table a load brings; the theorems are in proofs/Tables.
-use Prim.Native.Nat.{ℕ, _<_}
+use Prim.Native.Nat.{ℕ, _/_, _%_, _<_}
 use mathlib.Core.Path.{_≡_}
 use mathlib.Core.Bool.{true}
 use mathlib.Core.List.{List, [], _∷_}
@@ -8,7 +8,7 @@ use lib.ListN.{length}
 use Rattle.base.specs.Choice.{if_then_else_}
 use Rattle.answers.specs.Answers.{Told, told}
 use Rattle.berth.specs.Berth.{sections, places}
-use Rattle.shelf.specs.declared.Key.{Key}
+use Rattle.key.specs.declared.Key.{Key}
 use Rattle.shelf.specs.Record.{freeOf}
 use Rattle.shelf.specs.Layout.{listed}
 use Rattle.shelf_ask.specs.Tables.{tableTold}
@@ -25,7 +25,14 @@ lengthSince key log n = if since key log n then length (bytesSince key log n) el
 -- the numbers of a table, by a log
 abbrev pub numbersBy : Key → List Entry → List ℕ
 numbersBy key log =
-    key .table ∷ key .extension ∷ versionSince key log ∷ lastSince key log ∷ listed sections (lengthSince key log)
+    key .table
+    ∷ key .extension
+    ∷ key .service
+    ∷ (key .start / 65536)
+    ∷ (key .start % 65536)
+    ∷ versionSince key log
+    ∷ lastSince key log
+    ∷ listed sections (lengthSince key log)
 
 -- what a place tells
 abbrev pub tellsOf : State → ℕ → Told

@@ -16,7 +16,8 @@ use Rattle.base.proofs.Cases.{and-right}
 use Rattle.section.specs.declared.Header.{Header}
 use Rattle.berth.specs.Berth.{sections, places, storeSize}
 use Rattle.shelf.specs.Record.{spoiledOf, placeOf, freeOf}
-use Rattle.shelf.specs.declared.Key.{Key}
+use Rattle.key.specs.declared.Key.{Key}
+use Rattle.key.specs.Key.{sameKey}
 use Rattle.shelf.specs.Layout.{count, shelfAt}
 use Rattle.shelf.specs.Calls.{placeAmong, freeAmong}
 use Rattle.shelf_write.specs.Calls.{headPut}
@@ -38,7 +39,7 @@ use Rattle.shelf_load.specs.On.{Leaving, leaving, heldBelow, wordsBy, lo
 one-last : (a b : Header) → sameTable a b ≡ true → a .last ≡ b .last
 unfolding sameTable
 one-last a b e =
-    eqb-true _ _ (and-right (eqb (a .version) (b .version)) _ (and-right (eqb (a .extension) (b .extension)) _ (and-right (eqb (a .table) (b .table)) _ e)))
+    eqb-true _ _ (and-right (eqb (a .version) (b .version)) _ (and-right (sameKey (a .key) (b .key)) _ e))
 
 -- no number is above the last
 low : {file : List ℕ} {first : Header} {n start size : ℕ} → Lies file first n start size → n ≤ first .last

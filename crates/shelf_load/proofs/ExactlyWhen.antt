@@ -2,7 +2,7 @@
 -- them is so.
 --   StoreSize, KeyHeld, NoFreePlace   what 17, 13 and 9 say; `Spoiled` of the shelf is 18's
 --   refused-17, refused-18            the number is given exactly when it is so and none before it is
---   refused-file                      .. a number of the file, 2 to 8, 11 or 12
+--   refused-file                      .. a number of the file, 2 to 8, 46, 11 or 12
 --   refused-13, refused-9
 --   not-refused                       none is given exactly when none is so
 --   load-done                         and then the lowest free place has the file's table
@@ -23,11 +23,11 @@ use Rattle.base.proofs.Tables.{words, given, passed, silent, among}
 use Rattle.section.specs.declared.Header.{Header}
 use Rattle.berth.specs.Berth.{sections, places, storeSize}
 use Rattle.shelf.specs.Record.{placeAt, withPlace, spoiledOf, hasKey, placeOf, freeOf}
-use Rattle.shelf.specs.declared.Key.{Key}
+use Rattle.key.specs.declared.Key.{Key}
 use Rattle.shelf.specs.Record.{Place}
 use Rattle.shelf.specs.Record.{Shelf}
 use Rattle.shelf.proofs.Find.{place-le, place-has}
-use Rattle.shelf.proofs.Words.{Some, HasKey, Spoiled, decided, not-held, none-free}
+use Rattle.shelf.proofs.Words.{Some, HasKey, has-key, Spoiled, decided, not-held, none-free}
 use Rattle.shelf.specs.Record.{keyOf}
 use Rattle.file.specs.Scan.{scanOf}
 use Rattle.file.specs.declared.Scan.{Scan}
@@ -40,13 +40,30 @@ use Rattle.shelf_load.proofs.Faults.{FileFault, scan-range}
 abbrev num : After → ℕ
 num a = numberOf (a .said)
 
-fault-small : (n : ℕ) → FileFault n → (0 < n) × (n ≤ 12) × (n ≡ 9 → ⊥)
-fault-small n f =
-    ⊎-elim (λ a. (omega arith, omega arith, λ e. omega arith)) (λ b. ⊎-elim (λ e. (omega arith, omega arith, λ q. omega arith)) (λ e. (omega arith, omega arith, λ q. omega arith)) b) f
+-- a number that is neither 17 nor 18
+abbrev Late : ℕ → Type 0
+Late n = (n ≡ 17 → ⊥) × (n ≡ 18 → ⊥)
 
-has-key : (place : Place) (key : Key) → Decides (hasKey place key) (HasKey place key)
-unfolding hasKey
-has-key place key = search words depth 12
+not-early : (n : ℕ) → n < 14 → Late n
+not-early n l = (λ e. omega arith, λ e. omega arith)
+
+-- what no fault of a file is
+record Other (n : ℕ) : Type 0 where
+  some : n ≡ 0 → ⊥
+  place : n ≡ 9 → ⊥
+  held : n ≡ 13 → ⊥
+  late : Late n
+
+fault-other : (n : ℕ) → FileFault n → Other n
+fault-other n =
+    ⊎-elim
+    (⊎-elim
+    (λ a. record { some = λ e. omega (arith, a .0); place = λ e. omega (arith, a .1); held = λ e. omega (arith, a .1); late = (λ e. omega (arith, a .1), λ e. omega (arith, a .1)) })
+    (of 46 (omega arith) (omega arith)))
+    (⊎-elim (of 11 (omega arith) (omega arith)) (of 12 (omega arith) (omega arith)))
+  where
+    of : (m : ℕ) → 10 < m → (m ≡ 13 → ⊥) × (m ≡ 17 → ⊥) × (m ≡ 18 → ⊥) → n ≡ m → Other n
+    of m l d q = record { some = λ e. omega arith; place = λ e. omega arith; held = λ e. d .0 (sym q ∙ e); late = (λ e. d .1 (sym q ∙ e), λ e. d .2 (sym q ∙ e)) }
 
 -- a place has the key
 key-held : (shelf : Shelf) (key : Key) → Decides (not (eqb (placeOf shelf key) places)) (Some places (λ p. HasKey (placeAt shelf p) key))
@@ -154,60 +171,60 @@ module _ (shelf : Shelf) (store file : List ℕ) where
       (λ n e. (λ q. absurd (none n (scan-range file n e) q), λ w. apart e (w .1)))
       (λ h e. (λ q. (h, e, t h .0 q), λ w. t h .1 (subst p (one-header (w .1) e) (w .2))))
 
-  small : num answer ≤ 13
+  small : Late (num answer)
   small =
-      by-scan (λ a. num a ≤ 13)
-      (λ n e. let f = fault-small n (scan-range file n e) in let l : n ≤ 12 = f .1 in omega arith)
-      (λ h e. late-range (scanOf file) h (λ a. num a ≤ 13) (omega arith) (omega arith) (omega arith))
+      by-scan (λ a. Late (num a))
+      (λ n e. fault-other n (scan-range file n e) .late)
+      (λ h e. late-range (scanOf file) h (λ a. Late (num a)) (not-early 13 (omega arith)) (not-early 9 (omega arith)) (not-early 0 (omega arith)))
 
-  early-given : (n : ℕ) → 13 < n → (number ≡ n) ↔ (None (above n early) × said n early)
+  early-given : (n : ℕ) → (Late n → ⊥) → (number ≡ n) ↔ (None (above n early) × said n early)
   unfolding loadOf
-  early-given n l = given refuse num (λ n. refl) early-rows answer early early-so refl n (λ e. let s = small in omega arith)
+  early-given n l = given refuse num (λ n. refl) early-rows answer early early-so refl n (λ e. l (subst Late e small))
 
   -- past 17 and 18
-  late-passed : (n : ℕ) → n ≤ 13 → (number ≡ n) ↔ (None early × (num answer ≡ n))
+  late-passed : (n : ℕ) → Late n → (number ≡ n) ↔ (None early × (num answer ≡ n))
   unfolding loadOf
   late-passed n l =
-      passed refuse num (λ n. refl) early-rows answer early early-so n (rw (ne-eqb 17 n (λ e. omega arith), ne-eqb 18 n (λ e. omega arith)))
+      passed refuse num (λ n. refl) early-rows answer early early-so n (rw (ne-eqb 17 n (λ e. l .0 (sym e)), ne-eqb 18 n (λ e. l .1 (sym e))))
 
   within : {A B C : Type 0} → B ↔ C → (A × B) ↔ (A × C)
   within e = (λ w. (w .0, e .0 (w .1)), λ w. (w .0, e .1 (w .1)))
 
   pub refused-17 : (number ≡ 17) ↔ StoreSize
-  refused-17 = Iff·trans (early-given 17 (omega arith)) true-and
+  refused-17 = Iff·trans (early-given 17 (λ l. l .0 refl)) true-and
 
   pub refused-18 : (number ≡ 18) ↔ (None (above 18 early) × Spoiled shelf)
-  refused-18 = early-given 18 (omega arith)
+  refused-18 = early-given 18 (λ l. l .1 refl)
 
   -- the first fault of the file from the left
   pub refused-file : (n : ℕ) → FileFault n → (number ≡ n) ↔ (None early × (scanOf file .answer ≡ Scan.Refused n))
   refused-file n f =
-      let k = fault-small n f in
-      Iff·trans (late-passed n (omega arith))
+      let k = fault-other n f in
+      Iff·trans (late-passed n (k .late))
       (within
       (by-scan (λ a. (num a ≡ n) ↔ (scanOf file .answer ≡ Scan.Refused n))
       (λ m e. (λ q. e ∙ ap Scan.Refused q, λ q. cc))
       (λ h e. (
         λ q. late-range (scanOf file) h (λ a. num a ≡ n → scanOf file .answer ≡ Scan.Refused n)
-            (λ z. absurd (omega arith)) (λ z. absurd (k .2 (sym z))) (λ z. absurd (omega arith)) q,
+            (λ z. absurd (k .held (sym z))) (λ z. absurd (k .place (sym z))) (λ z. absurd (k .some (sym z))) q,
         λ q. apart q e,
       ))))
 
   pub refused-13 : (number ≡ 13) ↔ (None early × Holds KeyHeld)
   refused-13 =
-      Iff·trans (late-passed 13 (omega arith))
+      Iff·trans (late-passed 13 (not-early 13 (omega arith)))
       (within
-      (held-so 13 (λ n f e. let k = fault-small n f in omega arith) KeyHeld (λ h. Iff·trans (late-given (scanOf file) h 13 (omega arith)) true-and)))
+      (held-so 13 (λ n f e. fault-other n f .held e) KeyHeld (λ h. Iff·trans (late-given (scanOf file) h 13 (omega arith)) true-and)))
 
   pub refused-9 : (number ≡ 9) ↔ (None early × Holds (λ h. None (above 9 (late h)) × NoFreePlace))
   refused-9 =
-      Iff·trans (late-passed 9 (omega arith))
-      (within (held-so 9 (λ n f e. fault-small n f .2 e) (λ h. None (above 9 (late h)) × NoFreePlace) (λ h. late-given (scanOf file) h 9 (omega arith))))
+      Iff·trans (late-passed 9 (not-early 9 (omega arith)))
+      (within (held-so 9 (λ n f e. fault-other n f .place e) (λ h. None (above 9 (late h)) × NoFreePlace) (λ h. late-given (scanOf file) h 9 (omega arith))))
 
   pub not-refused : (number ≡ 0) ↔ (None early × Holds (λ h. None (late h)))
   not-refused =
-      Iff·trans (late-passed 0 (omega arith))
-      (within (held-so 0 (λ n f e. let k = fault-small n f in omega arith) (λ h. None (late h)) (λ h. late-none (scanOf file) h)))
+      Iff·trans (late-passed 0 (not-early 0 (omega arith)))
+      (within (held-so 0 (λ n f e. fault-other n f .some e) (λ h. None (late h)) (λ h. late-none (scanOf file) h)))
 
   pub load-done : None early → (w : Holds (λ h. None (late h))) → loadOf shelf store file ≡ done (scanOf file) (w .0)
   unfolding loadOf

@@ -1,9 +1,9 @@
--- The numbers by which a file is refused: a section's own, 2 to 8, or 11 or 12.
+-- The numbers by which a file is refused: a section's own, 2 to 8 or 46, or 11 or 12.
 --   scan-range     no other is given
 use mathlib.Core.Path.{_≡_, refl, ap, subst, _∙_}
 use mathlib.Core.Bool.{_||_}
 use mathlib.Core.List.{List}
-use mathlib.Core.Logic.{_⊎_, inl, inr}
+use mathlib.Core.Logic.{_⊎_, inl, inr, ⊎-elim}
 use Prim.Native.Nat.{ℕ, zero, suc, _+_, _<_, _≤_}
 use native.Mathlib.Omega.{arith}
 use lib.Dec.{ltb, eqb}
@@ -26,7 +26,7 @@ use Rattle.file.specs.declared.Scanned.{Scanned}
 
 -- a number that a file may be refused by
 abbrev pub FileFault : ℕ → Type 0
-FileFault n = ((2 ≤ n) × (n ≤ 8)) ⊎ ((n ≡ 11) ⊎ (n ≡ 12))
+FileFault n = (((2 ≤ n) × (n ≤ 8)) ⊎ (n ≡ 46)) ⊎ ((n ≡ 11) ⊎ (n ≡ 12))
 
 11-fault : FileFault 11
 11-fault = inr (inl refl)
@@ -49,9 +49,8 @@ in-number s at = among Read.Refused InNumber (Number.faults s) _ (11-fault, tt) 
 -- a section of 8 bytes or more is not refused by 1
 own : (s : List ℕ) (n : ℕ) → 8 ≤ length s → readOf s ≡ Reading.Refused n → FileFault n
 own s n l e =
-    let r : (1 ≤ n) × (n ≤ 8) = refused-range s n e in
     let not-1 : n ≡ 1 → ⊥ = λ q. let short : length s < 8 = refused-1 s .0 (ap Section.numberOf e ∙ q) in omega arith in
-    inl (omega arith, r .1)
+    inl (⊎-elim (λ r. inl (omega (arith, r .0, not-1), r .1)) (λ q. inr q) (refused-range s n e))
 
 in-follow : (go : Seen → Scanned) → ((seen : Seen) → InScan (go seen .answer)) → (file : List ℕ) (seen : Seen) (n : Read) → InNumber n
     → InScan (followOf go seen (lengthOf file n) .answer)

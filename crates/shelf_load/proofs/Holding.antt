@@ -34,7 +34,7 @@ module _ (old : List ℕ) (p : ℕ) (lengths : List ℕ) where
 
     pub held-one :
         {size : ℕ}
-        → length words ≡ 84
+        → length words ≡ 96
         → p < 4
         → k < 16
         → size ≡ getD lengths k 0

@@ -17,10 +17,14 @@ use Rattle.base.specs.Bytes.{part}
 use Rattle.base.proofs.Bytes.{octets-part}
 use Rattle.base.proofs.Cases.{by, same-or, and-left}
 use Rattle.section.specs.declared.Header.{Header}
-use Rattle.section.proofs.Laws.{sound-fits}
+use Rattle.section.proofs.Laws.{sound-facts}
 use Rattle.berth.specs.Berth.{places, storeSize}
 use Rattle.shelf.specs.Record.{Place, Shelf, keyOf, withLength, placeAt, withPlace, spoiledOf, placeOf, freeOf}
-use Rattle.shelf.specs.declared.Key.{Key}
+use Rattle.key.specs.declared.Key.{Key}
+use Rattle.key.specs.Key.{sameKey}
+use Rattle.key.proofs.Keys.{Proper, from-proper, same-key}
+use Rattle.section.specs.Section.{keyIn}
+use Rattle.section.proofs.Keys.{key-fits}
 use Rattle.shelf.specs.Layout.{listed, takenIn, shelfIn, shelfAt}
 use Rattle.shelf_write.specs.Writes.{headIn}
 use Rattle.shelf.proofs.Find.{free-le}
@@ -85,14 +89,14 @@ module _ (lengths : List ℕ) (k : ℕ) (hk : k < 16) where
       up-set ∙ ap (set (upTo k lengths) k) (z ∙ sym none) ∙ set-getD (upTo k lengths) k 0
 
 -- a table's head, and the lengths of its first k sections
-module _ (words : List ℕ) (fits : length words ≡ 84) (p : ℕ) (hp : p < 4) (key : Key) (version last : ℕ) (ht : key .table < 256) (lengths : List ℕ) where
+module _ (words : List ℕ) (fits : length words ≡ 96) (p : ℕ) (hp : p < 4) (key : Key) (version last : ℕ) (ht : key .table < 256) (proper : Proper key) (lengths : List ℕ) where
   abbrev table : ℕ → Place
   table k = record { taken = true; key = key; version = version; last = last; lengths = upTo k lengths }
 
   abbrev numbers : ℕ → List ℕ
   numbers k = heldBelow k (headIn words p key version last) p lengths
 
-  as-many : (k : ℕ) → length (numbers k) ≡ 84
+  as-many : (k : ℕ) → length (numbers k) ≡ 96
   as-many k = below-length (headIn words p key version last) p lengths k ∙ head-fits words fits p hp key version last
 
   at-place : (x : Place) → placeAt (withPlace (shelfAt words) p x) p ≡ x
@@ -101,7 +105,7 @@ module _ (words : List ℕ) (fits : length words ≡ 84) (p : ℕ) (hp : p < 4) 
   below-lent : (k : ℕ) → k ≤ 16 → shelfAt (numbers k) ≡ withPlace (shelfAt words) p (table k)
   unfolding heldBelow
   below-lent zero h =
-      head-lent words fits p hp key version last ht
+      head-lent words fits p hp key version last ht proper
       ∙ ap (λ l. withPlace (shelfAt words) p (record { taken = true; key = key; version = version; last = last; lengths = l })) (sym (up-none lengths))
   below-lent (suc k) h =
       let ih = below-lent k (omega arith) in
@@ -127,6 +131,7 @@ module _ (words : List ℕ) (fits : length words ≡ 84) (p : ℕ) (hp : p < 4) 
 -- what is so of the header of an accepted file of bytes
 record Narrow (h : Header) (lengths : List ℕ) : Type 0 where
   table : keyOf h .table < 256
+  proper : Proper (keyOf h)
   sixteen : length lengths ≡ 16
 
 module _ (file : List ℕ) (o : Octets file) where
@@ -140,9 +145,11 @@ module _ (file : List ℕ) (o : Octets file) where
       (λ l.
       let g = l .header in
       let s = part file (getD (scanOf file .starts) n 0) (getD (scanOf file .lengths) n 0) in
-      let t : h .table ≡ g .table = eqb-true _ _ (and-left (eqb (h .table) (g .table)) _ (l .shares)) in
+      let k : h .key ≡ g .key = same-key (h .key) (g .key) (and-left (sameKey (h .key) (g .key)) _ (l .shares)) in
+      let own : h .key ≡ keyIn s = k ∙ ap (λ x. x .key) (sound-facts s g (l .sound) .header) in
       record {
-        table = rw t (sound-fits s g (l .sound) (octets-part file (getD (scanOf file .starts) n 0) (getD (scanOf file .lengths) n 0) o) .0);
+        table = rw own (key-fits s (octets-part file (getD (scanOf file .starts) n 0) (getD (scanOf file .lengths) n 0) o) .table);
+        proper = rw own (from-proper _ _ _ _);
         sixteen = w .sizes;
       })
       (w .each n)
@@ -173,7 +180,7 @@ module _ (file : List ℕ) (o : Octets file) where
         let d : freeOf shelf ≡ places → ⊥ = eqb-false _ _ b in
         let l : freeOf shelf < 4 = omega (arith, free-le shelf, d) in
         rw (a, b)
-        (loaded-lent words (spoiled-count words u) (freeOf shelf) l (keyOf h) (h .version) (h .last) (g .table) lengths (g .sixteen))))
+        (loaded-lent words (spoiled-count words u) (freeOf shelf) l (keyOf h) (h .version) (h .last) (g .table) (g .proper) lengths (g .sixteen))))
         (λ a. rw a)
 
     answer-shelf :

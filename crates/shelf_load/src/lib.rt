@@ -91,7 +91,7 @@ fn load_table(
     ensures { λ r. ⌜ leaving r (now (words .exit)) (now (store .exit))
         ≡ tableOn (now (words .entry)) (now (store .entry)) (now (file .entry)) scanned header ⌝ }
 {
-    let key = shelf::key_of(header);
+    let key = header.key;
     if shelf::place_of(words, key) != PLACES {
         return Loaded::Refused(KEY_HELD);
     }

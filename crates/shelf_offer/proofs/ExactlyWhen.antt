@@ -24,7 +24,7 @@ use Rattle.section.specs.Section.{faults, headerOf, readOf}
 use Rattle.section.specs.declared.Reading.the-variants as reading
 use Rattle.section.proofs.ExactlyWhen as section
 use Rattle.shelf.specs.Record.{placeAt, lengthAt, holds, spoiledOf, placeOf, freeOf}
-use Rattle.shelf.specs.declared.Key.{Key}
+use Rattle.key.specs.declared.Key.{Key}
 use Rattle.shelf.specs.Record.{Place}
 use Rattle.shelf.specs.Record.{Shelf}
 use Rattle.shelf.proofs.Words.{Some, Held, HasKey, Spoiled, decided, not-held, none-free}
@@ -113,9 +113,6 @@ module _ (shelf : Shelf) (store payload : List ℕ) where
       (not-so (eqb (placeOf shelf key) places) (not-held shelf key))
       (search (words, bytes-so) depth 20)
 
-  agreed-section : Agree (faults payload) (section.table payload)
-  agreed-section = search words
-
   agreed : Agree rows table
   agreed = (
     refl,
@@ -123,7 +120,7 @@ module _ (shelf : Shelf) (store payload : List ℕ) where
     (
       refl,
       decided shelf,
-      agree-append (faults payload) (section.table payload) agreed-section last-rows (9 says NoFreePlace ∷ 10 says Differs ∷ []) (refl, new-so, (refl, differs-so, tt)),
+      agree-append (faults payload) (section.table payload) (section.decided payload) last-rows (9 says NoFreePlace ∷ 10 says Differs ∷ []) (refl, new-so, (refl, differs-so, tt)),
     ),
   )
 

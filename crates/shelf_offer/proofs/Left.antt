@@ -21,7 +21,7 @@ use Rattle.section.specs.declared.Reading.{Reading}
 use Rattle.section.specs.declared.Reading.the-variants as reading
 use Rattle.section.proofs.Laws.{sound-facts}
 use Rattle.shelf.specs.Record.{Shelf, keyOf, spoiledOf}
-use Rattle.shelf.specs.declared.Key.{Key}
+use Rattle.key.specs.declared.Key.{Key}
 use Rattle.shelf.specs.Layout.{shelfAt}
 use Rattle.shelf.proofs.Numbers.{no-record}
 use Rattle.shelf_write.specs.Calls.{heldPut, headPut}
@@ -93,7 +93,7 @@ module _ (words store payload : List ℕ) where
   pub all-spoiled : {code : ℕ} → length store ≡ storeSize → spoiledOf shelf ≡ true → code ≡ offeredCode (Offered.Refused 18) → lent code words store ≡ offerLent words store payload
   all-spoiled w s e = told words store payload (refused words store payload 18 (step-spoiled w s)) e
 
-  pub no-count : {code : ℕ} → length store ≡ storeSize → (length words ≡ 84 → ⊥) → code ≡ offeredCode (Offered.Refused 18) → lent code words store ≡ offerLent words store payload
+  pub no-count : {code : ℕ} → length store ≡ storeSize → (length words ≡ 96 → ⊥) → code ≡ offeredCode (Offered.Refused 18) → lent code words store ≡ offerLent words store payload
   no-count w d e = all-spoiled w (no-record words d) e
 
   settled :

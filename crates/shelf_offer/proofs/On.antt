@@ -16,7 +16,9 @@ use Rattle.berth.proofs.Berths.{where-length, where-same}
 use Rattle.section.specs.Section.{headerOf}
 use Rattle.section.specs.declared.Header.{Header}
 use Rattle.shelf.specs.Record.{Shelf, keyOf, placeAt, withPlace, holds, placeOf, freeOf}
-use Rattle.shelf.specs.declared.Key.{Key}
+use Rattle.key.specs.declared.Key.{Key}
+use Rattle.key.proofs.Keys.{from-proper}
+use Rattle.section.proofs.Keys.{key-id}
 use Rattle.shelf.specs.Layout.{takenIn, tableIn, shelfAt}
 use Rattle.shelf.specs.Calls.{placeAmong, freeAmong, maskAmong}
 use Rattle.shelf_write.specs.Writes.{heldIn, headIn}
@@ -34,11 +36,11 @@ use Rattle.shelf_offer.proofs.Stands.{put-at, wiped-at, wiped-none}
 use Rattle.shelf_offer.proofs.Steps.{InRange, Held, Fits, step-done, step-fits}
 
 -- a taken place of the record is one of the numbers
-pub taken-of : (words : List ℕ) (p : ℕ) → length words ≡ 84 → p < 4 → placeAt (shelfAt words) p .taken ≡ true → takenIn words p ≡ true
+pub taken-of : (words : List ℕ) (p : ℕ) → length words ≡ 96 → p < 4 → placeAt (shelfAt words) p .taken ≡ true → takenIn words p ≡ true
 taken-of words p n h t = sym (taken-at words p h) ∙ rw (at-count words n) at t
 
 -- what was found in the numbers
-module _ (words : List ℕ) (n : length words ≡ 84) where
+module _ (words : List ℕ) (n : length words ≡ 96) where
   pub place-found : {p : ℕ} {key : Key} (h : Header) → key ≡ keyOf h → p ≡ placeAmong words key → p ≡ placeOf (shelfAt words) (keyOf h)
   place-found h e q = q ∙ ap (placeAmong words) e ∙ among-place words (keyOf h) n ∙ ap (λ s. placeOf s (keyOf h)) (sym (at-count words n))
 
@@ -108,13 +110,13 @@ module _ (words store payload : List ℕ) where
     adds-fit e = subst (Fits shelf store payload) e (step-fits shelf store payload)
 
     -- the numbers of a record that is not spoiled
-    fits : Range → length words ≡ 84
+    fits : Range → length words ≡ 96
     fits f = spoiled-count words (f .unspoiled)
 
     put-left : {n : ℕ} {left : List ℕ} (before : List ℕ) → n ≡ h .number → length before ≡ storeSize → Range → left ≡ putIn before p n payload → left ≡ put before p (h .number) payload
     put-left before m w f e = e ∙ ap (λ k. putIn before p k payload) m ∙ put-at before p w (f .place) (h .number) (f .number) payload (f .size)
 
-    held-left : {n : ℕ} {kept : List ℕ} (before : List ℕ) → n ≡ h .number → length before ≡ 84 → Range → kept ≡ heldPut before p n size → kept ≡ heldIn before p (h .number) size
+    held-left : {n : ℕ} {kept : List ℕ} (before : List ℕ) → n ≡ h .number → length before ≡ 96 → Range → kept ≡ heldPut before p n size → kept ≡ heldIn before p (h .number) size
     held-left before m w f e = e ∙ ap (λ k. heldPut before p k size) m ∙ lent.held-put before w p (f .place) (h .number) (f .number) size
 
     pub added :
@@ -143,7 +145,7 @@ module _ (words store payload : List ℕ) where
         → kept ≡ begunWords words p h size
     begun-left {head = head} m q d f k =
         let e = head-left q d f in
-        let w : length head ≡ 84 = ap length e ∙ lent.head-fits words (fits f) p (f .place) (keyOf h) (h .version) (h .last) in
+        let w : length head ≡ 96 = ap length e ∙ lent.head-fits words (fits f) p (f .place) (keyOf h) (h .version) (h .last) in
         held-left head m w f k ∙ ap (λ v. heldIn v p (h .number) size) e
 
     pub began :
@@ -203,12 +205,12 @@ module _ (words store payload : List ℕ) where
   -- the table id of a header that was read from bytes is a byte
   module _ (o : Octets payload) where
     byte-key : keyOf h .table < 256
-    byte-key = o 0
+    byte-key = rw (key-id payload) (o 0)
 
     begun-shelf : (p : ℕ) → InRange shelf store payload p
         → shelfAt (begunWords words p h size) ≡ withPlace shelf p (begunPlace h size)
     begun-shelf p f =
-        lent.begun-lent words (fits p f) p (f .place) (keyOf h) (h .version) (h .last) (h .number) size byte-key (f .number) (omega (arith, f .least))
+        lent.begun-lent words (fits p f) p (f .place) (keyOf h) (h .version) (h .last) (h .number) size byte-key (from-proper _ _ _ _) (f .number) (omega (arith, f .least))
 
     done-shelf : (s : Step) → Fits shelf store payload s → shelfAt (written words payload s) ≡ done shelf store payload s .shelf
     unfolding done written

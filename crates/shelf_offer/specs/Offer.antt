@@ -87,7 +87,7 @@ module _ (shelf : Shelf) (store payload : List ℕ) where
   readingOf (Sound h) = soundOf h
   readingOf (Refused n) = no n
 
-  -- order: 17, 18, then 1 to 10
+  -- order: 17, 18, 1 to 8, 46, 9, 10
   unfoldable pub offerOf : After
   offerOf =
       if not (eqb (length store) storeSize) then no 17 else if spoiledOf shelf then no 18 else readingOf (readOf payload)

@@ -7,6 +7,7 @@ ghost use Prim.Native.Nat.{_<_, _≤_, _/_, _%_};
 ghost use lib.ListN.{length};
 ghost use Rattle.berth.specs.Berth.{berthSize, places, sections, storeSize};
 ghost use Rattle.berth.specs.Calls.{putIn};
+ghost use Rattle.key.specs.Theorems.{Proper};
 ghost use Rattle.section.specs.Section.{readOf, headerOf};
 ghost use Rattle.section.specs.declared.Header.{Header as HeaderOf};
 ghost use Rattle.section.specs.declared.Reading.the-variants.{Sound};
@@ -74,9 +75,10 @@ fn held_step(words: &[u16], store: &[u8], payload: &[u8], header: Header, p: usi
 fn sound_step(words: &[u16], store: &[u8], payload: &[u8], header: Header) -> Step
     requires { ⌜ (length (now words) ≡ count) × (length (now store) ≡ storeSize) ⌝ }
     requires { ⌜ (header .number < sections) × (header .version < 32) × (header .last < 16) × (length (now payload) ≤ berthSize) ⌝ }
+    requires { ⌜ Proper (header .key) ⌝ }
     ensures { λ r. ⌜ (spoiledOf (shelfAt (now (words .entry))) ≡ false → r ≡ soundStep (shelfAt (now (words .entry))) (now (store .entry)) (now (payload .entry)) header) ⌝ }
 {
-    let p = shelf::place_of(words, shelf::key_of(header));
+    let p = shelf::place_of_said(words, header.key);
     if p < berth::PLACES {
         return held_step(words, store, payload, header, p);
     }
@@ -184,7 +186,7 @@ fn begin(
     ensures { λ r. ⌜ lent r (now (words .exit)) (now (store .exit)) ≡ offerLent (now (words .entry)) (now (store .entry)) (now (payload .entry)) ⌝ }
 {
     berth::wipe_where(store, p, going(words, p, kind));
-    shelf_write::put_head(words, p, shelf::key_of(header), header.version, header.last);
+    shelf_write::put_head(words, p, header.key, header.version, header.last);
     add(words, store, payload, p, base::wide8(header.number));
     code_of(begun(kind))
 }
@@ -291,7 +293,7 @@ fn offer_sound(
 }
 
 // Offers a payload to the record that the numbers are, and answers in a number whose low 8 bits are the refusal. A refused call and a
-// repeat leave numbers and store as they were; the refusals are 17, 18, then 1 to 10. What the offer comes to is found before the record is
+// repeat leave numbers and store as they were; the refusals are 17, 18, 1 to 8, 46, 9, 10. What the offer comes to is found before the record is
 // asked in full, which only one that has not passed is.
 pub fn offer_code(words: &mut [u16], store: &mut [u8], payload: &[u8]) -> u16
     ensures { λ r. ⌜ lent r (now (words .exit)) (now (store .exit)) ≡ offerLent (now (words .entry)) (now (store .entry)) (now (payload .entry)) ⌝ }

@@ -21,7 +21,7 @@ use Rattle.base.proofs.Tables.{given, passed, silent, among}
 use Rattle.berth.specs.Berth.{berthSize, sections, places, standing}
 use Rattle.berth.proofs.Berths.{where-picked, where-spared}
 use Rattle.shelf.specs.Record.{Same, freePlace, placeAt, withPlace, placeOf}
-use Rattle.shelf.specs.declared.Key.{Key}
+use Rattle.key.specs.declared.Key.{Key}
 use Rattle.shelf.specs.Record.{Place}
 use Rattle.shelf.specs.Record.{Shelf}
 use Rattle.shelf_ask.specs.Ask.{unasked, holdingOf}

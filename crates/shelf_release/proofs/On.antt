@@ -11,7 +11,7 @@ use Rattle.berth.specs.Berth.{sections, wipedWhere}
 use Rattle.berth.specs.Calls.{wipedWhereIn}
 use Rattle.berth.proofs.Steps.{is-place, wiped-where}
 use Rattle.shelf.specs.Record.{placeOf}
-use Rattle.shelf.specs.declared.Key.{Key}
+use Rattle.key.specs.declared.Key.{Key}
 use Rattle.shelf.specs.Layout.{shelfAt}
 use Rattle.shelf_write.specs.Writes.{freedIn}
 use Rattle.shelf_write.specs.Calls.{freedPut}

@@ -7,7 +7,7 @@ use Prim.Native.Nat.{ℕ}
 use lib.ListN.{length}
 use Rattle.berth.specs.Berth.{sections, wipedWhere}
 use Rattle.shelf.specs.Record.{freePlace, withPlace, placeOf}
-use Rattle.shelf.specs.declared.Key.{Key}
+use Rattle.key.specs.declared.Key.{Key}
 use Rattle.shelf.specs.Record.{Shelf}
 use Rattle.shelf_ask.specs.Ask.{holdingOf}
 use Rattle.shelf_ask.specs.declared.Holding.{Holding}

@@ -7,7 +7,7 @@ use Prim.Native.Nat.{ℕ, _<_}
 use native.Mathlib.Omega.{arith}
 use borrow.Author.Tests.{ne-eqb}
 use Rattle.answers.specs.Answers.{lent}
-use Rattle.shelf.specs.declared.Key.{Key}
+use Rattle.key.specs.declared.Key.{Key}
 use Rattle.shelf_release.specs.declared.Released.{Released}
 use Rattle.shelf_release.specs.On.{leaving, releaseOn}
 use Rattle.shelf_release.specs.Answer.{releasedCode, releasedIn, releaseOut, releaseLent}

@@ -4,7 +4,7 @@ use mathlib.Core.List.{List}
 use lib.Dec.{eqb}
 use Rattle.base.specs.Choice.{if_then_else_}
 use Rattle.answers.specs.Answers.{Lent, lent}
-use Rattle.shelf.specs.declared.Key.{Key}
+use Rattle.key.specs.declared.Key.{Key}
 use Rattle.shelf_release.specs.declared.Released.{Released}
 use Rattle.shelf_release.specs.On.{Leaving, releaseOn}
 

@@ -5,7 +5,7 @@ use mathlib.Core.Bool.{true}
 use Rattle.base.specs.Choice.{first}
 use Rattle.berth.specs.Berth.{sections, wipedWhere}
 use Rattle.shelf.specs.Record.{freePlace, withPlace, placeOf}
-use Rattle.shelf.specs.declared.Key.{Key}
+use Rattle.key.specs.declared.Key.{Key}
 use Rattle.shelf.specs.Record.{Shelf}
 use Rattle.shelf_ask.specs.Ask.{unasked}
 use Rattle.shelf_release.specs.declared.Released.{Released}

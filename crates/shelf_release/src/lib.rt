@@ -1,5 +1,5 @@
 // Releasing a table (document 01, "The shelf"): its place is free again, and its sixteen berths are zeroed.
-use shelf::Key;
+use key::Key;
 use shelf_ask::Holding;
 ghost use mathlib.Core.Path.{_≡_};
 ghost use Rattle.shelf_release.specs.On.{leaving, releaseOn};

@@ -15,7 +15,7 @@ use Rattle.base.specs.Choice.{Row}
 use Rattle.base.specs.Tables.{Rule, _says_, None, above, said, Agree}
 use Rattle.base.proofs.Tables.{words, given, passed, silent, among}
 use Rattle.shelf.specs.Record.{placeOf}
-use Rattle.shelf.specs.declared.Key.{Key}
+use Rattle.key.specs.declared.Key.{Key}
 use Rattle.shelf.specs.Record.{Shelf}
 use Rattle.shelf_ask.specs.Ask.{unasked, holdingOf}
 use Rattle.shelf_ask.specs.declared.Holding.{Holding}

@@ -17,7 +17,7 @@ use Rattle.base.proofs.Cases.{by}
 use Rattle.berth.specs.Berth.{berthSize, sections, laid}
 use Rattle.berth.proofs.Laid.{laid-length, laid-beside}
 use Rattle.shelf.specs.Record.{placeAt}
-use Rattle.shelf.specs.declared.Key.{Key}
+use Rattle.key.specs.declared.Key.{Key}
 use Rattle.shelf.specs.Record.{Shelf}
 use Rattle.shelf_ask.specs.Ask.{holdingOf}
 use Rattle.shelf_ask.specs.declared.Holding.{Holding}

@@ -2,7 +2,7 @@
 use mathlib.Core.Path.{_≡_, sym, ap, _∙_}
 use mathlib.Core.List.{List}
 use Prim.Native.Nat.{ℕ}
-use Rattle.shelf.specs.declared.Key.{Key}
+use Rattle.key.specs.declared.Key.{Key}
 use Rattle.shelf.specs.Record.{Shelf}
 use Rattle.shelf_save.specs.Save.{Save, save, saveOf}
 use Rattle.shelf_save.specs.declared.Saved.{Saved}

@@ -2,7 +2,7 @@
 use Prim.Native.Nat.{ℕ}
 use mathlib.Core.List.{List}
 use Rattle.answers.specs.Answers.{Out, out, sizeCode, sizeOr}
-use Rattle.shelf.specs.declared.Key.{Key}
+use Rattle.key.specs.declared.Key.{Key}
 use Rattle.shelf.specs.Layout.{shelfAt}
 use Rattle.shelf_save.specs.Save.{Save, saveOf}
 use Rattle.shelf_save.specs.declared.Saved.{Saved}

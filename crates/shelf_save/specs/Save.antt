@@ -7,7 +7,7 @@ use lib.ListN.{length, getD, drop}
 use Rattle.base.specs.Choice.{Row, _if_, first}
 use Rattle.berth.specs.Berth.{sections, standing}
 use Rattle.shelf.specs.Record.{placeOf}
-use Rattle.shelf.specs.declared.Key.{Key}
+use Rattle.key.specs.declared.Key.{Key}
 use Rattle.shelf.specs.Record.{Shelf}
 use Rattle.shelf_ask.specs.Ask.{unasked, asked}
 use Rattle.file.specs.Layout.{fileOf, chosen}

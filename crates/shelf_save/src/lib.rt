@@ -1,7 +1,7 @@
 // Saves a table of the shelf as a file (document 01, "The shelf file").
 use berth::SECTIONS;
 use file_number::Written;
-use shelf::Key;
+use key::Key;
 use shelf_ask::Holding;
 ghost use mathlib.Core.Path.{_≡_};
 ghost use Prim.Native.Nat.{_+_, _*_, _<_, _≤_};

@@ -16,10 +16,12 @@ use lib.Seq.{ext-getD, getD-set-same, getD-set-other}
 use borrow.Author.Tests.{eq-eqb, ne-eqb, le-ltb, lt-ltb}
 use Rattle.base.proofs.Cases.{same-or}
 use Rattle.shelf.specs.Record.{Place, freePlace, emptyTable, withLength, fresh, withPlace}
-use Rattle.shelf.specs.declared.Key.{Key}
+use Rattle.key.specs.declared.Key.{Key}
+use Rattle.key.specs.Key.{keyFrom}
+use Rattle.key.proofs.Keys.{Proper}
 use Rattle.base.specs.Bits.{bit}
-use Rattle.shelf.specs.Layout.{heldLength, listed, lengthsIn, tableIn, takenIn, placeIn, shelfIn}
-use Rattle.shelf_write.specs.Writes.{heldIn, rowIn, freedIn, headIn, freshNumber, freshWords}
+use Rattle.shelf.specs.Layout.{heldLength, listed, lengthsIn, keyAt, tableIn, takenIn, placeIn, shelfIn}
+use Rattle.shelf_write.specs.Writes.{heldIn, rowIn, restIn, freedIn, headIn, freshNumber, freshWords}
 use Rattle.shelf_write.specs.Calls.{headPut}
 use Rattle.base.proofs.Bits.{bit-set, bit-kept}
 use Rattle.shelf.proofs.Lists.{length-listed, getD-listed, listed-same}
@@ -29,15 +31,27 @@ pub record Alike (v w : List ℕ) (p : ℕ) : Type 0 where
   pub heads : (j : ℕ) → j < 4 → getD v (64 + j + 4 * p) 0 ≡ getD w (64 + j + 4 * p) 0
   pub mask : getD v (80 + p) 0 ≡ getD w (80 + p) 0
   pub lengths : (k : ℕ) → k < 16 → getD v (16 * p + k) 0 ≡ getD w (16 * p + k) 0
+  pub rest : (j : ℕ) → j < 3 → getD v (84 + j + 3 * p) 0 ≡ getD w (84 + j + 3 * p) 0
 
 lengths-same : (v w : List ℕ) (p : ℕ) → Alike v w p → lengthsIn v p ≡ lengthsIn w p
 unfolding lengthsIn
 lengths-same v w p a = listed-same 16 _ _ (λ k h. rw (a .mask, a .lengths k h))
 
+key-alike : (v w : List ℕ) (p : ℕ) → Alike v w p → keyAt v p ≡ keyAt w p
+unfolding keyAt
+key-alike v w p a =
+    rw (a .heads 0 (omega arith), a .heads 1 (omega arith), a .rest 0 (omega arith), a .rest 1 (omega arith), a .rest 2 (omega arith))
+
 pub place-same : (v w : List ℕ) (p : ℕ) → Alike v w p → placeIn v p ≡ placeIn w p
 unfolding placeIn tableIn
 place-same v w p a =
-    rw (lengths-same v w p a, a .heads 0 (omega arith), a .heads 1 (omega arith), a .heads 2 (omega arith), a .heads 3 (omega arith))
+    rw (
+      lengths-same v w p a,
+      key-alike v w p a,
+      a .heads 0 (omega arith),
+      a .heads 2 (omega arith),
+      a .heads 3 (omega arith),
+    )
 
 -- a record in which one place is another
 pub shelf-with :
@@ -59,7 +73,7 @@ shelf-with v w p h x e o = go p h e o
     go (suc (suc (suc (suc p)))) h e o = absurd (omega arith)
 
 -- one section more
-module _ (words : List ℕ) (fits : length words ≡ 84) (p : ℕ) (hp : p < 4) (n : ℕ) (hn : n < 16) (size : ℕ) (hs : 1 ≤ size) where
+module _ (words : List ℕ) (fits : length words ≡ 96) (p : ℕ) (hp : p < 4) (n : ℕ) (hn : n < 16) (size : ℕ) (hs : 1 ≤ size) where
   abbrev mask : ℕ
   mask = getD words (80 + p) 0
 
@@ -88,6 +102,7 @@ module _ (words : List ℕ) (fits : length words ≡ 84) (p : ℕ) (hp : p < 4) 
         heads = λ j l. apart (64 + j + 4 * q) (λ z. omega arith) (λ z. omega arith);
         mask = apart (80 + q) (λ z. omega arith) (λ z. d (omega arith));
         lengths = λ k l. apart (16 * q + k) (λ z. d (omega arith)) (λ z. omega arith);
+        rest = λ j l. apart (84 + j + 3 * q) (λ z. omega arith) (λ z. omega arith);
       })
 
   abbrev old : ℕ → ℕ
@@ -116,13 +131,24 @@ module _ (words : List ℕ) (fits : length words ≡ 84) (p : ℕ) (hp : p < 4) 
       (λ d. getD-listed 16 new k l ∙ new-other k l d ∙ sym (getD-set-other (listed 16 old) n k size 0 d ∙ getD-listed 16 old k l))
       (same-or k n))
 
+  key-next : keyAt next p ≡ keyAt words p
+  unfolding keyAt
+  key-next =
+      rw (
+        apart (64 + 4 * p) (λ z. omega arith) (λ z. omega arith),
+        apart (65 + 4 * p) (λ z. omega arith) (λ z. omega arith),
+        apart (84 + 3 * p) (λ z. omega arith) (λ z. omega arith),
+        apart (85 + 3 * p) (λ z. omega arith) (λ z. omega arith),
+        apart (86 + 3 * p) (λ z. omega arith) (λ z. omega arith),
+      )
+
   place-next : takenIn words p ≡ true → placeIn next p ≡ withLength (placeIn words p) n size
   unfolding placeIn tableIn
   place-next t =
       rw (
         lengths-next,
+        key-next,
         apart (64 + 4 * p) (λ z. omega arith) (λ z. omega arith),
-        apart (65 + 4 * p) (λ z. omega arith) (λ z. omega arith),
         apart (66 + 4 * p) (λ z. omega arith) (λ z. omega arith),
         apart (67 + 4 * p) (λ z. omega arith) (λ z. omega arith),
         t,
@@ -133,7 +159,7 @@ module _ (words : List ℕ) (fits : length words ≡ 84) (p : ℕ) (hp : p < 4) 
   held-shelf t = shelf-with next words p hp (withLength (placeIn words p) n size) (place-next t) others
 
 -- a head and a mask
-module _ (words : List ℕ) (fits : length words ≡ 84) (p : ℕ) (hp : p < 4) (a b c d m : ℕ) where
+module _ (words : List ℕ) (fits : length words ≡ 96) (p : ℕ) (hp : p < 4) (a b c d m : ℕ) where
   abbrev w₁ : List ℕ
   w₁ = set words (64 + 4 * p) a
 
@@ -195,13 +221,60 @@ module _ (words : List ℕ) (fits : length words ≡ 84) (p : ℕ) (hp : p < 4) 
         heads = λ j l. row-apart (64 + j + 4 * q) (λ i k z. e (omega arith)) (λ z. omega arith);
         mask = row-apart (80 + q) (λ i k z. omega arith) (λ z. e (omega arith));
         lengths = λ k l. row-apart (16 * q + k) (λ i g z. omega arith) (λ z. omega arith);
+        rest = λ j l. row-apart (84 + j + 3 * q) (λ i g z. omega arith) (λ z. omega arith);
       })
 
   pub row-shelf : (x : Place) → placeIn row p ≡ x → shelfIn (rowIn words p a b c d m) ≡ withPlace (shelfIn words) p x
   unfolding rowIn
   row-shelf x e = shelf-with row words p hp x e row-others
 
-module _ (words : List ℕ) (fits : length words ≡ 84) (p : ℕ) (hp : p < 4) where
+-- the rest of a key
+module _ (words : List ℕ) (fits : length words ≡ 96) (p : ℕ) (hp : p < 4) (key : Key) where
+  abbrev r₁ : List ℕ
+  r₁ = set words (84 + 3 * p) (key .service)
+
+  abbrev r₂ : List ℕ
+  r₂ = set r₁ (85 + 3 * p) (key .start / 65536)
+
+  abbrev rest : List ℕ
+  rest = set r₂ (86 + 3 * p) (key .start % 65536)
+
+  rest-apart : (i : ℕ) → ((j : ℕ) → j < 3 → i ≡ 84 + j + 3 * p → ⊥) → getD rest i 0 ≡ getD words i 0
+  rest-apart i x =
+      getD-set-other r₂ (86 + 3 * p) i (key .start % 65536) 0 (x 2 (omega arith))
+      ∙ getD-set-other r₁ (85 + 3 * p) i (key .start / 65536) 0 (x 1 (omega arith))
+      ∙ getD-set-other words (84 + 3 * p) i (key .service) 0 (x 0 (omega arith))
+
+  rest-low : getD rest (86 + 3 * p) 0 ≡ key .start % 65536
+  rest-low = getD-set-same r₂ (86 + 3 * p) (key .start % 65536) 0 (simp length-set (omega arith))
+
+  rest-high : getD rest (85 + 3 * p) 0 ≡ key .start / 65536
+  rest-high =
+      getD-set-other r₂ (86 + 3 * p) (85 + 3 * p) (key .start % 65536) 0 (λ z. omega arith)
+      ∙ getD-set-same r₁ (85 + 3 * p) (key .start / 65536) 0 (simp length-set (omega arith))
+
+  rest-service : getD rest (84 + 3 * p) 0 ≡ key .service
+  rest-service =
+      getD-set-other r₂ (86 + 3 * p) (84 + 3 * p) (key .start % 65536) 0 (λ z. omega arith)
+      ∙ getD-set-other r₁ (85 + 3 * p) (84 + 3 * p) (key .start / 65536) 0 (λ z. omega arith)
+      ∙ getD-set-same words (84 + 3 * p) (key .service) 0 (omega arith)
+
+  rest-others : (q : ℕ) → q < 4 → (q ≡ p → ⊥) → placeIn rest q ≡ placeIn words q
+  rest-others q h e =
+      place-same rest words q
+      (record {
+        heads = λ j l. rest-apart (64 + j + 4 * q) (λ i k z. omega arith);
+        mask = rest-apart (80 + q) (λ i k z. omega arith);
+        lengths = λ k l. rest-apart (16 * q + k) (λ i g z. omega arith);
+        rest = λ j l. rest-apart (84 + j + 3 * q) (λ i k z. e (omega arith));
+      })
+
+  rest-lengths : lengthsIn rest p ≡ lengthsIn words p
+  unfolding lengthsIn
+  rest-lengths =
+      listed-same 16 _ _ (λ k h. rw (rest-apart (80 + p) (λ i g z. omega arith), rest-apart (16 * p + k) (λ i g z. omega arith)))
+
+module _ (words : List ℕ) (fits : length words ≡ 96) (p : ℕ) (hp : p < 4) where
   pub freed-shelf : shelfIn (freedIn words p) ≡ withPlace (shelfIn words) p freePlace
   unfolding placeIn
   freed-shelf =
@@ -217,26 +290,65 @@ module _ (words : List ℕ) (fits : length words ≡ 84) (p : ℕ) (hp : p < 4) 
         none : (k : ℕ) → bit 0 k ≡ false
         none k = rw (zero-div (2 ^ k))
 
-    pub head-shelf : shelfIn (headIn words p key version last) ≡ withPlace (shelfIn words) p (emptyTable key version last)
-    unfolding placeIn tableIn
-    head-shelf =
-        row-shelf words fits p hp (256 + key .table) (key .extension) version last 0 (emptyTable key version last)
-        (rw (
-          row-first words fits p hp (256 + key .table) (key .extension) version last 0,
-          row-extension words fits p hp (256 + key .table) (key .extension) version last 0,
-          row-version words fits p hp (256 + key .table) (key .extension) version last 0,
-          row-last words fits p hp (256 + key .table) (key .extension) version last 0,
-          empty (row words fits p hp (256 + key .table) (key .extension) version last 0) (row-mask words fits p hp (256 + key .table) (key .extension) version last 0),
-          eq-eqb ((256 + key .table) / 256) 1 (omega arith),
+    abbrev begun : List ℕ
+    begun = row words fits p hp (256 + key .table) (key .extension) version last 0
+
+    begun-fits : length begun ≡ 96
+    begun-fits = simp length-set fits
+
+    abbrev after : List ℕ
+    after = rest begun begun-fits p hp key
+
+    head-at : (j : ℕ) → j < 4 → getD after (64 + j + 4 * p) 0 ≡ getD begun (64 + j + 4 * p) 0
+    head-at j l = rest-apart begun begun-fits p hp key (64 + j + 4 * p) (λ i k z. omega arith)
+
+    first-now : getD after (64 + 4 * p) 0 ≡ 256 + key .table
+    first-now = head-at 0 (omega arith) ∙ row-first words fits p hp (256 + key .table) (key .extension) version last 0
+
+    whole : (n : ℕ) → n / 65536 * 65536 + n % 65536 ≡ n
+    whole n = omega arith
+
+    key-now : Proper key → keyAt after p ≡ key
+    unfolding keyAt
+    key-now proper =
+        rw (
+          first-now,
+          head-at 1 (omega arith) ∙ row-extension words fits p hp (256 + key .table) (key .extension) version last 0,
+          rest-service begun begun-fits p hp key,
+          rest-high begun begun-fits p hp key,
+          rest-low begun begun-fits p hp key,
+          whole (key .start),
           low,
-        ))
+        )
+        proper
       where
         low : (256 + key .table) % 256 ≡ key .table
         low = omega arith
 
+    place-now : Proper key → placeIn after p ≡ emptyTable key version last
+    unfolding placeIn tableIn
+    place-now proper =
+        rw (
+          key-now proper,
+          first-now,
+          head-at 2 (omega arith) ∙ row-version words fits p hp (256 + key .table) (key .extension) version last 0,
+          head-at 3 (omega arith) ∙ row-last words fits p hp (256 + key .table) (key .extension) version last 0,
+          rest-lengths begun begun-fits p hp key,
+          empty begun (row-mask words fits p hp (256 + key .table) (key .extension) version last 0),
+          eq-eqb ((256 + key .table) / 256) 1 (omega arith),
+        )
+
+    pub head-shelf : Proper key → shelfIn (headIn words p key version last) ≡ withPlace (shelfIn words) p (emptyTable key version last)
+    unfolding rowIn restIn
+    head-shelf proper =
+        shelf-with after words p hp (emptyTable key version last) (place-now proper)
+        (λ q h e.
+        rest-others begun begun-fits p hp key q h e
+        ∙ row-others words fits p hp (256 + key .table) (key .extension) version last 0 q h e)
+
     pub head-taken : takenIn (headIn words p key version last) p ≡ true
-    unfolding rowIn
-    head-taken = rw (row-first words fits p hp (256 + key .table) (key .extension) version last 0) (eq-eqb ((256 + key .table) / 256) 1 (omega arith))
+    unfolding rowIn restIn
+    head-taken = rw first-now (eq-eqb ((256 + key .table) / 256) 1 (omega arith))
 
 -- the numbers stay as many
 pub held-length : (words : List ℕ) (p n size : ℕ) → length (heldIn words p n size) ≡ length words
@@ -247,30 +359,46 @@ pub row-length : (words : List ℕ) (p a b c d m : ℕ) → length (rowIn words 
 unfolding rowIn
 row-length words p a b c d m = simp length-set
 
-pub fresh-length : length freshWords ≡ 84
+pub rest-length : (words : List ℕ) (p : ℕ) (key : Key) → length (restIn words p key) ≡ length words
+unfolding restIn
+rest-length words p key = simp length-set
+
+pub fresh-length : length freshWords ≡ 96
 unfolding freshWords
-fresh-length = length-listed 84 freshNumber
+fresh-length = length-listed 96 freshNumber
 
 pub fresh-shelf : shelfIn freshWords ≡ fresh
 unfolding shelfIn placeIn fresh freshWords
 fresh-shelf = rw (free 0 (omega arith) (omega arith), free 1 (omega arith) (omega arith), free 2 (omega arith) (omega arith), free 3 (omega arith) (omega arith))
   where
-    free : (p : ℕ) → p < 4 → 64 + 4 * p < 84 → takenIn freshWords p ≡ false
-    free p h l = rw (getD-listed 84 freshNumber (64 + 4 * p) l, le-ltb (64 + 4 * p) 64 (omega arith), lt-ltb (64 + 4 * p) 80 (omega arith), eq-eqb ((64 + 4 * p) % 4) 0 (omega arith)) (ne-eqb ((64 + 4 * p - 64) / 4 / 256) 1 (λ z. omega arith))
+    free : (p : ℕ) → p < 4 → 64 + 4 * p < 96 → takenIn freshWords p ≡ false
+    free p h l = rw (getD-listed 96 freshNumber (64 + 4 * p) l, le-ltb (64 + 4 * p) 64 (omega arith), lt-ltb (64 + 4 * p) 80 (omega arith), eq-eqb ((64 + 4 * p) % 4) 0 (omega arith)) (ne-eqb ((64 + 4 * p - 64) / 4 / 256) 1 (λ z. omega arith))
 
 pub head-put-row :
-    {out : List ℕ}
+    {out row : List ℕ}
     {a b c : ℕ}
     (words : List ℕ)
     (p : ℕ)
     (key : Key)
     (version last : ℕ)
-    → length words ≡ 84
+    → length words ≡ 96
     → p < 4
     → a ≡ key .table
     → b ≡ version
     → c ≡ last
-    → out ≡ rowIn words p (256 + a) (key .extension) b c 0
+    → row ≡ rowIn words p (256 + a) (key .extension) b c 0
+    → out ≡ restIn row p key
     → out ≡ headPut words p key version last
 unfolding headPut
-head-put-row words p key version last n h i j k e = rw (eq-eqb (length words) 84 n, lt-ltb p 4 h) (rw (i, j, k) at e)
+head-put-row words p key version last n h i j k e f = rw (eq-eqb (length words) 96 n, lt-ltb p 4 h) (rw (e, i, j, k) at f)
+
+pub rest-set :
+    {a b : ℕ}
+    (words : List ℕ)
+    (p : ℕ)
+    (key : Key)
+    → a ≡ key .start / 65536
+    → b ≡ key .start % 65536
+    → set (set (set words (84 + 3 * p) (key .service)) (85 + 3 * p) a) (86 + 3 * p) b ≡ restIn words p key
+unfolding restIn
+rest-set words p key e f = rw (e, f)

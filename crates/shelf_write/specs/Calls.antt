@@ -4,7 +4,7 @@ use mathlib.Core.List.{List}
 use lib.Dec.{eqb}
 use lib.ListN.{length}
 use Rattle.base.specs.Choice.{if_then_else_}
-use Rattle.shelf.specs.declared.Key.{Key}
+use Rattle.key.specs.declared.Key.{Key}
 use Rattle.shelf.specs.Layout.{count}
 use Rattle.shelf.specs.Calls.{hasPlace, hasSection}
 use Rattle.shelf_write.specs.Writes.{heldIn, freedIn, headIn, freshWords}

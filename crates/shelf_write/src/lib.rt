@@ -2,10 +2,12 @@
 // of a record writes nothing.
 use berth::PLACES;
 use berth::SECTIONS;
+use key::Key;
 use shelf::HEAD;
 use shelf::HEADS;
-use shelf::Key;
 use shelf::MASKS;
+use shelf::REST;
+use shelf::RESTS;
 use shelf::TAKEN;
 use shelf::WORDS;
 ghost use mathlib.Core.Path.{_≡_};
@@ -14,7 +16,7 @@ ghost use lib.Bits.{bitOr};
 ghost use lib.ListN.{length};
 ghost use Rattle.berth.specs.Berth.{places, sections};
 ghost use Rattle.shelf.specs.Layout.{count};
-ghost use Rattle.shelf_write.specs.Writes.{heldIn, rowIn, freshNumber};
+ghost use Rattle.shelf_write.specs.Writes.{heldIn, rowIn, restIn, freshNumber};
 ghost use Rattle.shelf_write.specs.Calls.{heldPut, headPut, freedPut, freshPut};
 
 fn with_bit(mask: u16, n: usize) -> u16
@@ -61,6 +63,16 @@ fn put_row(words: &mut [u16], p: usize, a: u16, b: u16, c: u16, d: u16, mask: u1
     words[MASKS + p] = mask;
 }
 
+// The rest of the key of place p.
+fn put_rest(words: &mut [u16], p: usize, key: Key)
+    requires { ⌜ (length (now words) ≡ count) × (p < places) ⌝ }
+    ensures { λ _. ⌜ now (words .exit) ≡ restIn (now (words .entry)) p key ⌝ }
+{
+    words[RESTS + REST * p] = key.service;
+    words[RESTS + 1 + REST * p] = key::high(key.start);
+    words[RESTS + 2 + REST * p] = key::low(key.start);
+}
+
 // Place p is taken by a table that holds nothing yet.
 pub fn put_head(words: &mut [u16], p: usize, key: Key, version: u8, last: u8)
     ensures { λ _. ⌜ now (words .exit) ≡ headPut (now (words .entry)) p key version last ⌝ }
@@ -80,6 +92,7 @@ pub fn put_head(words: &mut [u16], p: usize, key: Key, version: u8, last: u8)
         base::half(last),
         0,
     );
+    put_rest(words, p, key);
 }
 
 // Place p is free.
@@ -110,7 +123,10 @@ fn fresh_number(k: usize) -> u16
         }
         return 0;
     }
-    1
+    if k < RESTS {
+        return 1;
+    }
+    0
 }
 
 // A fresh record: four free places.

@@ -1,5 +1,6 @@
 // A table in the numbers that a host is told it in: its key, its version, its last number, and how many bytes each of its sixteen
 // sections has.
+use key::Key;
 ghost use mathlib.Core.Path.{_≡_};
 ghost use mathlib.Core.List.{_++_};
 ghost use Prim.Native.Nat.{_≤_};
@@ -9,15 +10,14 @@ ghost use Rattle.tables.specs.Numbers.{tableNumbers, tablePut};
 
 // A section that is not there has length 0.
 pub struct Table {
-    pub table: u8,
-    pub extension: u16,
+    pub key: Key,
     pub version: u16,
     pub last: u16,
     pub lengths: [u16; 16],
 }
 
 // The numbers before the lengths, and how many lengths there are.
-const HEAD: usize = 4;
+const HEAD: usize = 7;
 
 const LENGTHS: usize = 16;
 
@@ -26,14 +26,18 @@ const FIELDS: usize = HEAD + LENGTHS;
 
 // Puts a table's numbers at the front of the buffer.
 fn put(t: Table, fields: &mut [u16])
-    requires { ⌜ 20 ≤ length (now fields) ⌝ }
-    ensures { λ _. ⌜ now (fields .exit) ≡ tableNumbers t ++ drop 20 (now (fields .entry)) ⌝ }
+    requires { ⌜ 23 ≤ length (now fields) ⌝ }
+    ensures { λ _. ⌜ now (fields .exit) ≡ tableNumbers t ++ drop 23 (now (fields .entry)) ⌝ }
 {
     let lengths = t.lengths;
-    fields[0] = base::half(t.table);
-    fields[1] = t.extension;
-    fields[2] = t.version;
-    fields[3] = t.last;
+    let key = t.key;
+    fields[0] = base::half(key.table);
+    fields[1] = key.extension;
+    fields[2] = key.service;
+    fields[3] = key::high(key.start);
+    fields[4] = key::low(key.start);
+    fields[5] = t.version;
+    fields[6] = t.last;
     let mut n: usize = 0;
     while n < LENGTHS {
         fields[HEAD + n] = lengths[n];

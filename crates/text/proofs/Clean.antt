@@ -1,7 +1,7 @@
 -- Pieces of text whose bytes are newlines or from 32 to 126.
---   Plain, plain-join, plain-word     byte by byte; of a join; of a word that is written out
---   plain-decimal, plain-lister       of a number, and of one of the lister's
---   plain-escaped                     of any name
+--   Plain, plain-join, plain-word             byte by byte; of a join; of a word that is written out
+--   plain-decimal, plain-lister, plain-long   of a number, and of those of the lister
+--   plain-escaped                             of any name
 use mathlib.Core.Path.{_≡_, refl}
 use mathlib.Core.Bool.{Bool, true, false, _&&_, _||_}
 use mathlib.Core.List.{List, [], _∷_, _++_}
@@ -15,8 +15,8 @@ use Rattle.base.specs.Bytes.{byte}
 use Rattle.base.specs.Octets.{Octets}
 use Rattle.base.proofs.Cases.{by, and-left, and-right}
 use Rattle.file_listing.specs.Words as words
-use Rattle.file_listing.specs.Words.{place}
-use Rattle.text.specs.Words.{places, decimal, hexDigit, plain, shown, escaped}
+use Rattle.file_listing.specs.Words.{place, places, digits}
+use Rattle.text.specs.Words.{decimal, hexDigit, plain, shown, escaped}
 use Rattle.text.specs.Clean.{Clean}
 
 -- a byte that ends a line, or is from 32 to 126
@@ -82,16 +82,20 @@ unfolding places
 plain-places zero n = none
 plain-places (suc k) n = plain-join (plain-place (10 ^ suc k) n) (plain-places k n)
 
+plain-digits : (k n : ℕ) → Plain (digits k n)
+plain-digits k n = plain-join (plain-places k n) (more _ (printed _ (omega arith) (omega arith)) none)
+
 pub plain-decimal : (n : ℕ) → Plain (decimal n)
 unfolding decimal
-plain-decimal n = plain-join (plain-places 12 n) (more _ (printed _ (omega arith) (omega arith)) none)
+plain-decimal n = plain-digits 12 n
 
 pub plain-lister : (n : ℕ) → Plain (words.decimal n)
 unfolding words.decimal
-plain-lister n =
-    plain-join (plain-place 10000 n)
-    (plain-join (plain-place 1000 n)
-    (plain-join (plain-place 100 n) (plain-join (plain-place 10 n) (more _ (printed _ (omega arith) (omega arith)) none))))
+plain-lister n = plain-digits 4 n
+
+pub plain-long : (n : ℕ) → Plain (words.longDecimal n)
+unfolding words.longDecimal
+plain-long n = plain-digits 9 n
 
 hex-printed : (d : ℕ) → d < 16 → Good (hexDigit d)
 unfolding hexDigit

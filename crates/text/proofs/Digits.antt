@@ -7,8 +7,7 @@ use Prim.Native.Nat.{ℕ, zero, suc, _+_, _-_, _*_, _/_, _%_, _^_, _<_, _≤_}
 use native.Mathlib.Nat.{pow-suc, one-le-pow}
 use native.Mathlib.Omega.{arith}
 use borrow.Author.Tests.{lt-leb, le-leb}
-use Rattle.file_listing.specs.Words.{place}
-use Rattle.text.specs.Words.{places, decimal}
+use Rattle.file_listing.specs.Words.{place, places}
 use Rattle.text.specs.Over.{Wrote}
 use Rattle.text.proofs.Writing.{Left, nothing, step}
 

@@ -1,20 +1,15 @@
 -- Text as bytes, as the lister has it, with numbers of up to thirteen digits and with names whose bytes may be any.
-use Prim.Native.Nat.{ℕ, zero, suc, _+_, _/_, _%_, _^_}
+use Prim.Native.Nat.{ℕ, _+_, _/_, _%_}
 use Prim.Native.String.{String}
 use mathlib.Core.Bool.{Bool, not, _&&_}
 use mathlib.Core.List.{List, [], _∷_, _++_}
 use lib.Dec.{ltb, leb, eqb}
 use Rattle.base.specs.Choice.{if_then_else_}
-use Rattle.file_listing.specs.Words.{ascii, place}
-
--- the digits of the powers of ten from 10 ^ k down to 10, each where the number reaches it
-unfoldable pub places : ℕ → ℕ → List ℕ
-places zero n = []
-places (suc k) n = place (10 ^ suc k) n ++ places k n
+use Rattle.file_listing.specs.Words.{ascii, digits}
 
 -- a number up to 9,999,999,999,999, without leading zeros
 unfoldable pub decimal : ℕ → List ℕ
-decimal n = places 12 n ++ ((48 + n % 10) ∷ [])
+decimal n = digits 12 n
 
 -- a word and a number
 abbrev pub field : String → ℕ → List ℕ

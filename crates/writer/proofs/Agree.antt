@@ -1,7 +1,7 @@
 -- Sections written and read agree.
 --   reads-back    a written section is read as its label, its number, the last number and its part of the body
 --   writes-back   a sound section whose reserved bits are 1 is laid out as its own fields are
-use mathlib.Core.Path.{_≡_, ap, _∙_}
+use mathlib.Core.Path.{_≡_, sym, ap, _∙_}
 use mathlib.Core.List.{List, _∷_}
 use mathlib.Core.Logic.{inl, inr, ⊎-elim}
 use Prim.Native.Nat.{ℕ, _+_, _-_, _*_, _/_, _%_, _≤_}
@@ -9,23 +9,27 @@ use native.Mathlib.Omega.{arith}
 use lib.ListN.{length, drop, length-drop}
 use lib.Seq.{drop-cons}
 use Rattle.base.specs.Bytes.{byte}
-use Rattle.section.specs.Section.{readOf}
+use Rattle.key.specs.Key.{nrtIt}
+use Rattle.section.specs.Section.{keyIn, readOf}
 use Rattle.section.specs.declared.Reading.the-variants.{Sound}
 use Rattle.section.proofs.Laws.{sound-facts}
 use Rattle.section.proofs.ExactlyWhen.{sound}
+use Rattle.key.proofs.Keys.{key-other}
+use Rattle.section.proofs.Keys.{key-id, key-further}
 use Rattle.writer.specs.Writer.{full, longestBody, lastOf, bodyAt, sectionOf, written}
-pub use Rattle.writer.specs.Theorems.{found}
+pub use Rattle.writer.specs.Theorems.{labelKey, found}
 use Rattle.writer.specs.Theorems.{Reads-Back, Writes-Back}
 use Rattle.writer.specs.declared.Label.{Label}
 use Rattle.writer.proofs.Laws.{last-le, length-body, ends-within, starts-within, length-section}
 
-pub section-reads : (label : Label) (k last : ℕ) (bytes : List ℕ) → label .version ≤ 31 → k ≤ last → last ≤ 15 → length bytes ≤ full →
+pub section-reads : (label : Label) (k last : ℕ) (bytes : List ℕ) → ¬ (label .table ≡ nrtIt) → label .version ≤ 31 → k ≤ last → last ≤ 15 → length bytes ≤ full →
     readOf (sectionOf label k last bytes) ≡ Sound (found label k last bytes)
 unfolding sectionOf
-section-reads label k last bytes v h l b =
+section-reads label k last bytes other v h l b =
     let s = sectionOf label k last bytes in
     let size : length s ≡ 8 + length bytes = length-section label k last bytes in
     let extension : label .extension / 256 * 256 + label .extension % 256 ≡ label .extension = omega arith in
+    let key : keyIn s ≡ labelKey label = key-other (label .table) _ _ _ other ∙ ap (λ n. record { table = label .table; extension = n; service = 0; start = 0 }) extension in
     let version : (192 + 2 * label .version + 1) / 2 % 32 ≡ label .version = omega arith in
     let high : (64 + 48 + (5 + length bytes) / 256) / 64 ≡ 1 = omega arith in
     let odd : (64 + 48 + (5 + length bytes) / 256) / 64 % 2 ≡ 1 = rw high in
@@ -38,11 +42,11 @@ section-reads label k last bytes v h l b =
           λ x. ⊎-elim (λ e. omega arith) (λ e. omega arith) x,
           (
             λ x. ⊎-elim (λ e. omega arith) (λ e. omega arith) x,
-            (λ x. omega arith, (λ x. omega arith, (λ x. omega arith, (λ x. omega arith, (λ x. omega arith, tt))))),
+            (λ x. omega arith, (λ x. omega arith, (λ x. omega arith, (λ x. omega arith, (λ x. omega arith, (λ x. other (x .0), tt)))))),
           ),
         ),
       ),
-      rw (extension, version, rest),
+      rw (key, version, rest),
     )
 
 module _ (label : Label) (body : List ℕ) (k : ℕ) (fits : length body ≤ longestBody) (five : label .version ≤ 31) (known : k ≤ lastOf (length body)) where
@@ -52,12 +56,12 @@ module _ (label : Label) (body : List ℕ) (k : ℕ) (fits : length body ≤ lon
       let e = length-body body k known in
       omega arith
 
-  read-back : readOf (written label body k) ≡ Sound (found label k (lastOf (length body)) (bodyAt body k))
+  read-back : ¬ (label .table ≡ nrtIt) → readOf (written label body k) ≡ Sound (found label k (lastOf (length body)) (bodyAt body k))
   unfolding written
-  read-back = section-reads label k (lastOf (length body)) (bodyAt body k) five known (last-le (length body) fits) length-carried
+  read-back other = section-reads label k (lastOf (length body)) (bodyAt body k) other five known (last-le (length body) fits) length-carried
 
 pub reads-back : (label : Label) (body : List ℕ) (k : ℕ) → Reads-Back label body k
-reads-back label body k fits five known = read-back label body k fits five known
+reads-back label body k other fits five known = read-back label body k fits five known other
 
 -- a list of eight bytes and more begins with them
 opened : (s : List ℕ) → 8 ≤ length s →
@@ -87,4 +91,4 @@ writes-back s h o e r =
     let c3 : (byte s 3 * 256 + byte s 4) / 256 ≡ byte s 3 = omega arith in
     let c4 : (byte s 3 * 256 + byte s 4) % 256 ≡ byte s 4 = omega arith in
     let c5 : 192 + 2 * (byte s 5 / 2 % 32) + 1 ≡ byte s 5 = omega arith in
-    opened s least ∙ rw (f .header, c1, c2, c3, c4, c5)
+    opened s least ∙ rw (f .header, key-id s, key-further s, c1, c2, c3, c4, c5)

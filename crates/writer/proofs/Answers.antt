@@ -17,18 +17,18 @@ use Rattle.writer.specs.declared.Counted.{Counted}
 use Rattle.writer.specs.declared.Label.{Label}
 use Rattle.writer.specs.declared.Written.{Written}
 
-module _ (n : ℕ) where
-  pub count-comes-back : Count-Comes-Back n
+module _ (table n : ℕ) where
+  pub count-comes-back : Count-Comes-Back table n
   unfolding countLent countOf
   count-comes-back =
-      among Counted.Refused (λ c. countedIn (countedCode c) ≡ c) (uncounted n) (Counted.Sections (lastOf n + 1)) (refl, tt)
+      among Counted.Refused (λ c. countedIn (countedCode c) ≡ c) (uncounted table n) (Counted.Sections (lastOf n + 1)) (refl, (refl, tt))
       (rw (eq-eqb ((lastOf n + 1) * 2 ^ 8 % 2 ^ 8) 0 (omega arith)) (ap Counted.Sections (omega arith)))
 
-  pub count-accepted : Count-Accepted n
+  pub count-accepted : Count-Accepted table n
   unfolding countLent countOf
   count-accepted = (
-    among Counted.Refused (λ c. refusalIn (countedCode c) ≡ 0 → c ≡ Counted.Sections (lastOf n + 1)) (uncounted n) (Counted.Sections (lastOf n + 1))
-        (λ z. absurd (omega arith), tt)
+    among Counted.Refused (λ c. refusalIn (countedCode c) ≡ 0 → c ≡ Counted.Sections (lastOf n + 1)) (uncounted table n) (Counted.Sections (lastOf n + 1))
+        (λ z. absurd (omega arith), (λ z. absurd (omega arith), tt))
         (λ _. refl),
     λ e. rw e (omega arith),
   )
@@ -47,7 +47,7 @@ module _ (label : Label) (body : List ℕ) (k : ℕ) (old : List ℕ) where
       let short = written-short in
       among (refuse old) (λ (w : Write). writtenIn (writtenCode (w .said)) ≡ w .said) (unwritten label body k old)
       (placed (written label body k) old)
-      (refl, (refl, (refl, (refl, tt))))
+      (refl, (refl, (refl, (refl, (refl, tt)))))
       (size-back Written.Bytes Written.Refused (length (written label body k)) (omega arith))
 
   pub section-fills : Section-Fills label body k old
@@ -57,9 +57,9 @@ module _ (label : Label) (body : List ℕ) (k : ℕ) (old : List ℕ) where
       rw (through writeOut (refuse old) (unwritten label body k old) (placed (written label body k) old))
       (fills (written label body k) old (unwritten label body k old) (search arith) (omega arith))
 
-pub count-told : (n : ℕ) (r : Counted) (code : ℕ) → r ≡ countOf n → code ≡ countedCode r → code ≡ countLent n
+pub count-told : (table n : ℕ) (r : Counted) (code : ℕ) → r ≡ countOf table n → code ≡ countedCode r → code ≡ countLent table n
 unfolding countLent
-count-told n r code e q = q ∙ ap countedCode e
+count-told table n r code e q = q ∙ ap countedCode e
 
 pub write-told : (label : Label) (body : List ℕ) (k : ℕ) (o o' : List ℕ) (r : Written) (code : ℕ)
     → write r o' ≡ writeOf label body k o → code ≡ writtenCode r → out code o' ≡ sectionLent label body k o

@@ -1,36 +1,32 @@
--- "Given exactly when": request 1's numbers 40, 41, 42 and 15, in their order, and what is left where none of them is so
+-- "Given exactly when": the numbers 59, 40, 41, 42 and 15, in their order, and what is left where none of them is so
 -- (`specs/Theorems.antt` has the words).
---   count-40, count-answered                       the count of sections
+--   count-exactly, count-answered                  the count of sections
 --   write-exactly, write-none, write-answered      a section
 use mathlib.Core.Path.{refl}
-use mathlib.Core.List.{List, [], _∷_}
-use mathlib.Core.Logic.{Iff·trans, true-and}
+use mathlib.Core.List.{List}
 use Prim.Native.Nat.{ℕ, _+_}
 use native.Mathlib.Omega.{arith}
-use Rattle.base.specs.Tables.{_says_, said, Agree}
+use Rattle.base.specs.Tables.{said, Agree}
 use Rattle.base.proofs.Tables.{words, given, number-first, silent}
 use Rattle.answers.proofs.Fills.{zero-exactly}
 use Rattle.writer.specs.Writer.{lastOf, written, uncounted, countOf, Write, unwritten, refuse, placed, writeOf}
 use Rattle.writer.specs.Answer.{countedCode, writtenCode}
-use Rattle.writer.specs.Theorems.{TooLong, Count-40, Count-Answered, writeTable, Write-Exactly, Write-None, Write-Answered}
+use Rattle.writer.specs.Theorems.{countTable, Count-Exactly, Count-Answered, writeTable, Write-Exactly, Write-None, Write-Answered}
 use Rattle.writer.specs.declared.Counted.{Counted}
 use Rattle.writer.specs.declared.Label.{Label}
 
-module _ (n : ℕ) where
-  counted : Agree (uncounted n) (40 says TooLong n ∷ [])
+module _ (table size : ℕ) where
+  counted : Agree (uncounted table size) (countTable table size)
   counted = search words
 
-  pub count-40 : Count-40 n
+  pub count-exactly : Count-Exactly table size
   unfolding countOf
-  count-40 =
-      Iff·trans
-      (given Counted.Refused countedCode (λ n. refl) (uncounted n) (Counted.Sections (lastOf n + 1)) (40 says TooLong n ∷ []) counted refl 40 (λ e. omega arith))
-      true-and
+  count-exactly n p q =
+      given Counted.Refused countedCode (λ n. refl) (uncounted table size) (Counted.Sections (lastOf size + 1)) (countTable table size) counted refl n (λ e. omega arith)
 
-  pub count-answered : Count-Answered n
+  pub count-answered : Count-Answered table size
   unfolding countOf
-  count-answered short =
-      silent Counted.Refused (uncounted n) (Counted.Sections (lastOf n + 1)) (40 says TooLong n ∷ []) counted (short, tt)
+  count-answered w = silent Counted.Refused (uncounted table size) (Counted.Sections (lastOf size + 1)) (countTable table size) counted w
 
 -- the number of what a call leaves
 abbrev code : Write → ℕ

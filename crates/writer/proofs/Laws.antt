@@ -15,8 +15,9 @@ use lib.Dec.{ltb}
 use lib.ListN.{length, take, drop, length-append, length-drop, drop-of-length-le, take-append-drop}
 use lib.Seq.{take-length, drop-length, take-at, drop-at, length-take-le}
 use borrow.Rule.Slice.PartMut.{midOf, putMid}
-use borrow.Author.Tests.{ltb-true, ltb-false, le-ltb, lt-ltb}
+use borrow.Author.Tests.{ltb-true, ltb-false, le-ltb, lt-ltb, ne-eqb}
 use Rattle.base.proofs.Cases.{by}
+use Rattle.key.specs.Key.{nrtIt}
 use Rattle.writer.specs.Writer.{full, longestBody, lastOf, endOf, bodyAt, sectionOf, headerOf, written, write, writeOf}
 use Rattle.writer.specs.declared.Written.{Written}
 use Rattle.writer.specs.declared.Label.{Label}
@@ -80,12 +81,12 @@ pub length-section : (label : Label) (k last : ℕ) (body : List ℕ) → length
 unfolding sectionOf
 length-section label k last body = length-append (headerOf label k last (length body)) body
 
-module _ (label : Label) (body out : List ℕ) (k n : ℕ) (fits : length body ≤ longestBody) (five : label .version ≤ 31) (known : k ≤ lastOf (length body)) (size : length (written label body k) ≡ n) where
+module _ (label : Label) (body out : List ℕ) (k n : ℕ) (other : ¬ (label .table ≡ nrtIt)) (fits : length body ≤ longestBody) (five : label .version ≤ 31) (known : k ≤ lastOf (length body)) (size : length (written label body k) ≡ n) where
   pub write-15 : length out < n → write (Written.Refused 15) out ≡ writeOf label body k out
   unfolding writeOf
-  write-15 h = rw (le-ltb longestBody (length body) fits, le-ltb 31 (label .version) five, le-ltb (lastOf (length body)) k known, size, lt-ltb (length out) n h)
+  write-15 h = rw (ne-eqb (label .table) nrtIt other, le-ltb longestBody (length body) fits, le-ltb 31 (label .version) five, le-ltb (lastOf (length body)) k known, size, lt-ltb (length out) n h)
 
   pub write-done : n ≤ length out → (y : List ℕ) → y ≡ written label body k →
       write (Written.Bytes n) (y ++ drop n out) ≡ writeOf label body k out
   unfolding writeOf
-  write-done h y e = rw (le-ltb longestBody (length body) fits, le-ltb 31 (label .version) five, le-ltb (lastOf (length body)) k known, size, le-ltb (length out) n h, e)
+  write-done h y e = rw (ne-eqb (label .table) nrtIt other, le-ltb longestBody (length body) fits, le-ltb 31 (label .version) five, le-ltb (lastOf (length body)) k known, size, le-ltb (length out) n h, e)

@@ -6,8 +6,8 @@ use Prim.Native.Nat.{ℕ}
 use Rattle.writer.specs.Theorems.{Count-Unique, Write-Unique}
 use Rattle.writer.specs.declared.Label.{Label}
 
-pub count-unique : (n : ℕ) → Count-Unique n
-count-unique n x y p q = p ∙ sym q
+pub count-unique : (table n : ℕ) → Count-Unique table n
+count-unique table n x y p q = p ∙ sym q
 
 pub write-unique : (label : Label) (body : List ℕ) (k : ℕ) (old : List ℕ) → Write-Unique label body k old
 write-unique label body k old x y out out′ p q = p ∙ sym q

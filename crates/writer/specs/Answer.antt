@@ -32,9 +32,9 @@ writtenIn = sizeOr Written.Bytes Written.Refused
 abbrev pub label : ℕ → ℕ → ℕ → Label
 label table extension version = record { table = table; extension = extension; version = version }
 
--- the answer to how many sections a body of a length makes
-unfoldable pub countLent : ℕ → ℕ
-countLent length = countedCode (countOf length)
+-- the answer to how many sections a body of a length makes in a table of that id
+unfoldable pub countLent : ℕ → ℕ → ℕ
+countLent table length = countedCode (countOf table length)
 
 -- what asking for section k of the table that carries a body leaves
 abbrev pub writeOut : Write → Out
@@ -45,11 +45,11 @@ sectionLent label body k old = writeOut (writeOf label body k old)
 
 -- Of these answers:
 -- the count comes back, and its low 8 bits are 0 exactly when the body is counted
-abbrev pub Count-Comes-Back : ℕ → Type 0
-Count-Comes-Back n = countedIn (countLent n) ≡ countOf n
+abbrev pub Count-Comes-Back : ℕ → ℕ → Type 0
+Count-Comes-Back table n = countedIn (countLent table n) ≡ countOf table n
 
-abbrev pub Count-Accepted : ℕ → Type 0
-Count-Accepted n = (refusalIn (countLent n) ≡ 0) ↔ (countOf n ≡ Counted.Sections (lastOf n + 1))
+abbrev pub Count-Accepted : ℕ → ℕ → Type 0
+Count-Accepted table n = (refusalIn (countLent table n) ≡ 0) ↔ (countOf table n ≡ Counted.Sections (lastOf n + 1))
 
 -- a section's size, or its refusal, comes back
 abbrev pub Section-Comes-Back : Label → List ℕ → ℕ → List ℕ → Type 0

@@ -8,6 +8,8 @@ use Rattle.base.specs.Bytes.{byte}
 use Rattle.base.specs.Octets.{Octets}
 use Rattle.base.specs.Tables.{Rule, _says_, None, above, said}
 use Rattle.answers.specs.Answers.{refusalIn}
+use Rattle.key.specs.Key.{nrtIt}
+use Rattle.key.specs.declared.Key.{Key}
 use Rattle.section.specs.Section.{readOf}
 use Rattle.section.specs.declared.Header.{Header}
 use Rattle.section.specs.declared.Reading.the-variants.{Sound}
@@ -17,20 +19,31 @@ use Rattle.writer.specs.declared.Counted.{Counted}
 use Rattle.writer.specs.declared.Label.{Label}
 use Rattle.writer.specs.declared.Written.{Written}
 
--- a refusal of request 1 is given exactly when its words are so and those of none before it
-module _ (n : ℕ) where
-  -- body too long
-  abbrev pub TooLong : Type 0
-  TooLong = longestBody < n
+-- asked for the NRT-IT's table id
+abbrev pub AskedForNrtIt : ℕ → Type 0
+AskedForNrtIt table = table ≡ nrtIt
 
-  abbrev pub Count-40 : Type 0
-  Count-40 = (countedCode (countOf n) ≡ 40) ↔ TooLong
+-- body too long
+abbrev pub TooLong : ℕ → Type 0
+TooLong n = longestBody < n
 
+module _ (table size : ℕ) where
+  -- 59 and 40, in their order
+  abbrev pub countTable : List Rule
+  countTable = 59 says AskedForNrtIt table ∷ 40 says TooLong size ∷ []
+
+  -- a refusal is given exactly when its words are so and those of none before it
+  abbrev pub Count-Exactly : Type 0
+  Count-Exactly =
+      (n : ℕ) → 0 < n → n < 2 ^ 8
+      → (countedCode (countOf table size) ≡ n) ↔ (None (above n countTable) × said n countTable)
+
+  -- and where none is so the sections are counted
   abbrev pub Count-Answered : Type 0
-  Count-Answered = ¬ TooLong → countOf n ≡ Counted.Sections (lastOf n + 1)
+  Count-Answered = None countTable → countOf table size ≡ Counted.Sections (lastOf size + 1)
 
   abbrev pub Count-Unique : Type 0
-  Count-Unique = (x y : Counted) → x ≡ countOf n → y ≡ countOf n → x ≡ y
+  Count-Unique = (x y : Counted) → x ≡ countOf table size → y ≡ countOf table size → x ≡ y
 
 module _ (label : Label) (body : List ℕ) (k : ℕ) (out : List ℕ) where
   -- version above 31
@@ -45,9 +58,15 @@ module _ (label : Label) (body : List ℕ) (k : ℕ) (out : List ℕ) where
   abbrev pub TooSmall : Type 0
   TooSmall = length out < length (written label body k)
 
-  -- 40, 41, 42 and 15, in their order
+  -- 59, 40, 41, 42 and 15, in their order
   abbrev pub writeTable : List Rule
-  writeTable = 40 says TooLong (length body) ∷ 41 says VersionAbove31 ∷ 42 says AboveLast ∷ 15 says TooSmall ∷ []
+  writeTable =
+      59 says AskedForNrtIt (label .table)
+      ∷ 40 says TooLong (length body)
+      ∷ 41 says VersionAbove31
+      ∷ 42 says AboveLast
+      ∷ 15 says TooSmall
+      ∷ []
 
   abbrev pub Write-Exactly : Type 0
   Write-Exactly =
@@ -68,12 +87,15 @@ module _ (label : Label) (body : List ℕ) (k : ℕ) (out : List ℕ) where
       (x y : Written) (out′ out″ : List ℕ)
       → write x out′ ≡ writeOf label body k out → write y out″ ≡ writeOf label body k out → write x out′ ≡ write y out″
 
+-- the key of a table with that label, of an id other than the NRT-IT's
+abbrev pub labelKey : Label → Key
+labelKey label = record { table = label .table; extension = label .extension; service = 0; start = 0 }
+
 -- what a reader finds in a section that carries these bytes
 abbrev pub found : Label → ℕ → ℕ → List ℕ → Header
 found label k last bytes =
     record {
-      table = label .table;
-      extension = label .extension;
+      key = labelKey label;
       version = label .version;
       number = k;
       last = last;
@@ -84,7 +106,7 @@ found label k last bytes =
 -- a written section is read as its label, its number, the last number and its part of the body
 abbrev pub Reads-Back : Label → List ℕ → ℕ → Type 0
 Reads-Back label body k =
-    length body ≤ longestBody → label .version ≤ 31 → k ≤ lastOf (length body)
+    ¬ AskedForNrtIt (label .table) → length body ≤ longestBody → label .version ≤ 31 → k ≤ lastOf (length body)
     → readOf (written label body k) ≡ Sound (found label k (lastOf (length body)) (bodyAt body k))
 
 -- the reserved bits of a section are 1
@@ -93,9 +115,9 @@ ReservedOnes s = (byte s 1 / 16 % 4 ≡ 3) × (byte s 5 / 64 ≡ 3)
 
 -- the label that a section has
 abbrev pub labelIn : Header → Label
-labelIn h = record { table = h .table; extension = h .extension; version = h .version }
+labelIn h = record { table = h .key .table; extension = h .key .extension; version = h .version }
 
--- a sound section whose reserved bits are 1 is laid out as its own fields are
+-- a sound section whose reserved bits are 1 is laid out as its own fields are, also that of an NRT-IT
 abbrev pub Writes-Back : List ℕ → Type 0
 Writes-Back s =
     (h : Header) → Octets s → readOf s ≡ Sound h → ReservedOnes s → s ≡ sectionOf (labelIn h) (h .number) (h .last) (drop 8 s)

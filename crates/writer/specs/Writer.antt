@@ -1,10 +1,12 @@
--- Document 02, request 1: the sections of a body, and the refusals 40, 41, 42 and 15.
+-- Document 02, request 1: the sections of a body, and the refusals 59, 40, 41, 42 and 15. 59 is request 4's: an NRT-IT is
+-- not written, since a label does not say all of its key.
 use Prim.Native.Nat.{ℕ, _+_, _-_, _*_, _/_, _%_}
 use mathlib.Core.List.{List, [], _∷_, _++_}
-use lib.Dec.{ltb}
+use lib.Dec.{ltb, eqb}
 use lib.ListN.{length, drop}
 use Rattle.base.specs.Choice.{Row, _if_, first, if_then_else_}
 use Rattle.base.specs.Bytes.{part}
+use Rattle.key.specs.Key.{nrtIt}
 use Rattle.section.specs.Section.{headerSize, largestSection, mostSections}
 use Rattle.writer.specs.declared.Counted.{Counted}
 use Rattle.writer.specs.declared.Label.{Label}
@@ -52,13 +54,13 @@ sectionOf label k last bytes = headerOf label k last (length bytes) ++ bytes
 unfoldable pub written : Label → List ℕ → ℕ → List ℕ
 written label body k = sectionOf label k (lastOf (length body)) (bodyAt body k)
 
--- 40: body too long
-abbrev pub uncounted : ℕ → List Row
-uncounted n = 40 if ltb longestBody n ∷ []
+-- order: 59 asked for the NRT-IT's table id, then 40 body too long
+abbrev pub uncounted : ℕ → ℕ → List Row
+uncounted table n = 59 if eqb table nrtIt ∷ 40 if ltb longestBody n ∷ []
 
--- how many sections a body of n bytes makes: an answer of its own, so that a bench can loop
-unfoldable pub countOf : ℕ → Counted
-countOf n = first Counted.Refused (uncounted n) (Counted.Sections (lastOf n + 1))
+-- how many sections a body of n bytes makes in a table of that id: an answer of its own, so that a bench can loop
+unfoldable pub countOf : ℕ → ℕ → Counted
+countOf table n = first Counted.Refused (uncounted table n) (Counted.Sections (lastOf n + 1))
 
 -- what a call leaves: the answer and the output
 pub record Write : Type 0 where
@@ -68,10 +70,11 @@ pub record Write : Type 0 where
 abbrev pub write : Written → List ℕ → Write
 write said out = record { said = said; out = out }
 
--- order: 40, 41 version above 31, 42 k above the last, then 15
+-- order: 59, 40, 41 version above 31, 42 k above the last, then 15
 abbrev pub unwritten : Label → List ℕ → ℕ → List ℕ → List Row
 unwritten label body k out =
-    40 if ltb longestBody (length body)
+    59 if eqb (label .table) nrtIt
+    ∷ 40 if ltb longestBody (length body)
     ∷ 41 if ltb 31 (label .version)
     ∷ 42 if ltb (lastOf (length body)) k
     ∷ 15 if ltb (length out) (length (written label body k))

@@ -1,5 +1,5 @@
 // The bench's section writer (document 02, request 1): as few sections as will do for a body, each asked for by its
-// number and written into a lent buffer.
+// number and written into a lent buffer. It writes no NRT-IT (request 4), since a label does not say all of its key.
 ghost use mathlib.Core.Path.{_≡_};
 ghost use Prim.Native.Nat.{_+_, _≤_};
 ghost use lib.ListN.{length};
@@ -26,6 +26,8 @@ pub struct Label {
     pub extension: u16,
     pub version: u8,
 }
+
+pub const ASKED_FOR_NRT_IT: u8 = 59;
 
 pub const BODY_TOO_LONG: u8 = 40;
 
@@ -65,10 +67,13 @@ fn end_of(length: usize, start: usize) -> usize
     }
 }
 
-// How many sections a body of so many bytes makes, or 40.
-pub fn count_sections(length: usize) -> Counted
-    ensures { λ r. ⌜ r ≡ countOf length ⌝ }
+// How many sections a body of so many bytes makes in a table of that id, or 59 or 40.
+pub fn count_sections(table: u8, length: usize) -> Counted
+    ensures { λ r. ⌜ r ≡ countOf table length ⌝ }
 {
+    if table == key::NRT_IT {
+        return Counted::Refused(ASKED_FOR_NRT_IT);
+    }
     if MOST < length {
         return Counted::Refused(BODY_TOO_LONG);
     }
@@ -106,6 +111,9 @@ fn fill(label: Label, k: u8, last: u8, body: &[u8], out: &mut [u8])
 pub fn write_section(label: Label, body: &[u8], k: u8, out: &mut [u8]) -> Written
     ensures { λ r. ⌜ write r (now (out .exit)) ≡ writeOf label (now (body .entry)) k (now (out .entry)) ⌝ }
 {
+    if label.table == key::NRT_IT {
+        return Written::Refused(ASKED_FOR_NRT_IT);
+    }
     if MOST < body.len() {
         return Written::Refused(BODY_TOO_LONG);
     }
@@ -128,12 +136,12 @@ pub fn write_section(label: Label, body: &[u8], k: u8, out: &mut [u8]) -> Writte
     Written::Bytes(size)
 }
 
-// How many sections a body of so many bytes makes, in one number as a host gets it: the refusal alone, or 0 in the low 8 bits
-// and the count above.
-pub fn count_code(length: usize) -> u16
-    ensures { λ r. ⌜ r ≡ countLent length ⌝ }
+// How many sections a body of so many bytes makes in a table of that id, in one number as a host gets it: the refusal alone, or
+// 0 in the low 8 bits and the count above.
+pub fn count_code(table: u8, length: usize) -> u16
+    ensures { λ r. ⌜ r ≡ countLent table length ⌝ }
 {
-    let counted = count_sections(length);
+    let counted = count_sections(table, length);
     match counted {
         Counted::Sections(n) => n as u16 * COUNT,
         Counted::Refused(n) => n as u16,

@@ -1,4 +1,4 @@
--- "Given exactly when": 40, 41 and 15, in their order, and what is left where none of them is so (`specs/Theorems.antt` has the words).
+-- "Given exactly when": 59, 40, 41 and 15, in their order, and what is left where none of them is so (`specs/Theorems.antt` has the words).
 --   feed-exactly, feed-none, feed-answered
 --   fed-largest         the file has at most 16,418 bytes
 use mathlib.Core.Path.{refl}

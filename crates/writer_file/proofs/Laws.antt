@@ -14,6 +14,7 @@ use borrow.Rule.Slice.PartMut.{midOf, putMid}
 use Rattle.file_number.specs.Number.{spelt, Writing, writing, writtenOf}
 use Rattle.file_number.specs.declared.Written.{Written}
 use Rattle.file.specs.Layout.{listed}
+use Rattle.key.specs.Key.{nrtIt}
 use Rattle.writer.specs.Writer.{longestBody, lastOf, written, Write, write, placed, writeOf}
 use Rattle.writer.specs.declared.Label.{Label}
 use Rattle.writer.specs.declared.Written as wrote
@@ -59,12 +60,12 @@ module _ (n : ℕ) (rest back : List ℕ) (r : Written) (room : length (spelt n)
   spelt-at = ap (λ (w : Writing). w .out) put
 
 -- a section that fits
-module _ (label : Label) (body : List ℕ) (k : ℕ) (fits : length body ≤ longestBody) (five : label .version ≤ 31)
+module _ (label : Label) (body : List ℕ) (k : ℕ) (other : ¬ (label .table ≡ nrtIt)) (fits : length body ≤ longestBody) (five : label .version ≤ 31)
     (known : k ≤ lastOf (length body)) (rest back : List ℕ) (r : wrote.Written) (room : length (written label body k) ≤ length rest)
     (e : write r back ≡ writeOf label body k rest) where
   put-section : write r back ≡ placed (written label body k) rest
   put-section =
-      e ∙ sym (write-done label body rest k (length (written label body k)) fits five known refl room (written label body k) refl)
+      e ∙ sym (write-done label body rest k (length (written label body k)) other fits five known refl room (written label body k) refl)
 
   pub section-count : r ≡ wrote.Written.Bytes (length (written label body k))
   section-count = ap (λ (w : Write). w .said) put-section

@@ -11,6 +11,7 @@ use lib.ListN.{length, drop, length-append, length-drop}
 use borrow.Rule.Slice.PartMut.{midOf, putMid}
 use Rattle.file_number.specs.Number.{spelt, writing, writtenOf}
 use Rattle.file_number.specs.declared.Written.{Written}
+use Rattle.key.specs.Key.{nrtIt}
 use Rattle.writer.specs.Writer.{longestBody, lastOf, written, write, writeOf}
 use Rattle.writer.specs.declared.Label.{Label}
 use Rattle.writer.specs.declared.Written as wrote
@@ -19,6 +20,7 @@ use Rattle.writer_file.proofs.Laws.{lent-room, front-more, spelt-count,
 use Rattle.writer_file.proofs.Sizes.{section-size}
 
 pub record Room (label : Label) (body : List ℕ) (k : ℕ) (rest : List ℕ) : Type 0 where
+  pub other : ¬ (label .table ≡ nrtIt)
   pub fits : length body ≤ longestBody
   pub five : label .version ≤ 31
   pub known : k ≤ lastOf (length body)
@@ -69,7 +71,7 @@ module _ {label : Label} {body : List ℕ} {k : ℕ} {rest : List ℕ} (o : Room
       pub counts : {count : ℕ} → s ≡ wrote.Written.Bytes count → start + count ≡ entrySize n
       counts {count} c =
           let x : wrote.Written.Bytes (length (written label body k)) ≡ wrote.Written.Bytes count =
-          sym (section-count label body k (o .fits) (o .five) (o .known) _ part s part-room w) ∙ c in
+          sym (section-count label body k (o .other) (o .fits) (o .five) (o .known) _ part s part-room w) ∙ c in
           let y : length (written label body k) ≡ count = cc in
           let z : length (written label body k) ≡ n = sized in
           let a : start ≡ length (spelt n) = starts q in
@@ -78,7 +80,7 @@ module _ {label : Label} {body : List ℕ} {k : ℕ} {rest : List ℕ} (o : Room
       pub not-unwritten : {no : ℕ} → s ≡ wrote.Written.Refused no → ⊥
       not-unwritten {no} c =
           let x : wrote.Written.Bytes (length (written label body k)) ≡ wrote.Written.Refused no =
-          sym (section-count label body k (o .fits) (o .five) (o .known) _ part s part-room w) ∙ c in
+          sym (section-count label body k (o .other) (o .fits) (o .five) (o .known) _ part s part-room w) ∙ c in
           let z : _≡_ {A = ℕ} 0 1 = cc in
           omega arith
 
@@ -86,5 +88,5 @@ module _ {label : Label} {body : List ℕ} {k : ℕ} {rest : List ℕ} (o : Room
       one-written =
           let m : length (spelt n ++ written label body k) ≡ entrySize n = length-append (spelt n) (written label body k) ∙ rw sized in
           front-more (spelt n) (written label body k) rest back part start (starts q) both spelt-front
-          (section-at label body k (o .fits) (o .five) (o .known) _ part s part-room w)
+          (section-at label body k (o .other) (o .fits) (o .five) (o .known) _ part s part-room w)
           ∙ ap (λ m. (spelt n ++ written label body k) ++ drop m rest) m

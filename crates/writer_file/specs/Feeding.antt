@@ -1,11 +1,12 @@
 -- The file of the table that carries a body, for the bench's program: the sections of document 02, request 1, in the layout of
--- document 01, "The shelf file". The refusals are the request's, without a k.
+-- document 01, "The shelf file". The refusals are the writer's, without a k: 59, 40, 41 and 15.
 use Prim.Native.Nat.{ℕ, zero, suc, _+_}
 use mathlib.Core.List.{List, [], _∷_, _++_}
-use lib.Dec.{ltb}
+use lib.Dec.{ltb, eqb}
 use lib.ListN.{length, drop}
 use Rattle.base.specs.Choice.{Row, _if_, first}
 use Rattle.file.specs.Layout.{fileOf}
+use Rattle.key.specs.Key.{nrtIt}
 use Rattle.writer.specs.Writer.{longestBody, lastOf, written}
 use Rattle.writer.specs.declared.Label.{Label}
 use Rattle.writer_file.specs.declared.Fed.{Fed}
@@ -31,10 +32,11 @@ pub record Feed : Type 0 where
 abbrev pub feed : Fed → List ℕ → Feed
 feed said out = record { said = said; out = out }
 
--- order: 40, 41, then 15
+-- order: 59, 40, 41, then 15
 abbrev pub unfed : Label → List ℕ → List ℕ → List Row
 unfed label body out =
-    40 if ltb longestBody (length body)
+    59 if eqb (label .table) nrtIt
+    ∷ 40 if ltb longestBody (length body)
     ∷ 41 if ltb 31 (label .version)
     ∷ 15 if ltb (length out) (length (feedFile label body))
     ∷ []

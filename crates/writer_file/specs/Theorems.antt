@@ -7,6 +7,7 @@ use lib.ListN.{length}
 use Rattle.base.specs.Tables.{Rule, _says_, None, above, said}
 use Rattle.answers.specs.Answers.{refusalIn}
 use Rattle.file.specs.Layout.{largestFile}
+use Rattle.key.specs.Key.{nrtIt}
 use Rattle.writer.specs.Writer.{longestBody}
 use Rattle.writer.specs.declared.Label.{Label}
 use Rattle.writer_file.specs.Feeding.{feedFile, feed, placed, feedOf}
@@ -19,10 +20,11 @@ module _ (label : Label) (body : List ℕ) where
   Fed-Largest = length body ≤ longestBody → length (feedFile label body) ≤ largestFile
 
   module _ (out : List ℕ) where
-    -- 40, 41 and 15, in their order
+    -- 59, 40, 41 and 15, in their order
     abbrev pub feedTable : List Rule
     feedTable =
-        40 says (longestBody < length body)
+        59 says (label .table ≡ nrtIt)
+        ∷ 40 says (longestBody < length body)
         ∷ 41 says (31 < label .version)
         ∷ 15 says (length out < length (feedFile label body))
         ∷ []

@@ -4,6 +4,7 @@ ghost use mathlib.Core.List.{_++_};
 ghost use Prim.Native.Nat.{_+_, _≤_};
 ghost use lib.ListN.{length, drop};
 ghost use Rattle.answers.specs.Answers.{out as outOf};
+ghost use Rattle.key.specs.Key.{nrtIt};
 ghost use Rattle.writer.specs.Writer.{longestBody, lastOf};
 ghost use Rattle.writer_file.specs.Feeding.{feedFile, feed, feedOf};
 ghost use Rattle.writer_file.specs.Answer.{fileLent};
@@ -48,7 +49,7 @@ fn entry_size(size: u16) -> usize
 
 // Section k with its length at the front of a buffer; how many bytes they are.
 fn write_one(label: Label, body: &[u8], k: u8, rest: &mut [u8]) -> usize
-    requires { ⌜ (length (now body) ≤ longestBody) × (label .version ≤ 31) × (k ≤ lastOf (length (now body))) ⌝ }
+    requires { ⌜ (¬ (label .table ≡ nrtIt)) × (length (now body) ≤ longestBody) × (label .version ≤ 31) × (k ≤ lastOf (length (now body))) ⌝ }
     requires { ⌜ entrySize (sizeAt (length (now body)) k) ≤ length (now rest) ⌝ }
     ensures { λ r. ⌜ r ≡ entrySize (sizeAt (length (now (body .entry))) k) ⌝ }
     ensures { λ _. ⌜ now (rest .exit) ≡ entryAt label (now (body .entry)) k ++ drop (entrySize (sizeAt (length (now (body .entry))) k)) (now (rest .entry)) ⌝ }
@@ -79,7 +80,7 @@ fn file_size(length: usize, last: usize) -> usize
 
 // The file at the front of an output that has room for it.
 fn write_file(label: Label, body: &[u8], count: u8, out: &mut [u8])
-    requires { ⌜ (length (now body) ≤ longestBody) × (label .version ≤ 31) × (count ≡ lastOf (length (now body)) + 1) ⌝ }
+    requires { ⌜ (¬ (label .table ≡ nrtIt)) × (length (now body) ≤ longestBody) × (label .version ≤ 31) × (count ≡ lastOf (length (now body)) + 1) ⌝ }
     requires { ⌜ fileSize (length (now body)) ≤ length (now out) ⌝ }
     ensures { λ _. ⌜ now (out .exit) ≡ feedFile label (now (body .entry)) ++ drop (fileSize (length (now (body .entry)))) (now (out .entry)) ⌝ }
 {
@@ -99,7 +100,7 @@ fn write_file(label: Label, body: &[u8], count: u8, out: &mut [u8])
 pub fn feed_file(label: Label, body: &[u8], out: &mut [u8]) -> Fed
     ensures { λ r. ⌜ feed r (now (out .exit)) ≡ feedOf label (now (body .entry)) (now (out .entry)) ⌝ }
 {
-    let counted = writer::count_sections(body.len());
+    let counted = writer::count_sections(label.table, body.len());
     match counted {
         Counted::Refused(n) => Fed::Refused(n),
         Counted::Sections(count) => {

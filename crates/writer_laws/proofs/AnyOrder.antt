@@ -16,7 +16,7 @@ use lib.ListN.{length, drop}
 use lib.Seq.{take-append-seam}
 use Rattle.base.proofs.Below.{every-all}
 use Rattle.base.proofs.Cases.{unlike}
-use Rattle.shelf.specs.declared.Key.{Key}
+use Rattle.key.specs.declared.Key.{Key}
 use Rattle.shelf_laws.specs.History.{Call, start, afterAll, logOf, copyAfter, Each}
 use Rattle.shelf_laws.specs.Reception.{OfferedIn, Undisturbed}
 use Rattle.shelf_laws.proofs.Kept.{Kept}
@@ -24,6 +24,7 @@ use Rattle.shelf_laws.proofs.Asked.{kept-copied, kept-whole}
 use Rattle.shelf_laws.proofs.Histories.{holds-all}
 use Rattle.shelf_laws.proofs.Reception.{heard, heardTable, Fed, fed-all, offered-heard}
 use Rattle.writer.specs.Writer.{longestBody, lastOf, bodyAt, written}
+use Rattle.key.specs.Key.{nrtIt}
 use Rattle.writer.specs.declared.Label.{Label}
 use Rattle.writer.proofs.Laws.{last-le}
 use Rattle.writer.proofs.Fewest.{firstBodies, bodies-join}
@@ -32,7 +33,7 @@ use Rattle.writer_laws.specs.Laws.{CompleteIn, HandedIn, JoinedIn, Compl
 use Rattle.writer_laws.proofs.Sections.{is-section, its-number, its-size, its-body}
 use Rattle.writer_laws.proofs.Undisturbed.{undisturbed}
 
-module _ (label : Label) (body : List ℕ) (five : label .version ≤ 31) (fits : length body ≤ longestBody) where
+module _ (label : Label) (body : List ℕ) (other : ¬ (label .table ≡ nrtIt)) (five : label .version ≤ 31) (fits : length body ≤ longestBody) where
   abbrev key : Key
   key = labelKey label
 
@@ -43,8 +44,8 @@ module _ (label : Label) (body : List ℕ) (five : label .version ≤ 31) (fits 
       (all : (k : ℕ) → k ≤ last → OfferedIn h (written label body k)) where
     heard-each : (k : ℕ) → k ≤ last → heard key (logOf h) k ≡ true
     heard-each k i =
-        subst (λ n. heard key (logOf h) n ≡ true) (its-number label body five fits k i)
-        (offered-heard key start [] h (written label body k) (is-section label body five fits k i) (all k i))
+        subst (λ n. heard key (logOf h) n ≡ true) (its-number label body other five fits k i)
+        (offered-heard key start [] h (written label body k) (is-section label body other five fits k i) (all k i))
 
     kept : (p : ℕ) × Kept (afterAll h) key p (heardTable key (label .version) last (written label body) (logOf h))
     kept = go (fed-all key (label .version) last (written label body) h calm)
@@ -67,7 +68,7 @@ module _ (label : Label) (body : List ℕ) (five : label .version ≤ 31) (fits 
     -- the body that is handed out with section k
     handed-body : (k : ℕ) → k ≤ last → (out : List ℕ) → 1024 ≤ length out → bodyOf (copyAfter h key k out) ≡ bodyAt body k
     handed-body k i out room =
-        let s : length (written label body k) ≤ 1024 = its-size label body five fits k i in
+        let s : length (written label body k) ≤ 1024 = its-size label body other five fits k i in
         ap bodyOf (handed k i out (omega arith))
         ∙ ap (drop 8) (take-append-seam (written label body k) (drop (length (written label body k)) out))
         ∙ its-body label body k
@@ -94,7 +95,7 @@ module _ (label : Label) (body : List ℕ) (five : label .version ≤ 31) (fits 
     h = offersOf label body ks
 
     calm : Each (Undisturbed key (label .version) last (written label body)) (logOf h)
-    calm = undisturbed label body five fits ks (order .known)
+    calm = undisturbed label body other five fits ks (order .known)
 
     each-offered : (k : ℕ) → k ≤ last → OfferedIn h (written label body k)
     each-offered k i = offered-in ks k (order .each k i)
@@ -109,13 +110,13 @@ pub joined-among : JoinedAmong
 joined-among = joined
 
 pub complete-table : CompleteTable
-complete-table label body five fits ks order =
-    complete-among label body five fits (offersOf label body ks) (calm label body five fits ks order) (each-offered label body five fits ks order)
+complete-table label body other five fits ks order =
+    complete-among label body other five fits (offersOf label body ks) (calm label body other five fits ks order) (each-offered label body other five fits ks order)
 
 pub hands-out : HandsOut
-hands-out label body five fits ks order =
-    handed-among label body five fits (offersOf label body ks) (calm label body five fits ks order) (each-offered label body five fits ks order)
+hands-out label body other five fits ks order =
+    handed-among label body other five fits (offersOf label body ks) (calm label body other five fits ks order) (each-offered label body other five fits ks order)
 
 pub bodies-back : BodiesBack
-bodies-back label body five fits ks order =
-    joined-among label body five fits (offersOf label body ks) (calm label body five fits ks order) (each-offered label body five fits ks order)
+bodies-back label body other five fits ks order =
+    joined-among label body other five fits (offersOf label body ks) (calm label body other five fits ks order) (each-offered label body other five fits ks order)

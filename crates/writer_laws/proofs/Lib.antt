@@ -2,6 +2,4 @@ pub mod Sections
 pub mod Undisturbed
 pub mod AnyOrder
 pub mod Example
-pub mod Among
 pub mod Files
-pub mod Longest

@@ -16,17 +16,18 @@ use Rattle.section.proofs.Laws.{sound-facts}
 use Rattle.shelf.specs.Record as Record
 use Rattle.shelf_laws.specs.Reception.{SectionOf}
 use Rattle.writer.specs.Writer.{full, longestBody, lastOf, bodyAt, sectionOf, written}
+use Rattle.key.specs.Key.{nrtIt}
 use Rattle.writer.specs.declared.Label.{Label}
 use Rattle.writer.proofs.Laws.{length-section}
 use Rattle.writer.proofs.Agree.{found, reads-back, length-carried}
 use Rattle.writer_laws.specs.Offers.{labelKey}
 
-module _ (label : Label) (body : List ℕ) (five : label .version ≤ 31) (fits : length body ≤ longestBody) (k : ℕ) (known : k ≤ lastOf (length body)) where
+module _ (label : Label) (body : List ℕ) (other : ¬ (label .table ≡ nrtIt)) (five : label .version ≤ 31) (fits : length body ≤ longestBody) (k : ℕ) (known : k ≤ lastOf (length body)) where
   abbrev header : Header
   header = found label k (lastOf (length body)) (bodyAt body k)
 
   reads : readOf (written label body k) ≡ Sound header
-  reads = reads-back label body k fits five known
+  reads = reads-back label body k other fits five known
 
   pub its-header : headerOf (written label body k) ≡ header
   its-header = sym (sound-facts (written label body k) header reads .header)

@@ -13,7 +13,7 @@ use Rattle.section.specs.Section.{readOf, headerOf, sectionNumber}
 use Rattle.section.specs.declared.Reading.the-variants.{Sound, Refused}
 use Rattle.berth.specs.Berth.{places}
 use Rattle.shelf.specs.Record.{fresh, placeOf, freeOf}
-use Rattle.shelf.specs.declared.Key.{Key}
+use Rattle.key.specs.declared.Key.{Key}
 use Rattle.shelf_offer.specs.Offer as Offer
 use Rattle.shelf_offer.specs.declared.Offered.{Offered}
 use Rattle.shelf_laws.specs.State.{State}
@@ -24,6 +24,7 @@ use Rattle.shelf_laws.proofs.Offering.{Refusal, Goes, goes}
 use Rattle.shelf_laws.proofs.Histories.{Holds, step-holds, start-holds, fresh-unheld}
 use Rattle.shelf_laws.proofs.Reception.{section-is, heard, Fed, fed-step}
 use Rattle.writer.specs.Writer.{longestBody, lastOf, written}
+use Rattle.key.specs.Key.{nrtIt}
 use Rattle.writer.specs.declared.Label.{Label}
 use Rattle.writer_laws.specs.Offers.{labelKey, offersOf}
 use Rattle.writer_laws.proofs.Sections.{is-section, its-number, its-version, its-last}
@@ -56,7 +57,7 @@ module _ (s : State) (payload : List ℕ) (sound : readOf payload ≡ Sound (hea
   not-9 (Goes.added _ _ _ _ _) e = let z : _≡_ {A = ℕ} 0 9 = ap Offer.numberOf e in omega arith
   not-9 (Goes.repeats _ _ _ _ _ _) e = let z : _≡_ {A = ℕ} 0 9 = ap Offer.numberOf e in omega arith
 
-module _ (label : Label) (body : List ℕ) (five : label .version ≤ 31) (fits : length body ≤ longestBody) where
+module _ (label : Label) (body : List ℕ) (other : ¬ (label .table ≡ nrtIt)) (five : label .version ≤ 31) (fits : length body ≤ longestBody) where
   abbrev key : Key
   key = labelKey label
 
@@ -77,9 +78,9 @@ module _ (label : Label) (body : List ℕ) (five : label .version ≤ 31) (fits 
     calm : Calm (entry s (offering k))
     calm is =
         record {
-          version = its-version label body five fits k known;
-          last = its-last label body five fits k known;
-          bytes = ap (written label body) (sym (its-number label body five fits k known));
+          version = its-version label body other five fits k known;
+          last = its-last label body other five fits k known;
+          bytes = ap (written label body) (sym (its-number label body other five fits k known));
           room =
               not-9 s (written label body k) (is .sound)
               (λ unheld. room (ap (placeOf s.shelf) (sym (is .its-key)) ∙ unheld))
@@ -91,7 +92,7 @@ module _ (label : Label) (body : List ℕ) (five : label .version ≤ 31) (fits 
     room-next (Fed.unheard _ none) =
         let n = sectionNumber (written label body k) in
         let yes : heard key (entry s (offering k) ∷ log) n ≡ true =
-        rw (section-is key (written label body k) (is-section label body five fits k known), eq-eqb n n refl) in
+        rw (section-is key (written label body k) (is-section label body other five fits k known), eq-eqb n n refl) in
         absurd (unlike (sym yes ∙ none n))
     room-next (Fed.held p kept) = λ unheld _.
         let z : p ≡ places = sym (kept .place) ∙ unheld in

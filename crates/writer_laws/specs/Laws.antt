@@ -4,6 +4,7 @@ use Prim.Native.Nat.{ℕ, _+_, _≤_}
 use mathlib.Core.Path.{_≡_}
 use mathlib.Core.List.{List, _++_}
 use lib.ListN.{length, drop}
+use Rattle.key.specs.Key.{nrtIt}
 use Rattle.section.specs.declared.Header.{Header}
 use Rattle.shelf_ask.specs.Ask.{copy}
 use Rattle.shelf_ask.specs.declared.Copied.{Copied}
@@ -44,6 +45,7 @@ JoinedIn label body h = (out : List ℕ) → 1024 ≤ length out → bodiesAfter
 abbrev pub InAnyOrder : (Label → List ℕ → List ℕ → Type 0) → Type 0
 InAnyOrder p =
     (label : Label) (body : List ℕ)
+    → ¬ (label .table ≡ nrtIt)
     → label .version ≤ 31
     → length body ≤ longestBody
     → (ks : List ℕ)
@@ -63,6 +65,7 @@ BodiesBack = InAnyOrder (λ label body ks. JoinedIn label body (offersOf label b
 abbrev pub Among : (Label → List ℕ → List Call → Type 0) → Type 0
 Among p =
     (label : Label) (body : List ℕ)
+    → ¬ (label .table ≡ nrtIt)
     → label .version ≤ 31
     → length body ≤ longestBody
     → (h : List Call)
@@ -81,7 +84,7 @@ JoinedAmong = Among JoinedIn
 
 -- The file of the sections (proofs/Files): of every label and body that the writer takes,
 abbrev pub Written : (Label → List ℕ → Type 0) → Type 0
-Written p = (label : Label) (body : List ℕ) → label .version ≤ 31 → length body ≤ longestBody → p label body
+Written p = (label : Label) (body : List ℕ) → ¬ (label .table ≡ nrtIt) → label .version ≤ 31 → length body ≤ longestBody → p label body
 
 -- the sections are those of a sound table
 abbrev pub SoundSections : Type 0

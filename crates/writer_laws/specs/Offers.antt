@@ -3,16 +3,13 @@
 use Prim.Native.Nat.{ℕ, zero, suc, _≤_}
 use mathlib.Core.List.{List, [], _∷_, _++_, List·Memᴰ}
 use lib.ListN.{take, drop}
-use Rattle.shelf.specs.declared.Key.{Key}
+use Rattle.key.specs.declared.Key.{Key}
 use Rattle.shelf_ask.specs.Ask.{Copy}
 use Rattle.shelf_ask.specs.declared.Copied.{Copied}
 use Rattle.shelf_laws.specs.History.{Call, copyAfter}
 use Rattle.writer.specs.Writer.{written}
+pub use Rattle.writer.specs.Theorems.{labelKey}
 use Rattle.writer.specs.declared.Label.{Label}
-
--- the key of a table with that label
-abbrev pub labelKey : Label → Key
-labelKey label = record { table = label .table; extension = label .extension }
 
 -- the history in which the sections with these numbers are offered, one after the other
 abbrev pub offersOf : Label → List ℕ → List ℕ → List Call

@@ -11,7 +11,7 @@ use std::io::{self, Read, Write};
 use std::process::ExitCode;
 
 const USAGE: &str = "usage: khumsafil-feed TABLE EXTENSION VERSION <BODY >FILE
-TABLE is 0 to 255, EXTENSION 0 to 65535, VERSION 0 to 31";
+TABLE is 0 to 255 but not 223, EXTENSION 0 to 65535, VERSION 0 to 31";
 
 /// Why there is no file.
 enum Fault {
@@ -27,7 +27,7 @@ fn number(word: &str) -> Option<u64> {
     digits.then(|| word.parse().unwrap_or(u64::MAX))
 }
 
-/// Three numbers, and no more. Every version above 31 is the library's to refuse.
+/// Three numbers, and no more. Every version above 31, and table 223, the NRT-IT, are the library's to refuse.
 fn label(words: &[String]) -> Option<Label> {
     let [table, extension, version] = words else {
         return None;
@@ -53,8 +53,9 @@ fn feed() -> Result<(), Fault> {
         .read_to_end(&mut body)
         .map_err(|_| Fault::Said("khumsafil-feed: read failed".into()))?;
     let mut file = [0; LARGEST_FILE];
-    let size = writer::file(label, &body, &mut file)
-        .map_err(|refusal| Fault::Said(format!("refused {}, {}", refusal.number(), refusal.text())))?;
+    let size = writer::file(label, &body, &mut file).map_err(|refusal| {
+        Fault::Said(format!("refused {}, {}", refusal.number(), refusal.text()))
+    })?;
     let mut output = io::stdout().lock();
     output
         .write_all(&file[..size])

@@ -45,7 +45,7 @@ fn silent(output: &Output, line: &str, status: i32) {
 
 /// The file by the independent program.
 fn expected(table: u8, extension: u16, version: u8, body: &[u8]) -> Vec<u8> {
-    let count = writer::count(body.len()).expect("a body that is not too long");
+    let count = writer::count(table, body.len()).expect("a body that is not too long");
     let section = |k| {
         let mut out = vec![0; 1_024];
         let size = writer::write(table, extension, version, body, k, &mut out).expect("a section");
@@ -63,7 +63,12 @@ fn a_body_becomes_a_complete_table() {
     let mut files = 0;
     for size in sizes.filter(|size| *size <= 16_256) {
         let body = random.bytes(size);
-        let (table, extension) = (random.byte(), random.word() as u16);
+        // It makes no NRT-IT.
+        let table = match random.byte() {
+            0xDF => 0xDE,
+            any => any,
+        };
+        let extension = random.word() as u16;
         let version = random.byte() % 32;
         let words = [
             table.to_string(),
@@ -111,10 +116,24 @@ fn refusals() {
     );
 }
 
+/// The NRT-IT's id is refused before all else that is.
+#[test]
+fn no_programme_list_is_made() {
+    for size in [0, 4, 14, 1_016, 16_256, 16_257] {
+        for version in ["0", "3", "31", "32", "999"] {
+            silent(
+                &run(feeder(&["223", "4097", version]), &vec![0; size]),
+                "refused 59, the writer asked for the NRT-IT's id",
+                1,
+            );
+        }
+    }
+}
+
 #[test]
 fn arguments_that_are_no_label() {
     let usage = "usage: khumsafil-feed TABLE EXTENSION VERSION <BODY >FILE\n\
-                 TABLE is 0 to 255, EXTENSION 0 to 65535, VERSION 0 to 31";
+                 TABLE is 0 to 255 but not 223, EXTENSION 0 to 65535, VERSION 0 to 31";
     let wrong: [&[&str]; 12] = [
         &[],
         &["201"],
@@ -146,7 +165,11 @@ fn arguments_that_are_no_label() {
 fn what_the_system_refuses() {
     let folder = File::open(top(".")).expect("a folder");
     let output = feeder(&["201", "4660", "3"]).stdin(folder).output();
-    silent(&output.expect("the feeder ends"), "khumsafil-feed: read failed", 1);
+    silent(
+        &output.expect("the feeder ends"),
+        "khumsafil-feed: read failed",
+        1,
+    );
     let full = OpenOptions::new().write(true).open("/dev/full");
     let mut child = feeder(&["201", "4660", "3"])
         .stdin(Stdio::null())

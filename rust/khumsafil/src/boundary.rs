@@ -5,6 +5,7 @@ extern "C" {
     pub fn khumsafil_raw_version() -> u32;
 
     pub fn khumsafil_raw_section_read(payload: *const u8, payload_length: usize) -> u64;
+    pub fn khumsafil_raw_section_key(payload: *const u8, payload_length: usize) -> u64;
 
     pub fn khumsafil_raw_shelf_begin(
         record: *mut u16,
@@ -27,6 +28,8 @@ extern "C" {
         store_length: usize,
         table: u8,
         extension: u16,
+        service: u16,
+        start: u32,
     ) -> bool;
     pub fn khumsafil_raw_shelf_complete(
         record: *const u16,
@@ -35,6 +38,8 @@ extern "C" {
         store_length: usize,
         table: u8,
         extension: u16,
+        service: u16,
+        start: u32,
     ) -> u16;
     pub fn khumsafil_raw_shelf_lowest_missing(
         record: *const u16,
@@ -43,6 +48,8 @@ extern "C" {
         store_length: usize,
         table: u8,
         extension: u16,
+        service: u16,
+        start: u32,
     ) -> u32;
     pub fn khumsafil_raw_shelf_table(
         record: *const u16,
@@ -60,6 +67,8 @@ extern "C" {
         store_length: usize,
         table: u8,
         extension: u16,
+        service: u16,
+        start: u32,
         number: u8,
         out: *mut u8,
         out_length: usize,
@@ -71,6 +80,8 @@ extern "C" {
         store_length: usize,
         table: u8,
         extension: u16,
+        service: u16,
+        start: u32,
     ) -> u8;
     pub fn khumsafil_raw_shelf_save(
         record: *const u16,
@@ -79,6 +90,8 @@ extern "C" {
         store_length: usize,
         table: u8,
         extension: u16,
+        service: u16,
+        start: u32,
         out: *mut u8,
         out_length: usize,
     ) -> u32;
@@ -167,7 +180,7 @@ extern "C" {
         application: u8,
     ) -> u16;
 
-    pub fn khumsafil_raw_writer_count(length: usize) -> u16;
+    pub fn khumsafil_raw_writer_count(table: u8, length: usize) -> u16;
     pub fn khumsafil_raw_writer_section(
         table: u8,
         extension: u16,

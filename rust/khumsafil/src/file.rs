@@ -4,9 +4,9 @@ use crate::shelf::{self, Table, TABLE_FIELDS};
 use crate::{boundary, Refusal};
 
 /// The most bytes of a file's list.
-pub const LARGEST_LIST: usize = 390;
+pub const LARGEST_LIST: usize = 421;
 
-/// Which table the file is, with what it has of it. Refused: the file's first fault (11, 12, 2 to 8).
+/// Which table the file is, with what it has of it. Refused: the file's first fault (11, 12, 2 to 8, 46).
 ///
 /// ```
 /// use khumsafil::{file, Key, Refusal};

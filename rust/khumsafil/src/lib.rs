@@ -34,7 +34,7 @@ pub use key::Key;
 pub use refusal::Refusal;
 
 /// The version that this wrapper is made for: 65,536 times the major number, 256 times the minor one, and the patch.
-pub const VERSION: u32 = 0x000400;
+pub const VERSION: u32 = 0x000500;
 
 /// The version of the library that is linked, in the same form.
 ///

@@ -21,11 +21,11 @@
 //! # Ok::<(), Refusal>(())
 //! ```
 
-use crate::{boundary, descriptor, Refusal};
+use crate::{boundary, descriptor, Key, Refusal};
 use core::fmt;
 
 /// The table id of a programme list.
-pub const TABLE_ID: u8 = 0xDF;
+pub const TABLE_ID: u8 = Key::NRT_IT;
 
 /// The place of the first item.
 pub const FIRST_ITEM: usize = 17;
@@ -41,7 +41,7 @@ pub const ITEM_FIELDS: usize = 10;
 pub const MOST_ITEMS: usize = 125;
 
 /// Room for any text of [`list`].
-pub const TEXT: usize = 327_737;
+pub const TEXT: usize = 327_768;
 
 /// What the answer is where a list has no item of the number asked.
 const OVER: u64 = 2 << 8;
@@ -254,7 +254,7 @@ pub enum Step<'a> {
 }
 
 /// Reads the payload as a programme list into the first [`FIELDS`] numbers of `fields`, in the header's order. Refused: 1 to 8,
-/// 45, 43, and 15 where fewer are lent.
+/// 46, 45, 43, and 15 where fewer are lent.
 #[inline]
 pub fn fields(payload: &[u8], fields: &mut [u32]) -> Result<(), Refusal> {
     // SAFETY: pointers and lengths are those of slices, and the one that is written is not part of the other.
@@ -272,7 +272,7 @@ pub fn fields(payload: &[u8], fields: &mut [u32]) -> Result<(), Refusal> {
     }
 }
 
-/// Reads the payload as a programme list, or says by which of the numbers 1 to 8, 45 and 43 it is refused.
+/// Reads the payload as a programme list, or says by which of the numbers 1 to 8, 46, 45 and 43 it is refused.
 ///
 /// ```
 /// use khumsafil::{programme, Refusal};
@@ -309,7 +309,7 @@ pub struct Told {
 /// Puts the items from a place on, the one there taken for the item of that number from 0 on, at the front of `fields`, each in
 /// [`ITEM_FIELDS`] numbers in the header's order: as many as there is room for, up to and with the section's last, or up to the
 /// first that is refused, without it. Numbers past theirs stay as they were. Any place and any number may be asked. Refused: 1 to
-/// 8, 45; 43 where the fields before the items, or the item at the place asked, pass the end; and last 15 where fewer than
+/// 8, 46, 45; 43 where the fields before the items, or the item at the place asked, pass the end; and last 15 where fewer than
 /// [`ITEM_FIELDS`] are lent for that item. One further on that is refused is so when its own place is asked.
 #[inline]
 pub fn item_fields(
@@ -347,7 +347,7 @@ fn part(payload: &[u8], place: u64, end: u64) -> &[u8] {
 }
 
 /// What stands at a place of a list, taken for the item of that number from 0 on: the first at [`FIRST_ITEM`], each other at the
-/// place after the one before. Any place and any number may be asked. Refused: 1 to 8, 45, 43.
+/// place after the one before. Any place and any number may be asked. Refused: 1 to 8, 46, 45, 43.
 #[inline]
 pub fn item_at(payload: &[u8], at: usize, number: u8) -> Result<Step<'_>, Refusal> {
     let mut numbers = [0; ITEM_FIELDS];
@@ -447,7 +447,7 @@ impl core::iter::FusedIterator for Several<'_, '_> {}
 
 /// The table's own loop, which stands behind the last item, from the place and the number of any item: where a walk came to, or
 /// [`FIRST_ITEM`] and 0. The items from there on are passed over, so that from the first item on the loop is answered only where the
-/// whole section is read. Any place and any number may be asked. Refused: 1 to 8, 45; 43 where one of these items, or the loop, passes
+/// whole section is read. Any place and any number may be asked. Refused: 1 to 8, 46, 45; 43 where one of these items, or the loop, passes
 /// the end; 44 where bytes are left over after it.
 pub fn own_loop_at(payload: &[u8], at: usize, number: u8) -> Result<Loop<'_>, Refusal> {
     Items::walk_from(payload, at, number, number).own_loop()
@@ -604,7 +604,7 @@ impl core::iter::FusedIterator for Items<'_> {}
 ///     1, 1, 18, 0xDF, 0x70, 0x0F, 0x10, 0, 0xC7, 0, 0, 12, 80, 0, 0, 0, 0, 0xF8, 60, 0, 0,
 /// ];
 /// let mut out = [0; 200];
-/// let text = "table 223 key 4096 version 3 last 0\n\
+/// let text = "table 223 key 4096 service 3152 start 0 version 3 last 0\n\
 ///             section 0 service 3152 start 0 minutes 60 items 0\n\
 ///             list descriptors 0 bytes 0\n\
 ///             whole\n";

@@ -65,6 +65,8 @@ refusals! {
     PROGRAMME_PASSES_END = 43: "a field or loop passes the end";
     PROGRAMME_BYTES_LEFT = 44: "bytes left over";
     PROGRAMME_OTHER_TABLE = 45: "table id not the NRT-IT's";
+    KEY_SHORT = 46: "an NRT-IT too short to hold its key";
+    ASKED_FOR_NRT_IT = 59: "the writer asked for the NRT-IT's id";
     NO_SUCH_ACTION = 255: "no such action: a number above 3";
 }
 

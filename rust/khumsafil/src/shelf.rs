@@ -30,7 +30,7 @@ mod record;
 pub use record::Record;
 
 /// How many numbers a record is.
-pub const RECORD: usize = 84;
+pub const RECORD: usize = 96;
 
 /// How many bytes a store is.
 pub const STORE: usize = 65_536;
@@ -48,7 +48,7 @@ pub const LARGEST_SECTION: usize = 1_024;
 pub const LARGEST_FILE: usize = 16_418;
 
 /// How many numbers a table is answered in.
-pub const TABLE_FIELDS: usize = 20;
+pub const TABLE_FIELDS: usize = 23;
 
 /// What an accepted section did.
 #[derive(Clone, Copy, Debug, PartialEq, Eq)]
@@ -65,7 +65,7 @@ pub enum Accepted {
 
 /// A table as a shelf or a file has it.
 ///
-/// Made by the library's answers alone: request 4 of document 02 adds to what is told of a table.
+/// Made by the library's answers alone.
 #[non_exhaustive]
 #[derive(Clone, Debug, PartialEq, Eq)]
 pub struct Table {
@@ -82,9 +82,11 @@ pub struct Table {
 impl Table {
     /// The table that an answer's numbers are.
     pub(crate) fn of(fields: [u16; TABLE_FIELDS]) -> Table {
-        let [table_id, extension, version, last, lengths @ ..] = fields;
+        let [table_id, extension, service_id, start_high, start_low, version, last, lengths @ ..] =
+            fields;
+        let start = u32::from(start_high) << 16 | u32::from(start_low);
         Table {
-            key: Key::new(table_id as u8, extension),
+            key: Key::of(table_id as u8, extension, service_id, start),
             version: version as u8,
             last: last as u8,
             lengths,
@@ -198,7 +200,7 @@ impl<'a> Shelf<'a> {
         (self.record, self.store)
     }
 
-    /// Offers a payload. Refused: 1 to 10.
+    /// Offers a payload. Refused: 1 to 8, 46, 9, 10.
     #[inline]
     pub fn offer(&mut self, payload: &[u8]) -> Result<Accepted, Refusal> {
         lent::offer(self.record.numbers_mut(), self.store, payload)
@@ -252,7 +254,7 @@ impl<'a> Shelf<'a> {
     }
 
     /// Loads a file's table into the lowest free place, and gives that table. Refused: a fault of the file (11, 12, 2
-    /// to 8), 13, 9.
+    /// to 8, 46), 13, 9.
     #[inline]
     pub fn load(&mut self, file: &[u8]) -> Result<Table, Refusal> {
         lent::load(self.record.numbers_mut(), self.store, file)?;

@@ -2,16 +2,18 @@
 //!
 //! ```
 //! use khumsafil::writer::{self, Label};
-//! use khumsafil::{section, shelf, Key};
+//! use khumsafil::{section, shelf, Key, Refusal};
 //!
 //! let label = Label::new(Key::new(0xC9, 0x1234), 3);
 //! let body = [7; 1_017];
-//! assert_eq!(writer::count(body.len())?, 2);
+//! assert_eq!(writer::count(0xC9, body.len())?, 2);
 //! let mut out = [0; shelf::LARGEST_SECTION];
 //! let size = writer::section(label, &body, 1, &mut out)?;
 //! assert_eq!(out[..size], [0xC9, 0x70, 0x06, 0x12, 0x34, 0xC7, 1, 1, 7]);
 //! assert_eq!(section::read(&out[..size])?.number, 1);
-//! # Ok::<(), khumsafil::Refusal>(())
+//! // It writes no NRT-IT.
+//! assert_eq!(writer::count(Key::NRT_IT, body.len()), Err(Refusal::ASKED_FOR_NRT_IT));
+//! # Ok::<(), Refusal>(())
 //! ```
 
 use crate::{boundary, shelf, Key, Refusal};
@@ -21,7 +23,7 @@ pub const LARGEST_BODY: usize = 16_256;
 
 /// What every section of a table has.
 ///
-/// Made by [`Label::new`] alone: request 4 of document 02 adds to what tells a table from another.
+/// Made by [`Label::new`] alone. The writer writes no NRT-IT, so table id and extension are all that it takes of the key.
 #[non_exhaustive]
 #[derive(Clone, Copy, Debug, PartialEq, Eq, Hash)]
 pub struct Label {
@@ -38,16 +40,16 @@ impl Label {
     }
 }
 
-/// How many sections a body of so many bytes makes, 1 to 16: as few as will do. Refused: 40.
+/// How many sections a body of so many bytes makes in a table with that id, 1 to 16: as few as will do. Refused: 59, 40.
 #[inline]
-pub fn count(length: usize) -> Result<u8, Refusal> {
-    // SAFETY: the call takes a number and gives a number.
-    let word = unsafe { boundary::khumsafil_raw_writer_count(length) };
+pub fn count(table_id: u8, length: usize) -> Result<u8, Refusal> {
+    // SAFETY: the call takes numbers and gives a number.
+    let word = unsafe { boundary::khumsafil_raw_writer_count(table_id, length) };
     shelf::answered(u32::from(word)).map(|count| count as u8)
 }
 
 /// Writes section `k` of the table that carries the body to the front of `out`, and gives its size. Bytes of `out` past it stay
-/// as they were. Refused: 40, 41, 42, 15.
+/// as they were. Refused: 59, 40, 41, 42, 15.
 #[inline]
 pub fn section(label: Label, body: &[u8], k: u8, out: &mut [u8]) -> Result<usize, Refusal> {
     // SAFETY: pointers and lengths are those of slices, and the one that is written is not part of the other.
@@ -67,7 +69,7 @@ pub fn section(label: Label, body: &[u8], k: u8, out: &mut [u8]) -> Result<usize
 }
 
 /// Writes the shelf file of the table that carries the body, with all its sections, to the front of `out`, and gives its size.
-/// Bytes of `out` past it stay as they were. Refused: 40, 41, 15.
+/// Bytes of `out` past it stay as they were. Refused: 59, 40, 41, 15.
 ///
 /// ```
 /// use khumsafil::writer::{self, Label};

@@ -4,10 +4,20 @@
 use khumsafil::clock::{self, Action, Activation, Clock, Heard, State};
 use khumsafil::shelf::{self, lent, Accepted, Record, Shelf, Table, LARGEST_FILE, RECORD, STORE};
 use khumsafil::{file, programme, section, trigger, writer, Key, Refusal};
+use std::collections::HashSet;
 
 const LIST: Key = Key::new(201, 4_660);
 
-/// Section `number` of 0 to `last` of a table as it is sent, with a body of so many bytes.
+/// Two services that have one extension, and the first with two later starts, of which one differs in the higher bits alone.
+const LISTS: [Key; 4] = [
+    Key::nrt_it(4_097, 7, 1_000_000_800),
+    Key::nrt_it(4_097, 8, 1_000_000_800),
+    Key::nrt_it(4_097, 7, 1_000_000_801),
+    Key::nrt_it(4_097, 7, 1_000_000_800 + 65_536),
+];
+
+/// Section `number` of 0 to `last` of a table as it is sent, with a body of so many bytes. That of an NRT-IT begins with the rest of
+/// its key.
 fn sent(key: Key, version: u8, number: u8, last: u8, body: usize) -> Vec<u8> {
     let mut bytes = vec![number; 8 + body];
     let length = (bytes.len() - 3) as u16;
@@ -23,7 +33,22 @@ fn sent(key: Key, version: u8, number: u8, last: u8, body: usize) -> Vec<u8> {
         last,
     ];
     bytes[..8].copy_from_slice(&header);
+    if key.table_id == Key::NRT_IT {
+        bytes[8..10].copy_from_slice(&key.service_id.to_be_bytes());
+        bytes[10..14].copy_from_slice(&key.time_span_start.to_be_bytes());
+    }
     bytes
+}
+
+/// A file of sections.
+fn file_of(sections: &[Vec<u8>]) -> Vec<u8> {
+    let mut file = vec![1, sections.len() as u8];
+    for section in sections {
+        assert!(section.len() < 128, "one byte for its length");
+        file.push(section.len() as u8);
+        file.extend(section);
+    }
+    file
 }
 
 #[test]
@@ -280,6 +305,266 @@ fn a_key() {
     );
     assert_eq!(read.key.to_string(), "table 201 key 4660");
     assert!(Key::new(1, 65_535) < Key::new(2, 0) && Key::new(1, 1) < Key::new(1, 2));
+}
+
+/// A key by its four numbers: all of them tell an NRT-IT, and the first two every other table, whatever stands in the rest.
+#[test]
+fn one_key_and_another() {
+    for (i, one) in LISTS.iter().enumerate() {
+        for (j, other) in LISTS.iter().enumerate() {
+            assert_eq!(one == other, i == j);
+            let rest = |key: &Key| (key.service_id, key.time_span_start);
+            assert_eq!(one.cmp(other), rest(one).cmp(&rest(other)));
+        }
+        assert_ne!(*one, Key::new(Key::NRT_IT, 4_097));
+        let again = Key::of(223, 4_097, one.service_id, one.time_span_start);
+        assert_eq!(again, *one);
+    }
+    assert_eq!(Key::nrt_it(9, 0, 0), Key::new(Key::NRT_IT, 9));
+    let said = "table 223 key 4097 service 8 start 1000000800";
+    assert_eq!(LISTS[1].to_string(), said);
+    assert_eq!(HashSet::from(LISTS).len(), 4);
+    for table_id in (0..=255).filter(|id| *id != Key::NRT_IT) {
+        let key = Key::of(table_id, 4_097, 7, 1_000_000_800);
+        assert_eq!((key.service_id, key.time_span_start), (0, 0));
+        let mut by_hand = Key::new(table_id, 4_097);
+        (by_hand.service_id, by_hand.time_span_start) = (7, 1_000_000_800);
+        assert_eq!(key, by_hand);
+        assert!(key <= by_hand && by_hand <= key);
+        assert_eq!(key.to_string(), format!("table {table_id} key 4097"));
+        assert_eq!(by_hand.to_string(), key.to_string());
+        assert_eq!(HashSet::from([key, by_hand]).len(), 1);
+    }
+}
+
+/// Lists of two services, and of two starts, stay beside each other whatever their versions, and each is asked for by its own key.
+#[test]
+fn two_services() {
+    let mut store = vec![0; STORE];
+    let mut shelf = Shelf::begin(&mut store).expect("a store");
+    let sections = [0, 1, 2, 3].map(|n| sent(LISTS[n], n as u8, 0, 1, 6 + n));
+    for (section, key) in sections.iter().zip(LISTS) {
+        assert_eq!(section::read(section).map(|read| read.key), Ok(key));
+        assert!(!shelf.is_complete(key));
+        assert_eq!(shelf.complete(key), Err(Refusal::TABLE_NOT_HELD));
+        assert_eq!(shelf.offer(section), Ok(Accepted::Began));
+    }
+    for section in &sections {
+        assert_eq!(shelf.offer(section), Ok(Accepted::Repeat));
+    }
+    let fifth = Key::nrt_it(4_097, 8, 1_000_000_801);
+    let none = [fifth, Key::new(Key::NRT_IT, 4_097)];
+    for key in none {
+        let refused = shelf.offer(&sent(key, 0, 0, 1, 6));
+        assert_eq!(refused, Err(Refusal::NO_FREE_PLACE));
+        assert_eq!(shelf.release(key), Err(Refusal::TABLE_NOT_HELD));
+    }
+    assert!(shelf.tables().map(|table| table.key).eq(LISTS));
+
+    // One becomes whole, and another begins again; the rest are as they were.
+    let whole = sent(LISTS[1], 1, 1, 1, 6);
+    assert_eq!(shelf.offer(&whole), Ok(Accepted::Added));
+    assert_eq!(
+        LISTS.map(|key| shelf.is_complete(key)),
+        [false, true, false, false]
+    );
+    assert_eq!(
+        LISTS.map(|key| shelf.complete(key)),
+        [Ok(false), Ok(true), Ok(false), Ok(false)]
+    );
+    let again = shelf.offer(&sent(LISTS[2], 9, 1, 1, 6));
+    assert_eq!(again, Ok(Accepted::BeganAgain));
+    assert_eq!(
+        LISTS.map(|key| shelf.lowest_missing(key)),
+        [Ok(Some(1)), Ok(None), Ok(Some(0)), Ok(Some(1))]
+    );
+    let mut out = [0; LARGEST_FILE];
+    assert_eq!(shelf.copy_section(LISTS[1], 1, &mut out), Ok(14));
+    assert_eq!(out[..14], whole);
+    assert_eq!(shelf.copy_section(LISTS[3], 0, &mut out), Ok(17));
+    assert_eq!(out[..17], sections[3]);
+
+    // Each goes round by its file, which tells its whole key.
+    for (place, key) in LISTS.into_iter().enumerate() {
+        let size = shelf.save(key, &mut out).expect("room");
+        let table = shelf.table(place as u8).expect("a table");
+        assert_eq!(
+            (table.key, file::table(&out[..size])),
+            (key, Ok(table.clone()))
+        );
+        let mut text = [0; file::LARGEST_LIST];
+        let text = file::list(&out[..size], &mut text).expect("room");
+        assert!(text.starts_with(&format!("{key} version {} last 1\n", table.version)));
+        assert_eq!(shelf.load(&out[..size]), Err(Refusal::KEY_HELD));
+        assert_eq!(shelf.release(key), Ok(()));
+        assert_eq!(shelf.complete(key), Err(Refusal::TABLE_NOT_HELD));
+        assert_eq!(shelf.tables().count(), 3);
+        assert_eq!(shelf.load(&out[..size]), Ok(table));
+        let other = file_of(&[sent(fifth, 0, 0, 0, 6)]);
+        assert_eq!(shelf.load(&other), Err(Refusal::NO_FREE_PLACE));
+    }
+    assert!(shelf.tables().map(|table| table.key).eq(LISTS));
+}
+
+/// A question about another table is answered by its first two numbers, whatever the last two are.
+#[test]
+fn numbers_that_mean_nothing() {
+    let mut store = vec![0; STORE];
+    let mut shelf = Shelf::begin(&mut store).expect("a store");
+    let payload = sent(LIST, 3, 0, 0, 20);
+    shelf.offer(&payload).expect("a section");
+    let mut key = LIST;
+    (key.service_id, key.time_span_start) = (0x0707, 0x0809_0A0B);
+    assert!(shelf.is_complete(key));
+    assert_eq!(shelf.complete(key), Ok(true));
+    assert_eq!(shelf.lowest_missing(key), Ok(None));
+    let mut out = [0; LARGEST_FILE];
+    assert_eq!(shelf.copy_section(key, 0, &mut out), Ok(28));
+    assert_eq!(shelf.save(key, &mut out), Ok(31));
+    let mut fields = [7; shelf::TABLE_FIELDS];
+    assert_eq!(file::table_fields(&out[..31], &mut fields), Ok(()));
+    assert_eq!(fields[..8], [201, 4_660, 0, 0, 0, 3, 0, 28]);
+    // Nor in a record: not for an answer, not for 18, and not where records are compared.
+    let mut lent = *shelf.record().numbers();
+    lent[84..87].copy_from_slice(&[7, 8, 9]);
+    assert!(Record::from(lent) == *shelf.record());
+    let (record, store) = shelf.into_parts();
+    let mut shelf = Shelf::resume(Record::from(lent), store).expect("a record");
+    assert_eq!(shelf.table(0).map(|table| table.key), Ok(LIST));
+    assert_eq!(shelf.offer(&payload), Ok(Accepted::Repeat));
+    assert_eq!(shelf.release(key), Ok(()));
+    assert!(*shelf.record() != record);
+}
+
+/// A record by its numbers: the rest of a key where an NRT-IT is, and one key in two places.
+#[test]
+fn a_record_of_lists() {
+    let mut store = vec![0; STORE];
+    let mut shelf = Shelf::begin(&mut store).expect("a store");
+    assert_eq!(shelf.record().numbers()[84..], [0; 12]);
+    for key in &LISTS[..2] {
+        shelf.offer(&sent(*key, 3, 0, 0, 6)).expect("a section");
+    }
+    let numbers = *shelf.record().numbers();
+    let start = [0x3B9A, 0xCD20];
+    let rest = [[7, start[0], start[1]], [8, start[0], start[1]]];
+    assert_eq!(numbers[84..90], rest.concat());
+    let mut fields = [7; shelf::TABLE_FIELDS + 1];
+    assert_eq!(
+        lent::table_fields(&numbers, shelf.store(), 1, &mut fields),
+        Ok(())
+    );
+    assert_eq!(fields[..8], [223, 4_097, 8, start[0], start[1], 3, 0, 14]);
+    assert_eq!(fields[8..], [[0; 15].as_slice(), &[7]].concat());
+    let (_, store) = shelf.into_parts();
+    let others = [
+        Key::nrt_it(4_097, 6, 1_000_000_800),
+        Key::nrt_it(4_097, 7, 1_000_000_800 ^ 65_536),
+        Key::nrt_it(4_097, 7, 1_000_000_800 ^ 1),
+    ];
+    for (at, key) in (84..87).zip(others) {
+        let mut other = numbers;
+        other[at] ^= 1;
+        assert!(Record::from(other) != Record::from(numbers), "{at}");
+        let moved = [LISTS[0], key].map(|key| lent::complete(&other, store, key));
+        assert_eq!(moved, [Err(Refusal::TABLE_NOT_HELD), Ok(true)], "{at}");
+    }
+    let mut twice = numbers;
+    twice[87] = 7;
+    let one = lent::complete(&twice, store, LISTS[0]);
+    assert_eq!(one, Err(Refusal::SHELF_SPOILED));
+    assert!(!lent::is_complete(&twice, store, LISTS[0]));
+    // Fewer numbers, as an older record has, and one more or less.
+    let more = [&numbers[..], &[0]].concat();
+    for record in [&numbers[..84], &numbers[..95], &more] {
+        let refused = lent::complete(record, store, LISTS[0]);
+        assert_eq!(refused, Err(Refusal::SHELF_SPOILED));
+    }
+    assert_eq!(lent::complete(&more[..96], store, LISTS[0]), Ok(true));
+    // A release leaves the rest of the key where it was.
+    let mut shelf = Shelf::resume(Record::from(numbers), store).expect("a record");
+    shelf.release(LISTS[0]).expect("a held table");
+    assert_eq!(shelf.record().numbers()[84..], numbers[84..]);
+    // Another table in that place has none.
+    shelf.offer(&sent(LIST, 3, 0, 0, 6)).expect("a section");
+    assert_eq!(shelf.record().numbers()[84..87], [0; 3]);
+}
+
+/// An NRT-IT that has no room for its key, wherever it is met.
+#[test]
+fn a_list_without_its_key() {
+    let mut store = vec![0; STORE];
+    let mut shelf = Shelf::begin(&mut store).expect("a store");
+    let whole = sent(LISTS[0], 3, 0, 1, 6);
+    let refused = Refusal::KEY_SHORT;
+    assert_eq!(refused.number(), 46);
+    for size in 8..14 {
+        let mut short = whole[..size].to_vec();
+        short[2] = (size - 3) as u8;
+        assert_eq!(section::read(&short), Err(refused));
+        assert_eq!(shelf.offer(&short), Err(refused));
+        assert_eq!(programme::read(&short), Err(refused));
+        assert_eq!(programme::item_at(&short, 17, 0), Err(refused));
+        assert_eq!(programme::own_loop_at(&short, 17, 0), Err(refused));
+        let file = file_of(&[whole.clone(), short.clone()]);
+        assert_eq!(shelf.load(&file), Err(refused));
+        assert_eq!(file::table(&file), Err(refused));
+        let mut out = [0; file::LARGEST_LIST];
+        assert_eq!(file::list(&file, &mut out), Ok("refused 46\n"));
+        assert_eq!(programme::list(&file, &mut out), Ok("refused 46\n"));
+        // 1 to 8 come first, and of another table it is a section.
+        short[5] &= 0xFE;
+        assert_eq!(section::read(&short), Err(Refusal::NOT_CURRENT));
+        (short[0], short[5]) = (0xDE, 0xC7);
+        assert_eq!(
+            section::read(&short).map(|read| read.body.len()),
+            Ok(size - 8)
+        );
+    }
+    assert_eq!(shelf.tables().count(), 0);
+    assert_eq!(programme::read(&whole), Err(Refusal::PROGRAMME_PASSES_END));
+    // A file whose sections have two keys.
+    let file = |other| file_of(&[whole.clone(), sent(other, 3, 1, 1, 6)]);
+    assert_eq!(
+        shelf.load(&file(LISTS[0])).map(|table| table.key),
+        Ok(LISTS[0])
+    );
+    for other in &LISTS[1..] {
+        assert_eq!(shelf.load(&file(*other)), Err(Refusal::BAD_FILE));
+    }
+}
+
+/// The writer writes no NRT-IT, and says so before all else.
+#[test]
+fn no_list_is_written() {
+    let refused = Refusal::ASKED_FOR_NRT_IT;
+    assert_eq!(refused.number(), 59);
+    let long = vec![0; writer::LARGEST_BODY + 1];
+    for (key, version) in [(LISTS[0], 3), (Key::new(Key::NRT_IT, 9), 32)] {
+        let label = writer::Label::new(key, version);
+        for body in [&long[..0], &long[..20], &long] {
+            let mut out = [7; 64];
+            assert_eq!(writer::count(key.table_id, body.len()), Err(refused));
+            assert_eq!(writer::section(label, body, 99, &mut out), Err(refused));
+            assert_eq!(writer::file(label, body, &mut out[..1]), Err(refused));
+            assert_eq!(out, [7; 64]);
+        }
+    }
+    for table_id in (0..=255).filter(|id| *id != Key::NRT_IT) {
+        assert_eq!(writer::count(table_id, 1_017), Ok(2));
+        let too_long = writer::count(table_id, long.len());
+        assert_eq!(too_long, Err(Refusal::WRITER_BODY_TOO_LONG));
+    }
+    // A label has no use for the rest of a key.
+    let mut key = LIST;
+    key.service_id = 7;
+    let mut out = [[0; 16]; 2];
+    let by_hand = writer::section(writer::Label::new(key, 3), b"Ferry", 0, &mut out[0]);
+    assert_eq!(
+        by_hand,
+        writer::section(writer::Label::new(LIST, 3), b"Ferry", 0, &mut out[1])
+    );
+    assert_eq!(out[0], out[1]);
 }
 
 /// The body of a list before its items: service 3,152, a start, 1,440 minutes, and so many items.

@@ -308,7 +308,7 @@ wrong: let _third = clock;
         "E0639",
         "fn main() {
     let _key = khumsafil::Key::new(201, 4_660);
-wrong: let _key = khumsafil::Key { table_id: 201, extension: 4_660 };
+wrong: let _key = khumsafil::Key { table_id: 201, extension: 4_660, service_id: 0, time_span_start: 0 };
 }",
     ),
     (

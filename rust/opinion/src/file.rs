@@ -1,6 +1,8 @@
-//! The shelf file: one table written and loaded (document 01, "The shelf file").
+//! The shelf file: one table written and loaded (document 01, "The shelf file";
+//! document 02, request 4).
 
 use crate::berth;
+use crate::key::Key;
 use crate::section;
 use crate::shelf::{self, Place, Record, SECTIONS};
 
@@ -55,8 +57,7 @@ pub fn read_number(bytes: &[u8], at: usize) -> Result<(u16, usize), u8> {
 /// A sound file's table, and the place and length in the file of each section.
 #[derive(Clone, Debug, PartialEq, Eq)]
 pub struct Table {
-    pub table_id: u8,
-    pub extension: u16,
+    pub key: Key,
     pub version: u8,
     pub last: u8,
     pub sections: Vec<(usize, usize)>,
@@ -68,7 +69,7 @@ pub(crate) fn section_number(file: &[u8], start: usize) -> u8 {
 }
 
 /// Reads a file from left to right; the first fault gives the answer.
-/// Refusals: 11, 12, and 2 to 8 for a section's own.
+/// Refusals: 11, 12, and 2 to 8 and 46 for a section's own.
 pub fn read(file: &[u8]) -> Result<Table, u8> {
     let (form, at) = read_number(file, 0)?;
     if form != FORM {
@@ -97,8 +98,7 @@ pub fn read(file: &[u8]) -> Result<Table, u8> {
 
         // Key, version, last and rising number.
         if let Some(before) = before {
-            if this.table_id != before.table_id
-                || this.extension != before.extension
+            if this.key() != before.key()
                 || this.version != before.version
                 || this.last != before.last
                 || this.number <= before.number
@@ -120,8 +120,7 @@ pub fn read(file: &[u8]) -> Result<Table, u8> {
         return Err(12);
     };
     Ok(Table {
-        table_id: shared.table_id,
-        extension: shared.extension,
+        key: shared.key(),
         version: shared.version,
         last: shared.last,
         sections,
@@ -129,7 +128,7 @@ pub fn read(file: &[u8]) -> Result<Table, u8> {
 }
 
 /// Which table a file is: what loading it would put in a place.
-/// Refusals: 11, 12, and 2 to 8 for a section's own.
+/// Refusals: 11, 12, and 2 to 8 and 46 for a section's own.
 pub fn table(file: &[u8]) -> Result<shelf::Table, u8> {
     let read = read(file)?;
     let mut lengths = [0; SECTIONS];
@@ -137,8 +136,7 @@ pub fn table(file: &[u8]) -> Result<shelf::Table, u8> {
         lengths[usize::from(section_number(file, start))] = length as u16;
     }
     Ok(shelf::Table {
-        table_id: read.table_id,
-        extension: read.extension,
+        key: read.key,
         version: read.version,
         last: read.last,
         lengths,
@@ -147,15 +145,9 @@ pub fn table(file: &[u8]) -> Result<shelf::Table, u8> {
 
 /// Writes a held table as a file and answers how many bytes it has.
 /// Refusals: 17, 18, 14, 15.
-pub fn save(
-    record: &Record,
-    store: &[u8],
-    table_id: u8,
-    extension: u16,
-    out: &mut [u8],
-) -> Result<usize, u8> {
+pub fn save(record: &Record, store: &[u8], key: Key, out: &mut [u8]) -> Result<usize, u8> {
     shelf::check(record, store)?;
-    let p = shelf::find(record, table_id, extension).ok_or(14)?;
+    let p = shelf::find(record, key).ok_or(14)?;
     let lengths = &record.places[p].lengths;
 
     let mut count = 0;
@@ -194,7 +186,7 @@ fn put_number(out: &mut [u8], at: usize, n: u16) -> usize {
 pub fn load(record: &mut Record, store: &mut [u8], file: &[u8]) -> Result<(), u8> {
     shelf::check(record, store)?;
     let table = read(file)?;
-    if shelf::find(record, table.table_id, table.extension).is_some() {
+    if shelf::find(record, table.key).is_some() {
         return Err(13);
     }
     let Some(p) = shelf::lowest_free(record) else {
@@ -209,8 +201,7 @@ pub fn load(record: &mut Record, store: &mut [u8], file: &[u8]) -> Result<(), u8
     }
     record.places[p] = Place {
         taken: true,
-        table_id: table.table_id,
-        extension: table.extension,
+        key: table.key,
         version: table.version,
         last: table.last,
         lengths,
@@ -225,6 +216,10 @@ mod tests {
     use crate::testing::{self, Dice};
 
     const EXAMPLE: [u8; 11] = [1, 1, 8, 0xC9, 0x70, 0x05, 0x12, 0x34, 0xC7, 0, 0];
+    const EXAMPLE_KEY: Key = Key::new(0xC9, 0x1234, 0, 0);
+
+    /// The table that `of` makes sections of.
+    const KEY: Key = Key::new(0x40, 7, 0, 0);
 
     /// A file of these sections.
     fn file_of(sections: &[Vec<u8>]) -> Vec<u8> {
@@ -321,8 +316,7 @@ mod tests {
         assert_eq!(
             read(&EXAMPLE),
             Ok(Table {
-                table_id: 0xC9,
-                extension: 0x1234,
+                key: EXAMPLE_KEY,
                 version: 3,
                 last: 0,
                 sections: vec![(3, 8)],
@@ -331,7 +325,7 @@ mod tests {
         let (mut record, mut store) = (fresh(), vec![0; STORE]);
         offer(&mut record, &mut store, &EXAMPLE[3..]).unwrap();
         let mut out = [9; 12];
-        assert_eq!(save(&record, &store, 0xC9, 0x1234, &mut out), Ok(11));
+        assert_eq!(save(&record, &store, EXAMPLE_KEY, &mut out), Ok(11));
         assert_eq!(out[..11], EXAMPLE);
         assert_eq!(out[11], 9);
     }
@@ -451,9 +445,9 @@ mod tests {
         assert_eq!(file.len(), LARGEST);
         let (mut record, mut store) = (fresh(), vec![0; STORE]);
         assert_eq!(load(&mut record, &mut store, &file), Ok(()));
-        assert_eq!(shelf::complete(&record, &store, 0x40, 7), Ok(true));
+        assert_eq!(shelf::complete(&record, &store, KEY), Ok(true));
         let mut out = vec![0; LARGEST];
-        assert_eq!(save(&record, &store, 0x40, 7, &mut out), Ok(LARGEST));
+        assert_eq!(save(&record, &store, KEY, &mut out), Ok(LARGEST));
         assert!(out == file);
     }
 
@@ -497,10 +491,13 @@ mod tests {
         let mut out = [9; 10];
         let mut spoiled = record;
         spoiled.places[0].version = 32;
-        assert_eq!(save(&spoiled, &[], 0, 0, &mut out), Err(17));
-        assert_eq!(save(&spoiled, &store, 0, 0, &mut out), Err(18));
-        assert_eq!(save(&record, &store, 0xC9, 0x1235, &mut out), Err(14));
-        assert_eq!(save(&record, &store, 0xC9, 0x1234, &mut out), Err(15));
+        assert_eq!(save(&spoiled, &[], KEY, &mut out), Err(17));
+        assert_eq!(save(&spoiled, &store, KEY, &mut out), Err(18));
+        assert_eq!(
+            save(&record, &store, Key::new(0xC9, 0x1235, 0, 0), &mut out),
+            Err(14)
+        );
+        assert_eq!(save(&record, &store, EXAMPLE_KEY, &mut out), Err(15));
         assert_eq!(out, [9; 10]);
     }
 
@@ -510,7 +507,7 @@ mod tests {
         load(&mut record, &mut store, &EXAMPLE).unwrap();
         store[..8].fill(0xAA);
         let mut out = [0; 11];
-        assert_eq!(save(&record, &store, 0xC9, 0x1234, &mut out), Ok(11));
+        assert_eq!(save(&record, &store, EXAMPLE_KEY, &mut out), Ok(11));
         assert_eq!(
             out,
             [1, 1, 8, 0xAA, 0xAA, 0xAA, 0xAA, 0xAA, 0xAA, 0xAA, 0xAA]
@@ -529,7 +526,7 @@ mod tests {
         expected[18 * 1024..18 * 1024 + 10].copy_from_slice(&sections[0]);
         expected[21 * 1024..22 * 1024].copy_from_slice(&sections[1]);
         assert!(store == expected);
-        assert_eq!(shelf::lowest_missing(&record, &store, 0x40, 7), Ok(Some(0)));
+        assert_eq!(shelf::lowest_missing(&record, &store, KEY), Ok(Some(0)));
     }
 
     #[test]
@@ -545,14 +542,14 @@ mod tests {
                 let _ = offer(&mut record, &mut store, &of(number, last, &body));
             }
             let mut out = vec![0; LARGEST];
-            let size = save(&record, &store, 0x40, 7, &mut out).unwrap();
+            let size = save(&record, &store, KEY, &mut out).unwrap();
             let (mut again, mut again_store) = (fresh(), vec![0; STORE]);
             assert_eq!(load(&mut again, &mut again_store, &out[..size]), Ok(()));
             assert_eq!(again, record);
             assert!(again_store == store);
             assert_eq!(table(&out[..size]), shelf::table(&record, &store, 0));
             let mut twice = vec![0; LARGEST];
-            assert_eq!(save(&again, &again_store, 0x40, 7, &mut twice), Ok(size));
+            assert_eq!(save(&again, &again_store, KEY, &mut twice), Ok(size));
             assert!(twice == out);
         }
     }
@@ -561,8 +558,17 @@ mod tests {
     fn damaged_files_are_answered() {
         let mut dice = Dice(1234);
         let good = file_of(&[of(0, 3, &[1, 2, 3]), of(1, 3, &[]), of(3, 3, &[4; 200])]);
-        for _ in 0..20_000 {
-            let mut file = good.clone();
+        let list = file_of(&[
+            list_of(LIST, 0, 3, &[1, 2, 3]),
+            list_of(LIST, 1, 3, &[]),
+            list_of(LIST, 3, 3, &[4; 100]),
+        ]);
+        for round in 0..20_000 {
+            let mut file = if round % 2 == 0 {
+                good.clone()
+            } else {
+                list.clone()
+            };
             for _ in 0..=dice.below(3) {
                 let place = dice.below(file.len());
                 file[place] = dice.next() as u8;
@@ -573,17 +579,349 @@ mod tests {
                 Ok(table) => {
                     assert_eq!(load(&mut record, &mut store, &file), Ok(()));
                     let mut out = vec![0; file.len()];
-                    let saved = save(&record, &store, table.table_id, table.extension, &mut out);
+                    let saved = save(&record, &store, table.key, &mut out);
                     assert_eq!(saved, Ok(file.len()));
                     assert!(out == file);
                 }
                 Err(number) => {
-                    assert!([11, 12, 2, 3, 4, 5, 6, 7, 8].contains(&number));
+                    assert!([11, 12, 2, 3, 4, 5, 6, 7, 8, 46].contains(&number));
                     if dice.below(50) == 0 {
                         refused(&file, number);
                     }
                 }
             }
+        }
+    }
+
+    /// The NRT-IT that `list_of` is mostly asked for.
+    const LIST: Key = Key::new(0xDF, 0x1001, 7, 1_000_000_800);
+
+    /// A section of the NRT-IT with this key, of version 5.
+    fn list_of(key: Key, number: u8, last: u8, rest: &[u8]) -> Vec<u8> {
+        assert_eq!(key.table_id, 0xDF);
+        let key = (key.extension, key.service_id, key.time_span_start);
+        testing::nrt_it(key, 5, number, last, rest)
+    }
+
+    /// A section of the NRT-IT of this many bytes in all, with the key's bytes of
+    /// LIST as far as they go.
+    fn list_of_size(size: usize, number: u8, last: u8) -> Vec<u8> {
+        let mut body = list_of(LIST, 0, 0, &[0; 10])[8..].to_vec();
+        body.resize(size - 8, 0);
+        testing::section(0xDF, LIST.extension, 5, number, last, &body)
+    }
+
+    #[test]
+    fn an_nrt_its_file() {
+        let file = file_of(&[list_of_size(14, 1, 3), list_of(LIST, 3, 3, &[1; 1010])]);
+        let sections = vec![(3, 14), (19, 1024)];
+        assert_eq!(
+            read(&file),
+            Ok(Table {
+                key: LIST,
+                version: 5,
+                last: 3,
+                sections,
+            })
+        );
+        let mut lengths = [0; 16];
+        (lengths[1], lengths[3]) = (14, 1024);
+        assert_eq!(
+            table(&file),
+            Ok(shelf::Table {
+                key: LIST,
+                version: 5,
+                last: 3,
+                lengths,
+            })
+        );
+        let (mut record, mut store) = (fresh(), vec![0; STORE]);
+        assert_eq!(load(&mut record, &mut store, &file), Ok(()));
+        assert_eq!(record.places[0].key, LIST);
+        assert_eq!(shelf::table(&record, &store, 0), table(&file));
+        assert_eq!(shelf::lowest_missing(&record, &store, LIST), Ok(Some(0)));
+        let mut out = vec![0; file.len()];
+        assert_eq!(save(&record, &store, LIST, &mut out), Ok(file.len()));
+        assert!(out == file);
+    }
+
+    #[test]
+    fn a_file_of_another_table_tells_no_added_fields() {
+        let mut file = file_of(&[list_of(LIST, 0, 0, &[])]);
+        for table_id in (0..=255).filter(|&table_id| table_id != 0xDF) {
+            file[3] = table_id;
+            let key = Key::new(table_id, 0x1001, 0, 0);
+            assert_eq!(read(&file).unwrap().key, key);
+            assert_eq!(table(&file).unwrap().key, key);
+            assert_eq!((key.service_id, key.time_span_start), (0, 0));
+        }
+    }
+
+    #[test]
+    fn an_nrt_it_without_its_key_is_46_in_a_file() {
+        for size in 8..14 {
+            refused(&file_of(&[list_of_size(size, 0, 0)]), 46);
+            // As the second and the third section too.
+            let sections = [
+                list_of(LIST, 0, 3, &[]),
+                list_of(LIST, 1, 3, &[]),
+                list_of_size(size, 2, 3),
+            ];
+            refused(&file_of(&sections), 46);
+            refused(&file_of(&[sections[0].clone(), sections[2].clone()]), 46);
+        }
+        assert!(read(&file_of(&[list_of_size(14, 0, 0)])).is_ok());
+    }
+
+    #[test]
+    fn where_46_stands_among_the_faults_of_a_file() {
+        let short = list_of_size(13, 0, 3);
+        // After the section's own 2 to 8.
+        let faults = [
+            (1, 0xF0, 2),
+            (2, 4, 3),
+            (2, 11, 4),
+            (2, 9, 5),
+            (6, 4, 6),
+            (7, 16, 7),
+            (5, 0xC6, 8),
+        ];
+        for (place, byte, number) in faults {
+            let mut section = short.clone();
+            section[place] = byte;
+            refused(&file_of(&[section]), number);
+        }
+        // After running past the file, and after the length.
+        let file = file_of(&[short.clone()]);
+        refused(&file, 46);
+        refused(&file[..file.len() - 1], 12);
+        let mut seven = file.clone();
+        seven[2] = 7;
+        refused(&seven, 12);
+        let mut not_shortest = file.clone();
+        not_shortest[2] = 0x8D;
+        not_shortest.insert(3, 0);
+        refused(&not_shortest, 11);
+        // Before key, version, last and rising number.
+        let first = list_of(LIST, 1, 3, &[]);
+        let others = [
+            testing::section(0xDF, 9, 5, 2, 3, &[0; 5]),
+            testing::section(0xDF, 0x1001, 6, 2, 3, &[0; 5]),
+            testing::section(0xDF, 0x1001, 5, 2, 4, &[0; 5]),
+            testing::section(0xDF, 0x1001, 5, 1, 3, &[0; 5]),
+            testing::section(0xDF, 0x1001, 5, 0, 3, &[0; 5]),
+        ];
+        for other in others {
+            refused(&file_of(&[first.clone(), other]), 46);
+        }
+        // Also where the first section is of another table.
+        let plain = testing::section(0xDE, 0x1001, 5, 0, 3, &[]);
+        refused(&file_of(&[plain, list_of_size(13, 1, 3)]), 46);
+        // Before what follows it, and after what stands before it.
+        let mut file = file_of(&[short.clone(), first.clone()]);
+        file.truncate(file.len() - 1);
+        refused(&file, 46);
+        refused(&[&file_of(&[short.clone()])[..], &[0]].concat(), 46);
+        let mut unlike = first.clone();
+        unlike[9] ^= 1;
+        refused(&file_of(&[first, unlike, list_of_size(13, 3, 3)]), 12);
+    }
+
+    #[test]
+    fn sections_of_two_keys_are_12() {
+        let first = list_of(LIST, 0, 2, &[]);
+        let other = |service_id, time_span_start| {
+            let key = Key::new(0xDF, 0x1001, service_id, time_span_start);
+            list_of(key, 1, 2, &[])
+        };
+        let same = other(7, 1_000_000_800);
+        assert!(read(&file_of(&[first.clone(), same.clone()])).is_ok());
+        // Each single field of the key, and each byte of the added ones.
+        let mut others = vec![other(8, 1_000_000_800), other(7, 1_000_000_801)];
+        for place in [0, 3, 4, 8, 9, 10, 11, 12, 13] {
+            let mut unlike = same.clone();
+            unlike[place] ^= 1;
+            others.push(unlike);
+        }
+        for unlike in others {
+            refused(&file_of(&[first.clone(), unlike.clone()]), 12);
+            // Wherever among three the unlike ones stand.
+            let (like_third, unlike_third) = (as_third(&same), as_third(&unlike));
+            let three = [first.clone(), same.clone(), like_third.clone()];
+            assert!(read(&file_of(&three)).is_ok());
+            refused(
+                &file_of(&[first.clone(), same.clone(), unlike_third.clone()]),
+                12,
+            );
+            refused(&file_of(&[first.clone(), unlike.clone(), like_third]), 12);
+            refused(&file_of(&[first.clone(), unlike, unlike_third]), 12);
+        }
+        // What follows the key may differ.
+        let mut longer = list_of(LIST, 1, 2, &[0xF8, 60, 0]);
+        assert!(read(&file_of(&[first.clone(), longer.clone()])).is_ok());
+        longer[15] = 61;
+        assert!(read(&file_of(&[first, longer])).is_ok());
+    }
+
+    /// The same section with the number 2.
+    fn as_third(section: &[u8]) -> Vec<u8> {
+        let mut third = section.to_vec();
+        third[6] = 2;
+        third
+    }
+
+    #[test]
+    fn sections_of_another_table_may_have_any_bodies() {
+        for table_id in (0..=255).filter(|&table_id| table_id != 0xDF) {
+            let bodies: [&[u8]; 4] = [&[0, 7, 0, 0, 0, 9], &[0, 8, 0, 0, 0, 9], &[], &[1; 20]];
+            let sections: Vec<Vec<u8>> = (0..)
+                .zip(bodies)
+                .map(|(number, body)| testing::section(table_id, 7, 5, number, 3, body))
+                .collect();
+            let answer = read(&file_of(&sections)).unwrap();
+            assert_eq!(answer.key, Key::new(table_id, 7, 0, 0));
+            assert_eq!(answer.sections.len(), 4);
+        }
+    }
+
+    #[test]
+    fn loading_is_13_and_9_by_the_whole_key() {
+        let (mut record, mut store) = (fresh(), vec![0; STORE]);
+        let keys = [
+            LIST,
+            Key::new(0xDF, 0x1001, 8, 1_000_000_800),
+            Key::new(0xDF, 0x1001, 7, 1_000_004_400),
+            Key::new(0xDF, 0x1002, 7, 1_000_000_800),
+            Key::new(0xDF, 0x1001, 8, 1_000_004_400),
+        ];
+        for key in &keys[..4] {
+            let file = file_of(&[list_of(*key, 0, 1, &[])]);
+            assert_eq!(load(&mut record, &mut store, &file), Ok(()));
+            let before = (record, store.clone());
+            // The same key with another version, number and last.
+            let again = testing::nrt_it(
+                (key.extension, key.service_id, key.time_span_start),
+                6,
+                2,
+                2,
+                &[1],
+            );
+            assert_eq!(load(&mut record, &mut store, &file), Err(13));
+            assert_eq!(load(&mut record, &mut store, &file_of(&[again])), Err(13));
+            assert!((record, store.clone()) == before);
+        }
+        let before = (record, store.clone());
+        let fifth = file_of(&[list_of(keys[4], 0, 1, &[])]);
+        assert_eq!(load(&mut record, &mut store, &fifth), Err(9));
+        // On a full shelf 13 still comes first, and 46 before both.
+        let held = file_of(&[list_of(LIST, 0, 1, &[])]);
+        assert_eq!(load(&mut record, &mut store, &held), Err(13));
+        let short = file_of(&[list_of_size(13, 0, 1)]);
+        assert_eq!(load(&mut record, &mut store, &short), Err(46));
+        assert!((record, store.clone()) == before);
+        // 17 and 18 come before 46.
+        let mut spoiled = record;
+        spoiled.places[1].key = LIST;
+        assert_eq!(load(&mut spoiled, &mut store, &short), Err(18));
+        assert_eq!(load(&mut spoiled, &mut [], &short), Err(17));
+        // The four are saved each by its own key.
+        for key in &keys[..4] {
+            let file = file_of(&[list_of(*key, 0, 1, &[])]);
+            let mut out = vec![0; file.len()];
+            assert_eq!(save(&record, &store, *key, &mut out), Ok(file.len()));
+            assert!(out == file);
+        }
+        assert_eq!(save(&record, &store, keys[4], &mut [0; 100]), Err(14));
+    }
+
+    #[test]
+    fn the_added_fields_of_another_table_mean_nothing() {
+        let (mut record, mut store) = (fresh(), vec![0; STORE]);
+        let file = file_of(&[of(0, 0, &[1, 2])]);
+        assert_eq!(load(&mut record, &mut store, &file), Ok(()));
+        assert_eq!(record.places[0].key, KEY);
+        for (service_id, time_span_start) in [(0, 0), (1, 0), (0, 1), (0xFFFF, u32::MAX)] {
+            let by_hand = Key {
+                service_id,
+                time_span_start,
+                ..KEY
+            };
+            // In a question and in a lent record.
+            let mut out = vec![0; file.len()];
+            assert_eq!(save(&record, &store, by_hand, &mut out), Ok(file.len()));
+            assert!(out == file);
+            let mut lent = record;
+            lent.places[0].key = by_hand;
+            let mut out = vec![0; file.len()];
+            assert_eq!(save(&lent, &store, KEY, &mut out), Ok(file.len()));
+            assert!(out == file);
+            assert_eq!(load(&mut lent, &mut store, &file), Err(13));
+            assert_eq!(shelf::table(&lent, &store, 0), table(&file));
+            // Two places of one key.
+            lent.places[1] = record.places[0];
+            assert_eq!(save(&lent, &store, KEY, &mut out), Err(18));
+            assert_eq!(load(&mut lent, &mut store, &file), Err(18));
+        }
+    }
+
+    #[test]
+    fn an_older_file_of_an_nrt_it() {
+        // Sections that agree in the whole key stay readable; a service's section
+        // that was added to another's table is 12, and a short one 46.
+        let other = Key::new(0xDF, 0x1001, 8, 1_000_000_800);
+        let agreeing = [list_of(LIST, 0, 1, &[1]), list_of(LIST, 1, 1, &[2])];
+        assert_eq!(read(&file_of(&agreeing)).unwrap().key, LIST);
+        let mixed = [list_of(LIST, 0, 1, &[1]), list_of(other, 1, 1, &[2])];
+        refused(&file_of(&mixed), 12);
+        let short = [list_of(LIST, 0, 1, &[1]), list_of_size(8, 1, 1)];
+        refused(&file_of(&short), 46);
+    }
+
+    #[test]
+    fn what_was_saved_is_restored_for_every_key() {
+        let mut dice = Dice(104);
+        for _ in 0..40 {
+            let (mut record, mut store) = (fresh(), vec![0; STORE]);
+            let last = dice.below(16) as u8;
+            for _ in 0..=dice.below(60) {
+                let key = Key::new(
+                    0xDF,
+                    0x1000 + dice.below(2) as u16,
+                    dice.below(3) as u16,
+                    dice.below(2) as u32 * 3600,
+                );
+                let number = dice.below(usize::from(last) + 1) as u8;
+                let size = dice.below(1011);
+                let mut payload = list_of(key, number, last, &dice.bytes(size));
+                if dice.below(8) == 0 {
+                    payload[0] = 0xE1;
+                }
+                let _ = offer(&mut record, &mut store, &payload);
+            }
+            // Each table is saved, and loaded beside the others that are left.
+            let (mut again, mut again_store) = (fresh(), vec![0; STORE]);
+            for p in 0..4 {
+                let Ok(told) = shelf::table(&record, &store, p) else {
+                    continue;
+                };
+                let mut out = vec![0; LARGEST];
+                let size = save(&record, &store, told.key, &mut out).unwrap();
+                assert_eq!(table(&out[..size]), Ok(told));
+                assert_eq!(load(&mut again, &mut again_store, &out[..size]), Ok(()));
+                assert_eq!(load(&mut again, &mut again_store, &out[..size]), Err(13));
+                let mut twice = vec![0; LARGEST];
+                assert_eq!(save(&again, &again_store, told.key, &mut twice), Ok(size));
+                assert!(twice == out);
+                // Released and loaded, it is as it was.
+                let (mut other, mut other_store) = (record, store.clone());
+                shelf::release(&mut other, &mut other_store, told.key).unwrap();
+                let same = (record, store.clone());
+                assert!((other, other_store.clone()) != same);
+                assert_eq!(load(&mut other, &mut other_store, &out[..size]), Ok(()));
+                assert!((other, other_store) == same);
+            }
+            assert_eq!(again, record);
+            assert!(again_store == store);
         }
     }
 }

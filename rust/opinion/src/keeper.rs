@@ -1,13 +1,13 @@
 //! An ordinary keeper of the same tables, for timing beside others. It follows the
-//! rules of document 01, "The shelf", and owns its record, so it does not look
-//! whether that record is spoiled (18).
+//! rules of document 01, "The shelf", with the key of document 02, request 4. It owns
+//! its record, so it does not look whether that record is spoiled (18).
 
+use crate::key::Key;
 use crate::section::{self, Section};
 use crate::shelf::{Accepted, BERTH, PLACES, SECTIONS, STORE};
 
 struct Table {
-    table_id: u8,
-    extension: u16,
+    key: Key,
     version: u8,
     last: u8,
     /// Length 0 at a number: that number is not held.
@@ -17,8 +17,7 @@ struct Table {
 impl Table {
     fn begin(section: &Section) -> Self {
         Table {
-            table_id: section.table_id,
-            extension: section.extension,
+            key: section.key(),
             version: section.version,
             last: section.last,
             lengths: [0; SECTIONS],
@@ -56,21 +55,19 @@ impl Keeper {
         Self::default()
     }
 
-    /// Offers a payload. Refusals: 17, then 1 to 10 rising.
+    /// Offers a payload. Refusals: 17, 1 to 8 rising, 46, 9, 10.
     pub fn offer(&mut self, store: &mut [u8], payload: &[u8]) -> Result<Accepted, u8> {
         if store.len() != STORE {
             return Err(17);
         }
         let section = section::read(payload)?;
+        let key = section.key();
         let number = usize::from(section.number);
 
         let mut free = None;
         for (place, slot) in self.tables.iter_mut().enumerate() {
             match slot {
-                Some(table)
-                    if table.table_id == section.table_id
-                        && table.extension == section.extension =>
-                {
+                Some(table) if table.key == key => {
                     return Self::hear(table, berths(store, place), &section, number, payload);
                 }
                 Some(_) => {}
@@ -151,6 +148,42 @@ mod tests {
                 );
                 if dice.below(20) == 0 {
                     payload.pop();
+                }
+                assert_eq!(
+                    keeper.offer(&mut ours, &payload),
+                    shelf::offer(&mut record, &mut theirs, &payload)
+                );
+                assert!(ours == theirs);
+            }
+        }
+    }
+
+    #[test]
+    fn it_agrees_with_the_shelf_on_nrt_its() {
+        let mut dice = Dice(0xFEED);
+        for _ in 0..20 {
+            let mut keeper = Keeper::new();
+            let mut record = shelf::fresh();
+            let (mut ours, mut theirs) = (vec![0; STORE], vec![0; STORE]);
+            for _ in 0..400 {
+                // Eight keys of the NRT-IT, or one of another table.
+                let key = (
+                    dice.below(2) as u16,
+                    dice.below(2) as u16,
+                    dice.below(2) as u32 * 3600,
+                );
+                let number = dice.below(3) as u8;
+                let size = dice.below(3) * 500;
+                let version = (dice.below(30) == 0) as u8;
+                let mut payload = testing::nrt_it(key, version, number, 2, &vec![number; size]);
+                match dice.below(20) {
+                    0..=3 => payload[0] = 0xE1,
+                    4 => {
+                        let size = 8 + dice.below(7);
+                        payload.truncate(size);
+                        (payload[1], payload[2]) = (0x70, (size - 3) as u8);
+                    }
+                    _ => {}
                 }
                 assert_eq!(
                     keeper.offer(&mut ours, &payload),

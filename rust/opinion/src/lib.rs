@@ -1,4 +1,4 @@
-//! Khumsafil's second opinion: document 01 (and requests 1 to 3 of document 02)
+//! Khumsafil's second opinion: document 01 (and requests 1 to 4 of document 02)
 //! read once more, on its own, in plain Rust. Every refusal is its number in
 //! document 01, "Numbers of refusal", or in the request that adds it.
 
@@ -8,6 +8,7 @@ pub mod clock;
 pub mod descriptors;
 pub mod file;
 pub mod keeper;
+pub mod key;
 pub mod lister;
 pub mod programme;
 pub mod programme_text;

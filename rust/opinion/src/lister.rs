@@ -1,6 +1,8 @@
-//! What the lister prints for a shelf file (document 01, "The lister").
+//! What the lister prints for a shelf file (document 01, "The lister"; document 02,
+//! request 4).
 
 use crate::file;
+use crate::key::NRT_IT;
 use crate::shelf::SECTIONS;
 use std::fmt::Write;
 
@@ -33,12 +35,17 @@ pub fn list(file: &[u8]) -> String {
     text
 }
 
-/// The line that names the table; the text for staff begins with it too.
+/// The line that names the table; the text for staff begins with it too. The added
+/// fields of the key are printed for the NRT-IT alone.
 pub(crate) fn first_line(table: &file::Table) -> String {
-    format!(
-        "table {} key {} version {} last {}\n",
-        table.table_id, table.extension, table.version, table.last
-    )
+    let key = table.key;
+    let mut line = format!("table {} key {}", key.table_id, key.extension);
+    if key.table_id == NRT_IT {
+        let (service, start) = (key.service_id, key.time_span_start);
+        let _ = write!(line, " service {service} start {start}");
+    }
+    let _ = writeln!(line, " version {} last {}", table.version, table.last);
+    line
 }
 
 #[cfg(test)]
@@ -54,6 +61,61 @@ mod tests {
             list(&EXAMPLE),
             "table 201 key 4660 version 3 last 0\nsection 0 bytes 8\ncomplete\n"
         );
+    }
+
+    /// An NRT-IT of extension 4097 and version 3 in one section.
+    fn list_of(service_id: u16, time_span_start: u32) -> Vec<u8> {
+        let section = testing::nrt_it((4097, service_id, time_span_start), 3, 0, 0, &[]);
+        [&[1, 1, 14][..], &section].concat()
+    }
+
+    #[test]
+    fn an_nrt_it_has_its_whole_key() {
+        assert_eq!(
+            list(&list_of(7, 1_000_000_800)),
+            "table 223 key 4097 service 7 start 1000000800 version 3 last 0\n\
+             section 0 bytes 14\n\
+             complete\n"
+        );
+        // Printed also where they are 0, and at their largest.
+        assert_eq!(
+            list(&list_of(0, 0)),
+            "table 223 key 4097 service 0 start 0 version 3 last 0\n\
+             section 0 bytes 14\n\
+             complete\n"
+        );
+        assert!(list(&list_of(65_535, 4_294_967_295))
+            .starts_with("table 223 key 4097 service 65535 start 4294967295 version 3 last 0\n"));
+    }
+
+    #[test]
+    fn every_other_table_has_the_old_line() {
+        for table_id in (0..=255).filter(|&table_id| table_id != 223) {
+            let mut file = list_of(7, 1_000_000_800);
+            file[3] = table_id;
+            let expected = format!(
+                "table {table_id} key 4097 version 3 last 0\nsection 0 bytes 14\ncomplete\n"
+            );
+            assert_eq!(list(&file), expected);
+        }
+    }
+
+    #[test]
+    fn an_nrt_it_without_its_key_is_46() {
+        for size in 8..14u8 {
+            let mut file = vec![1, 1, size];
+            file.extend(testing::section(
+                0xDF,
+                1,
+                0,
+                0,
+                0,
+                &vec![0; size as usize - 8],
+            ));
+            assert_eq!(list(&file), "refused 46\n");
+            file[3] = 0xDE;
+            assert!(list(&file).ends_with("complete\n"));
+        }
     }
 
     #[test]

@@ -1,11 +1,12 @@
 //! The body of a programme list, the NRT-IT, by Table 6.5 of document 004
-//! (document 02, request 3).
+//! (document 02, requests 3 and 4).
 
 use crate::descriptors;
+use crate::key;
 use crate::section;
 
 /// The table id of the NRT-IT.
-pub const TABLE_ID: u8 = 0xDF;
+pub const TABLE_ID: u8 = key::NRT_IT;
 /// The place of the first item: the header (8), service_id (2), time_span_start
 /// (4), time_span_length with its reserved bits (2) and the count of items (1).
 pub const FIRST_ITEM: usize = 17;
@@ -66,33 +67,32 @@ pub enum Step {
     Over,
 }
 
-/// Reads the fixed fields before the items. Refusals: 1 to 8, 45, 43.
+/// Reads the fixed fields before the items. Refusals: 1 to 8, 46, 45, 43.
 pub fn read(payload: &[u8]) -> Result<Programme, u8> {
     let section = section::read(payload)?;
     if section.table_id != TABLE_ID {
         return Err(45);
     }
 
-    // A sound section ends with its payload.
+    // The first two fields are of the key, and the section has them. A sound
+    // section ends with its payload.
     let mut fields = Fields {
         payload,
-        at: section.body_start,
+        at: key::NRT_IT_KEY_END,
     };
-    let service_id = u16::from_be_bytes(fields.take()?);
-    let time_span_start = u32::from_be_bytes(fields.take()?);
     // Five reserved bits stand before the eleven of the length.
     let time_span_length = u16::from_be_bytes(fields.take()?) & 0x07FF;
     let [items] = fields.take()?;
     Ok(Programme {
-        service_id,
-        time_span_start,
+        service_id: section.service_id,
+        time_span_start: section.time_span_start,
         time_span_length,
         items,
     })
 }
 
 /// What stands at the place `at`, taken for item `number` of the section.
-/// Refusals: 1 to 8, 45, 43.
+/// Refusals: 1 to 8, 46, 45, 43.
 pub fn item(payload: &[u8], at: usize, number: u8) -> Result<Step, u8> {
     let programme = read(payload)?;
     if number >= programme.items {
@@ -105,7 +105,7 @@ pub fn item(payload: &[u8], at: usize, number: u8) -> Result<Step, u8> {
 }
 
 /// The table's own loop, where num_descriptors stands at the place `at`.
-/// Refusals: 1 to 8, 45, 43, 44.
+/// Refusals: 1 to 8, 46, 45, 43, 44.
 pub fn own(payload: &[u8], at: usize) -> Result<Loop, u8> {
     read(payload)?;
     if at < FIRST_ITEM {
@@ -115,7 +115,7 @@ pub fn own(payload: &[u8], at: usize) -> Result<Loop, u8> {
 }
 
 /// The items of a section in their order. The header and the fixed fields are
-/// read once. Refusals: 1 to 8, 45, 43.
+/// read once. Refusals: 1 to 8, 46, 45, 43.
 pub fn items(payload: &[u8]) -> Result<Items<'_>, u8> {
     let programme = read(payload)?;
     Ok(Items {
@@ -414,8 +414,9 @@ mod tests {
         let payload = whole();
         for size in 8..74 {
             let payload = cut(&payload, size);
+            // Up to 13 bytes the key lacks, and up to 16 the fixed fields behind it.
             if size < 17 {
-                all_refuse(&payload, 43);
+                all_refuse(&payload, if size < 14 { 46 } else { 43 });
                 continue;
             }
             assert!(read(&payload).is_ok());
@@ -780,7 +781,46 @@ mod tests {
         payload[5] = 0xC7;
         all_refuse(&payload, 45);
         payload[0] = 0xDF;
-        all_refuse(&payload, 43);
+        all_refuse(&payload, 46);
+    }
+
+    #[test]
+    fn the_nrt_its_section_comes_first_too() {
+        // 1 to 8, then 46, then 43.
+        let mut payload = vec![0xDF, 0xF0, 0x04, 0x12, 0x34, 0xC6, 0x11, 0x10];
+        all_refuse(&payload[..7], 1);
+        all_refuse(&payload, 2);
+        payload[1] = 0x70;
+        all_refuse(&payload, 3);
+        payload[2] = 0x06;
+        all_refuse(&payload, 4);
+        payload.push(0);
+        payload[2] = 0x05;
+        all_refuse(&payload, 5);
+        payload.pop();
+        all_refuse(&payload, 6);
+        payload[6] = 0x10;
+        all_refuse(&payload, 7);
+        (payload[6], payload[7]) = (0, 0);
+        all_refuse(&payload, 8);
+        payload[5] = 0xC7;
+        for size in 8..17 {
+            payload.resize(size, 0);
+            payload[2] = (size - 3) as u8;
+            all_refuse(&payload, if size < 14 { 46 } else { 43 });
+        }
+        payload.push(0);
+        payload[2] = 14;
+        assert!(read(&payload).is_ok());
+    }
+
+    #[test]
+    fn the_key_is_the_sections() {
+        let payload = whole();
+        let section = section::read(&payload).unwrap();
+        let programme = read(&payload).unwrap();
+        assert_eq!(section.service_id, programme.service_id);
+        assert_eq!(section.time_span_start, programme.time_span_start);
     }
 
     #[test]
@@ -940,9 +980,11 @@ mod tests {
                     items: bits.field(8)? as u8,
                 })
             })();
-            assert_eq!(read(&payload), fixed.ok_or(43));
+            // The first two fields are of the key: 46 where they pass the end.
+            let lacking = if body.len() < 6 { 46 } else { 43 };
+            assert_eq!(read(&payload), fixed.ok_or(lacking));
             let Some(fixed) = fixed else {
-                all_refuse(&payload, 43);
+                all_refuse(&payload, lacking);
                 continue;
             };
 

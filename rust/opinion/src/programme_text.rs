@@ -1,5 +1,5 @@
 //! The text for staff: what a programme list on a shelf file holds (the house
-//! paper beside document 02, request 3).
+//! paper beside document 02, request 3; its first line by request 4).
 
 use crate::file;
 use crate::lister;
@@ -15,7 +15,7 @@ pub fn programmes(file: &[u8]) -> String {
     };
 
     let mut text = lister::first_line(&table);
-    if table.table_id != programme::TABLE_ID {
+    if table.key.table_id != programme::TABLE_ID {
         text.push_str("no programme list\n");
         return text;
     }
@@ -167,10 +167,10 @@ mod tests {
     #[test]
     fn every_line_of_the_paper() {
         let first = body(2, &[&LONG, &name(b"Ferry 3"), &TWO, &SHORT, &ONE]);
-        let file = file_of(1, &[(0, first), (1, vec![0; 8])]);
+        let file = file_of(1, &[(0, first), (1, FIXED.to_vec())]);
         assert_eq!(
             programmes(&file),
-            "table 223 key 4096 version 3 last 1\n\
+            "table 223 key 4096 service 3152 start 1000000800 version 3 last 1\n\
              section 0 service 3152 start 1000000800 minutes 1440 items 2\n\
              item 0 linkage 66\n\
              updates 1 fragment 0 protected 0 master 1 internet 0 broadcast 1\n\
@@ -196,7 +196,7 @@ mod tests {
         let long_name = [b'n'; 86];
         let file = file_of(0, &[(0, body(2, &[&LONG, &name(&long_name), &TWO]))]);
         let before = format!(
-            "table 223 key 4096 version 3 last 0\n\
+            "table 223 key 4096 service 3152 start 1000000800 version 3 last 0\n\
              section 0 service 3152 start 1000000800 minutes 1440 items 2\n\
              {LONG_LINES}name {}\ndescriptors 2 bytes 14\n",
             "n".repeat(86)
@@ -226,7 +226,7 @@ mod tests {
         assert_eq!(
             programmes(&file),
             format!(
-                "table 223 key 4096 version 3 last 1\n\
+                "table 223 key 4096 service 3152 start 1000000800 version 3 last 1\n\
                  section 0 service 3152 start 1000000800 minutes 1440 items 0\n\
                  list descriptors 0 bytes 0\n\
                  section 1 service 3152 start 1000000800 minutes 1440 items 1\n\
@@ -249,6 +249,74 @@ mod tests {
         next[8] = 0xC6;
         assert_eq!(programmes(&next), "refused 8\n");
         assert_eq!(programmes(&[&sound[..], &[0]].concat()), "refused 12\n");
+    }
+
+    #[test]
+    fn a_section_without_its_key_refuses_the_file() {
+        let good = body(0, &[&[0]]);
+        for size in 0..6 {
+            let short = FIXED[..size].to_vec();
+            let alone = file_of(0, &[(0, short.clone())]);
+            assert_eq!(programmes(&alone), "refused 46\n");
+            let second = file_of(1, &[(0, good.clone()), (1, short)]);
+            assert_eq!(programmes(&second), "refused 46\n");
+        }
+        // The key alone is a file; what lacks is said of the section.
+        for size in 6..9 {
+            let text = programmes(&file_of(0, &[(0, FIXED[..size].to_vec())]));
+            assert_eq!(
+                text,
+                "table 223 key 4096 service 3152 start 1000000800 version 3 last 0\n\
+                 section 0 refused 43 place 8\n\
+                 not whole\n"
+            );
+        }
+    }
+
+    #[test]
+    fn sections_of_two_lists_refuse_the_file() {
+        let good = body(0, &[&[0]]);
+        for place in 0..6 {
+            let mut other = good.clone();
+            other[place] ^= 1;
+            let file = file_of(1, &[(0, good.clone()), (1, other)]);
+            assert_eq!(programmes(&file), "refused 12\n");
+        }
+        // Another time_span_length is none of the key.
+        let mut other = good.clone();
+        other[7] ^= 1;
+        let file = file_of(1, &[(0, good.clone()), (1, other)]);
+        assert_eq!(
+            programmes(&file),
+            "table 223 key 4096 service 3152 start 1000000800 version 3 last 1\n\
+             section 0 service 3152 start 1000000800 minutes 1440 items 0\n\
+             list descriptors 0 bytes 0\n\
+             section 1 service 3152 start 1000000800 minutes 1441 items 0\n\
+             list descriptors 0 bytes 0\n\
+             whole\n"
+        );
+    }
+
+    #[test]
+    fn the_first_line_is_the_listers() {
+        let mut file = file_of(0, &[(0, body(0, &[&[0]]))]);
+        for table_id in 0..=255 {
+            file[3] = table_id;
+            let line = lister::list(&file).lines().next().map(String::from);
+            assert_eq!(programmes(&file).lines().next(), line.as_deref());
+            assert_eq!(line.unwrap().contains(" service "), table_id == 223);
+        }
+    }
+
+    #[test]
+    fn another_table_with_a_programme_lists_body_has_two_lines() {
+        // The body of another table is not looked at, though it could be a key.
+        let mut file = file_of(0, &[(0, body(0, &[&[0]]))]);
+        file[3] = 0xE1;
+        assert_eq!(
+            programmes(&file),
+            "table 225 key 4096 version 3 last 0\nno programme list\n"
+        );
     }
 
     #[test]
@@ -290,7 +358,7 @@ mod tests {
             assert_eq!(
                 programmes(&file_of(0, &[(0, body)])),
                 format!(
-                    "table 223 key 4096 version 3 last 0\n\
+                    "table 223 key 4096 service 3152 start 1000000800 version 3 last 0\n\
                      section 0 service 3152 start 1000000800 minutes 1440 items 1\n\
                      item 0 linkage 0\n\
                      {lines}name \n\
@@ -391,7 +459,7 @@ mod tests {
         let text = programmes(&file_of(0, &[(0, section)]));
         assert_eq!(
             text,
-            "table 223 key 4096 version 3 last 0\n\
+            "table 223 key 4096 service 65535 start 4294967295 version 3 last 0\n\
              section 0 service 65535 start 4294967295 minutes 2047 items 1\n\
              item 0 linkage 4294967295\n\
              updates 1 fragment 1 protected 1 master 1 internet 1 broadcast 1\n\
@@ -415,8 +483,8 @@ mod tests {
         let file = file_of(
             9,
             &[
-                // An empty body, then a good one.
-                (0, vec![]),
+                // A body of the key alone, then a good one.
+                (0, FIXED[..6].to_vec()),
                 (2, body(0, &[&[0]])),
                 // The second item's name runs out.
                 (3, body(2, &[&SHORT, &[0, 0, 0, 8, 0, 0, 9, b'n']])),
@@ -434,7 +502,7 @@ mod tests {
             name \n\
             descriptors 0 bytes 0\n";
         let expected = [
-            "table 223 key 4096 version 3 last 9\n",
+            "table 223 key 4096 service 3152 start 1000000800 version 3 last 9\n",
             "section 0 refused 43 place 8\n",
             &head(2, 0),
             good,
@@ -462,8 +530,9 @@ mod tests {
     fn each_refusal_alone_is_not_whole() {
         let good = body(0, &[&[0]]);
         for bad in [
-            vec![],
-            body(0, &[])[..8].to_vec(),
+            FIXED[..6].to_vec(),
+            FIXED[..7].to_vec(),
+            FIXED.to_vec(),
             body(1, &[]),
             body(0, &[]),
             body(0, &[&[0, 0]]),
@@ -479,7 +548,9 @@ mod tests {
     fn missing_sections() {
         let good = body(0, &[&[0]]);
         for number in 0..16 {
-            let mut expected = String::from("table 223 key 4096 version 3 last 15\n");
+            let mut expected = String::from(
+                "table 223 key 4096 service 3152 start 1000000800 version 3 last 15\n",
+            );
             expected.push_str(&format!(
                 "section {number} service 3152 start 1000000800 minutes 1440 items 0\n\
                  list descriptors 0 bytes 0\n"
@@ -521,9 +592,9 @@ mod tests {
             let mut sections = Vec::new();
             let last = dice.below(4) as u8;
             for number in 0..=last {
-                let size = dice.below(60);
-                let mut body = dice.bytes(size);
-                if size > 8 {
+                let size = dice.below(54);
+                let mut body = [&FIXED[..6], &dice.bytes(size)].concat();
+                if size > 2 {
                     body[8] %= 3;
                 }
                 sections.push((number, body));

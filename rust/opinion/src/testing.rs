@@ -24,6 +24,20 @@ pub fn section(
     bytes
 }
 
+/// A sound NRT-IT section: its key, then what follows the key.
+pub fn nrt_it(
+    (extension, service_id, time_span_start): (u16, u16, u32),
+    version: u8,
+    number: u8,
+    last: u8,
+    rest: &[u8],
+) -> Vec<u8> {
+    let mut body = service_id.to_be_bytes().to_vec();
+    body.extend(time_span_start.to_be_bytes());
+    body.extend_from_slice(rest);
+    section(0xDF, extension, version, number, last, &body)
+}
+
 /// A plain source of repeatable numbers (xorshift).
 pub struct Dice(pub u64);
 

@@ -82,10 +82,12 @@ fn did(answer: Result<Accepted, u8>) -> (String, u8) {
 fn tables(record: &Record) -> String {
     let mut text = String::new();
     for place in record.places.iter().filter(|place| place.taken) {
-        text += &format!(
-            "table {} key {} version {} last {}\n",
-            place.table_id, place.extension, place.version, place.last
-        );
+        let key = place.key;
+        text += &format!("table {} key {}", key.table_id, key.extension);
+        if key.table_id == 0xDF {
+            text += &format!(" service {} start {}", key.service_id, key.time_span_start);
+        }
+        text += &format!(" version {} last {}\n", place.version, place.last);
         let missing = (0..=place.last).filter(|n| place.lengths[usize::from(*n)] == 0);
         let missing: String = missing.map(|n| format!("missing {n}\n")).collect();
         text += if missing.is_empty() {
@@ -137,6 +139,17 @@ const CUT_OFF: u8 = 254;
 /// What is done to a recording before it is replayed.
 const ENDS: [&str; 4] = ["whole", "cut", "a byte changed", "a long spelling"];
 
+/// Makes a section that of a programme list with one extension, of two services and two starts, as far as it has room for them.
+fn listed(random: &mut Random, section: &mut [u8]) {
+    section[0] = 0xDF;
+    section[3..5].copy_from_slice(&[0x10, 0x01]);
+    let (service, start) = (random.below(2) as u8, random.below(2) as u8);
+    let rest = [0, 7 + service, 0x3B, 0x9A + start, 0xCD, 0x20];
+    for (byte, value) in section[8..].iter_mut().zip(rest) {
+        *byte = value;
+    }
+}
+
 /// Payloads of few tables, so that they meet on the shelf; some are broken, and some come twice.
 fn payloads(random: &mut Random) -> Vec<Vec<u8>> {
     let few: Vec<_> = (0..2 + random.below(4))
@@ -158,8 +171,12 @@ fn payloads(random: &mut Random) -> Vec<Vec<u8>> {
                 let mut fields = random.pick(&few);
                 fields.number = random.below(usize::from(fields.last) + 1) as u8;
                 fields.version ^= u8::from(random.once_in(12));
-                let size = random.pick(&[8, 9, 20, 127, 128, 1_024]);
-                sections::section(random, size, fields)
+                let size = random.pick(&[8, 9, 13, 14, 20, 127, 128, 1_024]);
+                let mut section = sections::section(random, size, fields);
+                if random.once_in(3) {
+                    listed(random, &mut section);
+                }
+                section
             }
         };
         payloads.push(one);
@@ -210,7 +227,7 @@ fn random_recordings() {
             said(&run(&[], &recording), &text, status);
         }
     }
-    let answers = [0, 1, 2, 3, 4, 5, 6, 7, 8, 9, 10, 11, CUT_OFF];
+    let answers = [0, 1, 2, 3, 4, 5, 6, 7, 8, 9, 10, 11, 46, CUT_OFF];
     tally.show(
         &format!("payloads of recordings, {CUT_OFF} where cut off, seed {SEED:#018X}"),
         &answers,
@@ -252,6 +269,39 @@ fn how_a_recording_ends() {
     // A payload that is refused does not end the recording, and is none of its faults.
     let text = format!("payload 1 bytes 0: {}\nno table is held\n", refused(1));
     said(&run(&[], &[0]), &text, 0);
+}
+
+/// Programme lists of two services, and of two starts, with one extension are told as tables of their own.
+#[test]
+fn two_services() {
+    let list = |version: u8, service: u8, start: u8| {
+        let head = [0xDF, 0x70, 0x0B, 0x10, 0x01, 0xC1 | version << 1, 0, 0];
+        led(&[&head[..], &[0, service, 0x3B, 0x9A, 0xCD, start]].concat())
+    };
+    let lists = [list(3, 7, 0x20), list(4, 8, 0x20), list(5, 7, 0x21)];
+    let recording = [lists.concat(), lists.concat()].concat();
+    let mut text = String::new();
+    for (n, did) in ["began", "began", "began", "repeat", "repeat", "repeat"]
+        .iter()
+        .enumerate()
+    {
+        text += &format!("payload {} bytes 14: {did}\n", n + 1);
+    }
+    for (version, service, start) in [
+        (3, 7, 1_000_000_800),
+        (4, 8, 1_000_000_800),
+        (5, 7, 1_000_000_801),
+    ] {
+        text += &format!("table 223 key 4097 service {service} start {start} version {version} last 0\ncomplete\n");
+    }
+    assert_eq!(expected(&recording, &mut |_| {}), (text.clone(), 0));
+    said(&run(&[], &recording), &text, 0);
+    // One that has no room for its key is refused, and is none of the recording's faults.
+    let short = led(&[
+        0xDF, 0x70, 0x0A, 0x10, 0x01, 0xC7, 0, 0, 0, 7, 0x3B, 0x9A, 0xCD,
+    ]);
+    let text = format!("payload 1 bytes 13: {}\nno table is held\n", refused(46));
+    said(&run(&[], &short), &text, 0);
 }
 
 /// A row's bytes as samples/README.md writes them: two digits each in a text between marks, and `N times` of one.
@@ -311,7 +361,13 @@ fn the_sample() {
 fn words() {
     let usage = "usage: khumsafil-offer [FILE]\n\
                  without FILE, or with -, the recording is on the standard input";
-    for wrong in [&["a", "b"][..], &["--no-such-word"], &["-", "-"], &["-x"], &[""]] {
+    for wrong in [
+        &["a", "b"][..],
+        &["--no-such-word"],
+        &["-", "-"],
+        &["-x"],
+        &[""],
+    ] {
         silent(&run(wrong, &[]), usage, 2);
     }
     said(&run(&["--help"], &[]), &format!("{usage}\n"), 0);
@@ -322,14 +378,30 @@ fn words() {
 fn what_the_system_refuses() {
     let folder = File::open(top(".")).expect("a folder");
     let output = replay(&[]).stdin(folder).output();
-    silent(&output.expect("the replay ends"), "khumsafil-offer: read failed", 1);
+    silent(
+        &output.expect("the replay ends"),
+        "khumsafil-offer: read failed",
+        1,
+    );
     let folder = top("samples");
     let output = replay(&[folder.to_str().expect("a path")]).output();
-    silent(&output.expect("the replay ends"), "khumsafil-offer: read failed", 1);
+    silent(
+        &output.expect("the replay ends"),
+        "khumsafil-offer: read failed",
+        1,
+    );
     let nowhere = top("samples/there is no such file");
-    let output = replay(&[nowhere.to_str().expect("a path")]).output().expect("the replay ends");
+    let output = replay(&[nowhere.to_str().expect("a path")])
+        .output()
+        .expect("the replay ends");
     let why = String::from_utf8_lossy(&output.stderr);
-    assert!(why.starts_with(&format!("khumsafil-offer: {} cannot be read: ", nowhere.display())), "{why}");
+    assert!(
+        why.starts_with(&format!(
+            "khumsafil-offer: {} cannot be read: ",
+            nowhere.display()
+        )),
+        "{why}"
+    );
     assert_eq!((output.status.code(), output.stdout.len()), (Some(2), 0));
     let full = OpenOptions::new().write(true).open("/dev/full");
     let child = replay(&[])
@@ -337,5 +409,9 @@ fn what_the_system_refuses() {
         .stderr(Stdio::piped())
         .spawn();
     let output = child.expect("the replay starts").wait_with_output();
-    silent(&output.expect("the replay ends"), "khumsafil-offer: write failed", 1);
+    silent(
+        &output.expect("the replay ends"),
+        "khumsafil-offer: write failed",
+        1,
+    );
 }

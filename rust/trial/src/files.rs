@@ -1,5 +1,7 @@
 //! Files that are tables, or nearly.
 
+use crate::keys::{NRT_IT, NRT_IT_KEY_END};
+use crate::programmes::mend;
 use crate::random::Random;
 use crate::sections::{self, Fields};
 use opinion::file::write_number;
@@ -26,14 +28,15 @@ impl Parts {
     /// A sound file of a table with these fields. Bodies are mostly small, as the size of one changes little.
     pub fn random(random: &mut Random, table: Fields) -> Parts {
         let all = random.once_in(6);
+        let least = table.least();
         let mut sections = Vec::new();
         for number in 0..=table.last {
             if all || random.once_in(2) || number == table.number {
                 let size = match random.below(60) {
                     0 => random.pick(&[127, 128, 129, 1_023, 1_024]),
-                    1 => 8 + random.below(1_017),
-                    2..=20 => 8,
-                    _ => 8 + random.below(12),
+                    1 => least + random.below(1_025 - least),
+                    2..=20 => least,
+                    _ => least + random.below(12),
                 };
                 let fields = Fields { number, ..table };
                 sections.push(sections::section(random, size, fields));
@@ -54,7 +57,7 @@ impl Parts {
 }
 
 /// What is done to a file before both read it.
-pub const KINDS: [&str; 14] = [
+pub const KINDS: [&str; 20] = [
     "noise",
     "sound",
     "a byte changed",
@@ -69,6 +72,12 @@ pub const KINDS: [&str; 14] = [
     "a section broken",
     "another table's",
     "two alike",
+    "another table id",
+    "another extension",
+    "another service",
+    "another start, high",
+    "another start, low",
+    "too short for a key",
 ];
 
 /// A file of the kind from a sound one.
@@ -112,6 +121,29 @@ pub fn damaged(random: &mut Random, kind: &str, mut parts: Parts) -> Vec<u8> {
             let bytes = &mut parts.sections[one].1;
             bytes[at] ^= 1 << random.below(8);
         }
+        // One field of one section's key, or of another table the bytes that stand there.
+        "another table id" => {
+            let bytes = &mut parts.sections[one].1;
+            bytes[0] = match bytes[0] {
+                NRT_IT => NRT_IT ^ 1 << random.below(8),
+                _ => NRT_IT,
+            };
+        }
+        "another extension" => change(random, &mut parts, one, 3),
+        "another service" => change(random, &mut parts, one, 8),
+        "another start, high" => change(random, &mut parts, one, 10),
+        "another start, low" => change(random, &mut parts, one, 12),
+        "too short for a key" => {
+            let mut bytes = parts.sections[one].1.clone();
+            bytes.truncate(8 + random.below(NRT_IT_KEY_END - 8));
+            mend(&mut bytes);
+            parts.sections[one] = (write_number(bytes.len() as u16), bytes);
+            // Another fault of it, or one before or behind it.
+            if random.once_in(3) {
+                let at = random.pick(&[0, 3, 4, 5, 6, 7]);
+                parts.sections[other].1[at] ^= 1 << random.below(8);
+            }
+        }
         "two alike" => {
             let again = parts.sections[one].clone();
             parts.sections.insert(one, again);
@@ -141,6 +173,14 @@ pub fn damaged(random: &mut Random, kind: &str, mut parts: Parts) -> Vec<u8> {
     }
     bytes.shrink_to_fit();
     bytes
+}
+
+/// Changes a bit of the two bytes from a place of one section, where they are there.
+fn change(random: &mut Random, parts: &mut Parts, one: usize, place: usize) {
+    let bit = random.below(16);
+    if let Some(byte) = parts.sections[one].1.get_mut(place + bit / 8) {
+        *byte ^= 1 << (bit % 8);
+    }
 }
 
 /// Spells a number in more bytes than it needs, or one that is too great.

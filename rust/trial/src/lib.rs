@@ -9,6 +9,7 @@ pub mod commands;
 pub mod declarations;
 pub mod files;
 pub mod inputs;
+pub mod keys;
 pub mod loops;
 pub mod programmes;
 pub mod random;

@@ -1,12 +1,13 @@
 //! Programme lists, or nearly.
 
 use crate::files::{self, Parts};
+use crate::keys::{self, Key, NRT_IT};
 use crate::loops;
 use crate::random::Random;
 use crate::sections::{self, put_header, Fields};
 
 /// The table id of a programme list, the place of its first item, and the most bytes of a section.
-pub const TABLE: u8 = 0xDF;
+pub const TABLE: u8 = NRT_IT;
 pub const FIRST: usize = 17;
 pub const MOST: usize = 1_024;
 
@@ -103,12 +104,20 @@ fn put_item(random: &mut Random, made: &mut Made, shape: Shape) {
     made.counts.push(put_loop(random, bytes, count));
 }
 
+/// The fields of a section of any list.
+fn fields(random: &mut Random) -> Fields {
+    Fields {
+        key: Key {
+            table_id: TABLE,
+            ..keys::any(random)
+        },
+        ..Fields::random(random)
+    }
+}
+
 /// A sound list of items of a shape, as many as fit, up to so many bytes before its own loop.
 pub fn of_shape(random: &mut Random, shape: Shape, room: usize) -> Made {
-    let fields = Fields {
-        table_id: TABLE,
-        ..Fields::random(random)
-    };
+    let fields = fields(random);
     let mut made = Made {
         payload: random.bytes(FIRST),
         counts: Vec::new(),
@@ -237,10 +246,7 @@ pub fn payload(random: &mut Random, kind: &str) -> Vec<u8> {
         "a body of noise" => {
             // Small numbers, so that names, counts and lengths often end inside.
             let size = 8 + random.below(120);
-            let fields = Fields {
-                table_id: TABLE,
-                ..Fields::random(random)
-            };
+            let fields = fields(random);
             *payload = random.bytes(size);
             payload.iter_mut().for_each(|b| *b %= 8);
             put_header(payload, fields, random.byte());
@@ -318,10 +324,10 @@ const IN_A_FILE: [&str; 9] = [
 
 /// A shelf file of a programme list, or of another table, of the kind that [`files::damaged`] makes. Its lists are whole, or not.
 pub fn file(random: &mut Random, kind: &str) -> Vec<u8> {
-    let mut table = Fields::random(random);
-    if !random.once_in(10) {
-        table.table_id = TABLE;
-    }
+    let mut table = match random.below(10) {
+        0 => Fields::random(random),
+        _ => fields(random),
+    };
     table.last = random.pick(&[0, 0, 1, 2, table.last]);
     table.number = random.below(usize::from(table.last) + 1) as u8;
     let (all, sound) = (random.once_in(2), random.once_in(2));
@@ -348,10 +354,7 @@ pub fn file(random: &mut Random, kind: &str) -> Vec<u8> {
 
 /// A shelf file of sixteen sound lists of items of a shape, each of exactly 1,024 bytes: as large as a file can be.
 pub fn full_file(random: &mut Random, shape: Shape) -> Vec<u8> {
-    let mut table = Fields {
-        table_id: TABLE,
-        ..Fields::random(random)
-    };
+    let mut table = fields(random);
     table.last = 15;
     let sections = (0..=table.last).map(|number| {
         let mut payload = full(random, shape).payload;

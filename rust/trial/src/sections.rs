@@ -1,15 +1,16 @@
 //! Payloads that are sections, or nearly.
 
+use crate::keys::{self, Key, NRT_IT, NRT_IT_KEY_END};
 use crate::random::Random;
 
 /// The longest payload that is tried; the longest section is 1,024 bytes.
 pub const LONGEST: usize = 1_100;
 
-/// The fields of a section's header that are not set by its size.
+/// What a section says that is not set by its size. Of another table than an NRT-IT the added numbers of the key are the first
+/// bytes of the body, which mean nothing.
 #[derive(Clone, Copy)]
 pub struct Fields {
-    pub table_id: u8,
-    pub extension: u16,
+    pub key: Key,
     pub version: u8,
     pub number: u8,
     pub last: u8,
@@ -20,25 +21,39 @@ impl Fields {
     pub fn random(random: &mut Random) -> Fields {
         let last = random.below(16) as u8;
         Fields {
-            table_id: random.byte(),
-            extension: random.word() as u16,
+            key: keys::random(random),
             version: random.below(32) as u8,
             number: random.below(usize::from(last) + 1) as u8,
             last,
         }
     }
+
+    pub fn is_nrt_it(&self) -> bool {
+        self.key.table_id == NRT_IT
+    }
+
+    /// The fewest bytes of a sound section of this table.
+    pub fn least(&self) -> usize {
+        if self.is_nrt_it() {
+            NRT_IT_KEY_END
+        } else {
+            8
+        }
+    }
 }
 
 /// Writes the header of a section of `payload.len()` bytes over its first eight, as far as they are there. The
-/// reserved bits are taken from `reserved`. A size that the length field cannot say loses its high bits.
+/// reserved bits are taken from `reserved`. A size that the length field cannot say loses its high bits. Behind the header follow
+/// the added numbers of the key, as far as there is room; of another table than an NRT-IT where they are not 0.
 pub fn put_header(payload: &mut [u8], fields: Fields, reserved: u8) {
+    put_rest(payload, fields.key);
     let length = payload.len().wrapping_sub(3) as u16 & 0x0FFF;
     let header = [
-        fields.table_id,
+        fields.key.table_id,
         0x40 | reserved & 0x30 | (length >> 8) as u8,
         length as u8,
-        (fields.extension >> 8) as u8,
-        fields.extension as u8,
+        (fields.key.extension >> 8) as u8,
+        fields.key.extension as u8,
         reserved & 0xC0 | fields.version << 1 | 1,
         fields.number,
         fields.last,
@@ -47,7 +62,24 @@ pub fn put_header(payload: &mut [u8], fields: Fields, reserved: u8) {
     payload[..there].copy_from_slice(&header[..there]);
 }
 
-/// A section of `size` bytes with a random body and random reserved bits: sound if `size` is 8 to 1,024.
+/// The added numbers of a key as they stand behind the header.
+pub fn rest(key: Key) -> [u8; 6] {
+    let ([a, b], [c, d, e, f]) = (
+        key.service_id.to_be_bytes(),
+        key.time_span_start.to_be_bytes(),
+    );
+    [a, b, c, d, e, f]
+}
+
+fn put_rest(payload: &mut [u8], key: Key) {
+    let added = rest(key);
+    if key.table_id == NRT_IT || added != [0; 6] {
+        let there = payload.iter_mut().skip(8).zip(added);
+        there.for_each(|(byte, value)| *byte = value);
+    }
+}
+
+/// A section of `size` bytes with a random body and random reserved bits: sound if `size` is 8 to 1,024, of an NRT-IT 14 to 1,024.
 pub fn section(random: &mut Random, size: usize, fields: Fields) -> Vec<u8> {
     let mut payload = random.bytes(size);
     put_header(&mut payload, fields, random.byte());
@@ -66,9 +98,14 @@ pub const KINDS: [&str; 8] = [
     "one byte more",
 ];
 
-/// A payload of the kind from a section of `size` bytes.
+/// A payload of the kind from a section of `size` bytes of any table.
 pub fn payload(random: &mut Random, kind: &str, size: usize) -> Vec<u8> {
     let fields = Fields::random(random);
+    payload_of(random, kind, size, fields)
+}
+
+/// A payload of the kind from a section of `size` bytes.
+pub fn payload_of(random: &mut Random, kind: &str, size: usize, fields: Fields) -> Vec<u8> {
     let mut payload = section(random, size, fields);
     match kind {
         "noise" => payload = random.bytes(size),

@@ -1,18 +1,25 @@
 //! Shelf records as they are lent, and random calls on them.
 
 use crate::files::{self, Parts};
+use crate::keys::{self, Key, NRT_IT};
 use crate::random::Random;
 use crate::sections::{self, Fields};
-use khumsafil::shelf::{Key, RECORD};
+use khumsafil::shelf::{Key as OurKey, LARGEST_SECTION, RECORD};
 use opinion::shelf::{Place, Record, PLACES, SECTIONS};
 
-/// Where the heads begin, of four numbers each, and where the masks do. Before them are the lengths, sixteen for each place.
+/// Where the heads begin, of four numbers each, where the masks do, and where the rests of the keys do, of three numbers each.
+/// Before them are the lengths, sixteen for each place.
 const HEADS: usize = 64;
 const MASKS: usize = 80;
+pub const RESTS: usize = 84;
 
-/// Where the head of a place begins, and its lengths.
+/// Where the head of a place begins, the rest of its key, and its lengths.
 fn head(p: usize) -> usize {
     HEADS + 4 * p
+}
+
+pub fn rest(p: usize) -> std::ops::Range<usize> {
+    RESTS + 3 * p..RESTS + 3 * p + 3
 }
 
 fn lengths(p: usize) -> usize {
@@ -21,6 +28,17 @@ fn lengths(p: usize) -> usize {
 
 fn taken(numbers: &[u16; RECORD], p: usize) -> bool {
     numbers[head(p)] >> 8 == 1
+}
+
+/// Whether the place is taken by an NRT-IT, of which alone the rest of the key means something.
+fn nrt_it(numbers: &[u16; RECORD], p: usize) -> bool {
+    taken(numbers, p) && numbers[head(p)] as u8 == NRT_IT
+}
+
+/// The rest of a key in the three numbers of a record.
+pub fn rest_of(key: Key) -> [u16; 3] {
+    let start = key.time_span_start;
+    [key.service_id, (start >> 16) as u16, start as u16]
 }
 
 /// A number of 16 bits as one of 8, which cannot show more than 255.
@@ -32,12 +50,23 @@ fn capped(n: u16) -> u8 {
 pub fn decode(numbers: &[u16; RECORD]) -> Record {
     let place = |p: usize| {
         let of = &numbers[head(p)..head(p) + 4];
+        let [service_id, high, low] = numbers[rest(p)].try_into().expect("three numbers");
         let held = |n: usize| numbers[MASKS + p] >> n & 1 == 1;
-        let length = |n: usize| if held(n) { numbers[lengths(p) + n].max(1) } else { 0 };
+        let length = |n: usize| {
+            if held(n) {
+                numbers[lengths(p) + n].max(1)
+            } else {
+                0
+            }
+        };
         Place {
             taken: taken(numbers, p),
-            table_id: of[0] as u8,
-            extension: of[1],
+            key: Key {
+                table_id: of[0] as u8,
+                extension: of[1],
+                service_id,
+                time_span_start: u32::from(high) << 16 | u32::from(low),
+            },
             version: capped(of[2]),
             last: capped(of[3]),
             lengths: std::array::from_fn(length),
@@ -65,8 +94,8 @@ fn write_place(numbers: &mut [u16; RECORD], p: usize, place: &Place) {
     if place.taken {
         mask = 0;
         of = [
-            256 + u16::from(place.table_id),
-            place.extension,
+            256 + u16::from(place.key.table_id),
+            place.key.extension,
             place.version.into(),
             place.last.into(),
         ];
@@ -79,11 +108,17 @@ fn write_place(numbers: &mut [u16; RECORD], p: usize, place: &Place) {
     numbers[MASKS + p] = mask;
 }
 
-/// The record that is promised after a call that did this to the places: nothing is written but what changed.
+/// The record that is promised after a call that did this to the places: nothing is written but what changed. The rest of the key
+/// is written where a table begins, begins again or is loaded, and is 0 of every table but an NRT-IT.
 pub fn promised(before: &[u16; RECORD], from: &Record, to: &Record) -> [u16; RECORD] {
     let mut numbers = *before;
     for p in (0..PLACES).filter(|p| from.places[*p] != to.places[*p]) {
-        write_place(&mut numbers, p, &to.places[p]);
+        let (was, is) = (&from.places[p], &to.places[p]);
+        write_place(&mut numbers, p, is);
+        let added = was.taken && was.version == is.version;
+        if is.taken && !added {
+            numbers[rest(p)].copy_from_slice(&rest_of(is.key.proper()));
+        }
     }
     numbers
 }
@@ -97,8 +132,8 @@ pub fn begun() -> [u16; RECORD] {
     numbers
 }
 
-/// Writes anything where a record has no meaning: in the numbers of a free place, which stays free, and in the lengths of
-/// what is not held. It is the same record then.
+/// Writes anything where a record has no meaning: in the numbers of a free place, which stays free, in the lengths of
+/// what is not held, and in the rest of the key of a table that is no NRT-IT. It is the same record then.
 pub fn litter(random: &mut Random, numbers: &mut [u16; RECORD]) {
     for p in 0..PLACES {
         let free = !taken(numbers, p);
@@ -110,10 +145,24 @@ pub fn litter(random: &mut Random, numbers: &mut [u16; RECORD]) {
                 numbers[at] = random.word() as u16;
             }
         }
+        if !nrt_it(numbers, p) {
+            scatter(random, &mut numbers[rest(p)]);
+        }
         for n in 0..SECTIONS {
             if free || numbers[MASKS + p] >> n & 1 == 0 {
                 numbers[lengths(p) + n] = random.pick(&[0, 1, 8, 1_024, 65_535]);
             }
+        }
+    }
+}
+
+/// Any numbers, or those of a key that histories have.
+fn scatter(random: &mut Random, rest: &mut [u16]) {
+    match random.below(2) {
+        0 => rest.iter_mut().for_each(|n| *n = random.word() as u16),
+        _ => {
+            let (_, six) = random.pick(&keys::SETS);
+            rest.copy_from_slice(&rest_of(random.pick(&six)));
         }
     }
 }
@@ -123,11 +172,18 @@ pub fn litter(random: &mut Random, numbers: &mut [u16; RECORD]) {
 pub enum Call {
     Begin,
     Offer(Vec<u8>),
-    Complete(Key),
-    Missing(Key),
-    Copy { key: Key, number: u8, room: usize },
-    Release(Key),
-    Save { key: Key, room: usize },
+    Complete(OurKey),
+    Missing(OurKey),
+    Copy {
+        key: OurKey,
+        number: u8,
+        room: usize,
+    },
+    Release(OurKey),
+    Save {
+        key: OurKey,
+        room: usize,
+    },
     Load(Vec<u8>),
 }
 
@@ -148,7 +204,9 @@ impl Call {
 
 /// How a history is drawn: few keys, versions, numbers and bodies, so that repeats and conflicts are common.
 pub struct Way {
-    keys: usize,
+    /// The name of its keys among [`keys::SETS`].
+    pub of: &'static str,
+    keys: Vec<Key>,
     versions: usize,
     last: u8,
     bodies: usize,
@@ -161,8 +219,11 @@ pub struct Way {
 impl Way {
     pub fn random(random: &mut Random) -> Way {
         let size = 8 + random.below(1_017);
+        let (of, six) = random.pick(&keys::SETS);
+        let some = random.pick(&[1, 2, 4, 5, 6]);
         Way {
-            keys: random.pick(&[1, 2, 4, 5, 6]),
+            of,
+            keys: six[..some].to_vec(),
             versions: random.pick(&[1, 1, 2, 3]),
             last: random.pick(&[0, 1, 2, 3, 15]),
             bodies: random.pick(&[1, 1, 2, 4]),
@@ -172,10 +233,26 @@ impl Way {
         }
     }
 
-    /// Keys that share a table id or an extension.
     fn key(&self, random: &mut Random) -> Key {
-        let i = random.below(self.keys);
-        Key::new([201, 201, 7, 7, 0, 255][i], [4_660, 52, 4_660, 52, 0, 65_535][i])
+        random.pick(&self.keys)
+    }
+
+    /// A key to ask with: of the history, near one of its keys, or any. Of another table than an NRT-IT the added numbers are often
+    /// others than those that stand in its sections.
+    fn asked(&self, random: &mut Random) -> Key {
+        let mut key = match random.below(30) {
+            0 => keys::any(random),
+            1..=5 => {
+                let (field, key) = (random.pick(&keys::FIELDS), self.key(random));
+                keys::another(random, field, key)
+            }
+            _ => self.key(random),
+        };
+        if key.table_id != NRT_IT && random.once_in(3) {
+            key.service_id = random.word() as u16;
+            key.time_span_start = random.word() as u32;
+        }
+        key
     }
 
     fn fields(&self, random: &mut Random) -> Fields {
@@ -189,8 +266,7 @@ impl Way {
             _ => random.below(self.versions) as u8,
         };
         Fields {
-            table_id: key.table_id,
-            extension: key.extension,
+            key,
             version,
             number: random.below(usize::from(last) + 1) as u8,
             last,
@@ -201,7 +277,12 @@ impl Way {
     fn section(&self, random: &mut Random) -> Vec<u8> {
         let fields = self.fields(random);
         let body = random.below(self.bodies);
-        let mut bytes = vec![body as u8; self.sizes[body % 2]];
+        let mut size = self.sizes[body % 2];
+        // Few NRT-ITs are too short for their key.
+        if fields.is_nrt_it() && !random.once_in(16) {
+            size = (size + fields.least() - 8).min(LARGEST_SECTION);
+        }
+        let mut bytes = vec![body as u8; size];
         // Reserved bits have no meaning, and yet are bytes that a repeat has to have.
         let reserved = match random.below(30) {
             0 => random.byte(),
@@ -247,17 +328,13 @@ impl Way {
 
     /// The next call on a record, with the files that were saved before.
     pub fn call(&self, random: &mut Random, record: &Record, saved: &[Vec<u8>]) -> Call {
+        let asked = self.asked(random);
+        let key = keys::for_us(asked);
         if random.once_in(self.releases) {
-            return Call::Release(self.key(random));
+            return Call::Release(key);
         }
-        let key = match random.below(30) {
-            0 => Key::new(random.byte(), random.word() as u16),
-            _ => self.key(random),
-        };
-        let held = record
-            .places
-            .iter()
-            .find(|p| p.taken && p.table_id == key.table_id && p.extension == key.extension);
+        let mut places = record.places.iter();
+        let held = places.find(|p| p.taken && p.key.proper() == asked.proper());
         let around = |random: &mut Random, size: usize| match random.below(6) {
             0 => size + 1 + random.below(9),
             1 => size.saturating_sub(1),
@@ -290,11 +367,12 @@ impl Way {
     }
 }
 
-/// The ways in which a record is spoiled, and three in which it is not.
-pub const SPOILS: [&str; 11] = [
+/// The ways in which a record is spoiled, and some in which it is not.
+pub const SPOILS: [&str; 17] = [
     "another mark of taken",
     "a free place filled",
     "a length changed",
+    "another key",
     "a version above 31",
     "a last above 15",
     "held above the last",
@@ -302,11 +380,41 @@ pub const SPOILS: [&str; 11] = [
     "a length over 1,024",
     "nothing held",
     "two of one key",
+    "two NRT-ITs of one key",
+    "two of another id's key",
+    "two services",
+    "two starts, high",
+    "two starts, low",
     "any numbers",
 ];
 
 /// The ways that 18 names, each of which spoils every record that has a taken place.
-pub const NAMED: std::ops::Range<usize> = 3..10;
+pub const NAMED: std::ops::Range<usize> = 4..13;
+
+/// The ways in which two NRT-ITs are alike but for one field of their keys, which spoil no record.
+pub const APART: std::ops::Range<usize> = 13..16;
+
+/// Puts what a place has into another place too, with any version, which is no part of the key.
+fn put_twice(random: &mut Random, numbers: &mut [u16; RECORD], p: usize) -> usize {
+    let other = (p + 1 + random.below(PLACES - 1)) % PLACES;
+    numbers.copy_within(lengths(p)..lengths(p + 1), lengths(other));
+    numbers.copy_within(head(p)..head(p) + 4, head(other));
+    numbers.copy_within(rest(p), rest(other).start);
+    numbers[MASKS + other] = numbers[MASKS + p];
+    numbers[head(other) + 2] = random.pick(&[0, 31]);
+    other
+}
+
+/// Makes a taken place an NRT-IT's, or another table's, where it is not.
+fn put_table_id(random: &mut Random, numbers: &mut [u16; RECORD], p: usize, as_nrt_it: bool) {
+    let id = match as_nrt_it {
+        true => NRT_IT,
+        false => random.pick(&[0xDE, 201, 0, 255]),
+    };
+    if nrt_it(numbers, p) != as_nrt_it {
+        numbers[head(p)] = 256 + u16::from(id);
+    }
+}
 
 /// Spoils a record in a way. Of what the way needs, a taken place is put there first if there is none.
 pub fn spoil(random: &mut Random, way: &str, record: &[u16; RECORD]) -> [u16; RECORD] {
@@ -332,17 +440,35 @@ pub fn spoil(random: &mut Random, way: &str, record: &[u16; RECORD]) -> [u16; RE
         "a free place filled" => {
             if !free.is_empty() {
                 let p = random.pick(&free);
-                for at in [head(p)..head(p) + 4, MASKS + p..MASKS + p + 1, lengths(p)..lengths(p + 1)] {
-                    numbers[at].iter_mut().for_each(|n| *n = random.word() as u16);
+                for at in [
+                    head(p)..head(p) + 4,
+                    MASKS + p..MASKS + p + 1,
+                    lengths(p)..lengths(p + 1),
+                    rest(p),
+                ] {
+                    numbers[at]
+                        .iter_mut()
+                        .for_each(|n| *n = random.word() as u16);
                 }
                 if taken(&numbers, p) {
                     numbers[head(p)] &= 0xFF;
                 }
             }
         }
-        "a length changed" => hold(&mut numbers, random.pick(&[8, 9, 20, 1_023, 1_024])),
-        "a version above 31" => numbers[head(p) + 2] = random.pick(&[32, 33, 64, 255, 256, 287, 65_535]),
-        "a last above 15" => numbers[head(p) + 3] = random.pick(&[16, 17, 128, 255, 256, 271, 65_535]),
+        "a length changed" => hold(&mut numbers, random.pick(&[8, 9, 13, 14, 20, 1_023, 1_024])),
+        // The table id, the extension, or one of the numbers that mean something of an NRT-IT alone.
+        "another key" => {
+            let rest = rest(p).start;
+            let at = random.pick(&[head(p), head(p) + 1, rest, rest + 1, rest + 2]);
+            let bits = if at == head(p) { 8 } else { 16 };
+            numbers[at] ^= 1 << random.below(bits);
+        }
+        "a version above 31" => {
+            numbers[head(p) + 2] = random.pick(&[32, 33, 64, 255, 256, 287, 65_535])
+        }
+        "a last above 15" => {
+            numbers[head(p) + 3] = random.pick(&[16, 17, 128, 255, 256, 271, 65_535])
+        }
         "held above the last" => {
             let last = random.below(15);
             numbers[head(p) + 3] = last as u16;
@@ -352,14 +478,44 @@ pub fn spoil(random: &mut Random, way: &str, record: &[u16; RECORD]) -> [u16; RE
         "a length over 1,024" => hold(&mut numbers, random.pick(&[1_025, 1_026, 32_768, 65_535])),
         "nothing held" => numbers[MASKS + p] = 0,
         "two of one key" => {
-            let other = (p + 1 + random.below(PLACES - 1)) % PLACES;
-            numbers.copy_within(lengths(p)..lengths(p + 1), lengths(other));
-            numbers.copy_within(head(p)..head(p) + 4, head(other));
-            numbers[MASKS + other] = numbers[MASKS + p];
-            // The version is no part of the key.
-            numbers[head(other) + 2] = random.pick(&[0, 31]);
+            put_twice(random, &mut numbers, p);
+        }
+        "two NRT-ITs of one key" => {
+            put_table_id(random, &mut numbers, p, true);
+            put_twice(random, &mut numbers, p);
+        }
+        "two of another id's key" => {
+            put_table_id(random, &mut numbers, p, false);
+            let other = put_twice(random, &mut numbers, p);
+            // What stands there tells no two of them apart.
+            scatter(random, &mut numbers[rest(p)]);
+            scatter(random, &mut numbers[rest(other)]);
+        }
+        "two services" | "two starts, high" | "two starts, low" => {
+            put_table_id(random, &mut numbers, p, true);
+            let other = put_twice(random, &mut numbers, p);
+            let at = SPOILS[APART].iter().position(|apart| *apart == way);
+            let at = rest(other).start + at.expect("a number of a key");
+            // Another key than that of each place.
+            while same_key(&numbers, other) {
+                numbers[at] = match random.below(2) {
+                    0 => numbers[at] ^ 1 << random.below(16),
+                    _ => random.word() as u16,
+                };
+            }
+            // Nor may the place itself have become one key with another.
+            if same_key(&numbers, p) {
+                return *record;
+            }
         }
         _ => numbers.iter_mut().for_each(|n| *n = random.word() as u16),
     }
     numbers
+}
+
+/// Whether another taken place has the key of this one.
+fn same_key(numbers: &[u16; RECORD], p: usize) -> bool {
+    let Record { places } = decode(numbers);
+    let key = |q: usize| places[q].key.proper();
+    (0..PLACES).any(|q| q != p && places[q].taken && key(q) == key(p))
 }

@@ -36,6 +36,11 @@ impl Tally {
         one.map(|(_, n)| n).sum()
     }
 
+    /// How often a kind of input met the answer.
+    pub fn met(&self, kind: &'static str, answer: u8) -> u64 {
+        self.counts.get(&(kind, answer)).copied().unwrap_or(0)
+    }
+
     pub fn total(&self) -> u64 {
         self.counts.values().sum()
     }
@@ -51,9 +56,9 @@ impl Tally {
         kinds.dedup();
         for kind in kinds {
             print!("{kind:>24}");
-            for a in answers {
-                print!("{:>9}", self.counts.get(&(kind, *a)).unwrap_or(&0));
-            }
+            answers
+                .iter()
+                .for_each(|a| print!("{:>9}", self.met(kind, *a)));
             println!();
         }
         print!("{:>24}", "all");
@@ -67,5 +72,39 @@ impl Tally {
         }
         let known: u64 = answers.iter().map(|a| self.of(*a)).sum();
         assert_eq!(known, self.total(), "an answer that is none of these");
+    }
+}
+
+/// How often each of some cases was met, which are not answers.
+#[derive(Default)]
+pub struct Cases {
+    counts: BTreeMap<&'static str, u64>,
+}
+
+impl Cases {
+    pub fn note(&mut self, case: &'static str) {
+        *self.counts.entry(case).or_default() += 1;
+    }
+
+    pub fn note_if(&mut self, met: bool, case: &'static str) {
+        if met {
+            self.note(case);
+        }
+    }
+
+    /// Prints a row for each case, and fails where one was met more seldom than so often, or is none of these.
+    pub fn show(&self, title: &str, cases: &[&'static str], least: u64) {
+        println!("{title}:");
+        for case in cases {
+            println!("{:>12} {case}", self.counts.get(case).unwrap_or(&0));
+        }
+        for case in cases {
+            common(self.counts.get(case).copied().unwrap_or(0), least);
+        }
+        let known = |case: &&str| cases.contains(case);
+        assert!(
+            self.counts.keys().all(known),
+            "a case that is none of these"
+        );
     }
 }

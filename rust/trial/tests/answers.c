@@ -21,10 +21,21 @@ static const uint8_t *section(uint8_t version, uint8_t number, uint8_t last) {
     return made;
 }
 
+/* Section `number` of 0 to 1 of an NRT-IT that ends with its key: key 4097, that service and start, that version. */
+static const uint8_t *listed(uint16_t service, uint32_t start, uint8_t version, uint8_t number) {
+    static uint8_t made[] = {0xDF, 0x70, 0x0B, 0x10, 0x01, 0, 0, 1, 0, 0, 0, 0, 0, 0};
+    made[5] = (uint8_t)(0xC1 | version << 1), made[6] = number;
+    made[8] = (uint8_t)(service >> 8), made[9] = (uint8_t)service;
+    made[10] = (uint8_t)(start >> 24), made[11] = (uint8_t)(start >> 16);
+    made[12] = (uint8_t)(start >> 8), made[13] = (uint8_t)start;
+    return made;
+}
+#define LISTED 14
+
 static int version_and_words(void) {
     unsigned number;
     EXPECT(khumsafil_version() == KHUMSAFIL_VERSION);
-    EXPECT(strcmp(KHUMSAFIL_VERSION_TEXT, "0.4.0") == 0 && KHUMSAFIL_VERSION == 4 * 256);
+    EXPECT(strcmp(KHUMSAFIL_VERSION_TEXT, "0.5.0") == 0 && KHUMSAFIL_VERSION == 5 * 256);
     EXPECT(strcmp(khumsafil_refusal_text(KHUMSAFIL_REFUSED_PAYLOAD_SHORT), "payload under 8 bytes") == 0);
     EXPECT(strcmp(khumsafil_refusal_text(KHUMSAFIL_NOT_REFUSED), "no number of this library") == 0);
     EXPECT(strcmp(khumsafil_refusal_text(256 + 1), "no number of this library") == 0);
@@ -34,18 +45,32 @@ static int version_and_words(void) {
 }
 
 static int keys(void) {
-    const khumsafil_key key = khumsafil_key_of(201, 4660);
-    EXPECT(key.table_id == 201 && key.extension == 4660);
+    const khumsafil_key key = khumsafil_key_of(201, 4660), list = khumsafil_key_of_nrt_it(4097, 7, 1000000800);
+    khumsafil_key by_hand = key;
+    EXPECT(key.table_id == 201 && key.extension == 4660 && key.service_id == 0 && key.time_span_start == 0);
+    EXPECT(list.table_id == 223 && list.extension == 4097 && list.service_id == 7 && list.time_span_start == 1000000800);
     EXPECT(khumsafil_key_same(key, khumsafil_key_of(201, 4660)));
     EXPECT(!khumsafil_key_same(key, khumsafil_key_of(202, 4660)) && !khumsafil_key_same(key, khumsafil_key_of(201, 4661)));
     EXPECT(khumsafil_key_same(khumsafil_label_of(key, 3).key, key) && khumsafil_label_of(key, 3).version == 3);
+    /* Two lists are one by all four numbers, two other tables by the first two, whatever stands in the rest. */
+    EXPECT(khumsafil_key_same(list, khumsafil_key_of_nrt_it(4097, 7, 1000000800)));
+    EXPECT(!khumsafil_key_same(list, khumsafil_key_of_nrt_it(4096, 7, 1000000800)));
+    EXPECT(!khumsafil_key_same(list, khumsafil_key_of_nrt_it(4097, 8, 1000000800)));
+    EXPECT(!khumsafil_key_same(list, khumsafil_key_of_nrt_it(4097, 7, 1000000801)));
+    EXPECT(!khumsafil_key_same(list, khumsafil_key_of_nrt_it(4097, 7, 1000000800 + 65536)));
+    EXPECT(!khumsafil_key_same(list, khumsafil_key_of(223, 4097)) && !khumsafil_key_same(list, khumsafil_key_of(222, 4097)));
+    EXPECT(khumsafil_key_same(khumsafil_key_of(223, 9), khumsafil_key_of_nrt_it(9, 0, 0)));
+    by_hand.service_id = 7, by_hand.time_span_start = 1000000800;
+    EXPECT(khumsafil_key_same(key, by_hand) && khumsafil_key_same(by_hand, key));
     return 0;
 }
 
 static int sections(void) {
+    uint8_t short_one[LISTED - 1];
     static const uint8_t with_body[] = {0xC9, 0x70, 0x07, 0x12, 0x34, 0xC7, 0x01, 0x02, 0xAB, 0xCD};
     khumsafil_section read = khumsafil_section_read(with_body, sizeof with_body);
     EXPECT(!read.refusal && khumsafil_key_same(read.key, khumsafil_key_of(0xC9, 0x1234)));
+    EXPECT(read.key.service_id == 0 && read.key.time_span_start == 0);
     EXPECT(read.version == 3 && read.number == 1 && read.last == 2);
     EXPECT(read.body == with_body + 8 && read.body_length == 2);
     read = khumsafil_section_read(with_body, sizeof with_body - 1);
@@ -53,6 +78,18 @@ static int sections(void) {
     EXPECT(khumsafil_key_same(read.key, khumsafil_key_of(0, 0)) && read.version == 0 && read.number == 0);
     EXPECT(read.last == 0 && read.body == NULL && read.body_length == 0);
     EXPECT(khumsafil_section_read(NULL, 0).refusal == KHUMSAFIL_REFUSED_PAYLOAD_SHORT);
+
+    /* A list with its key and no more, and one byte shorter. */
+    read = khumsafil_section_read(listed(7, 1000000800, 3, 0), LISTED);
+    EXPECT(!read.refusal && khumsafil_key_same(read.key, khumsafil_key_of_nrt_it(4097, 7, 1000000800)));
+    EXPECT(read.version == 3 && read.number == 0 && read.last == 1 && read.body_length == 6);
+    read = khumsafil_section_read(listed(0x0708, 0x090A0B0C, 3, 0), LISTED);
+    EXPECT(read.key.service_id == 0x0708 && read.key.time_span_start == 0x090A0B0C);
+    memcpy(short_one, listed(7, 1000000800, 3, 0), LISTED - 1);
+    short_one[2]--;
+    read = khumsafil_section_read(short_one, LISTED - 1);
+    EXPECT(read.refusal == KHUMSAFIL_REFUSED_KEY_SHORT && read.key.table_id == 0 && read.key.extension == 0);
+    EXPECT(read.key.service_id == 0 && read.key.time_span_start == 0 && read.body == NULL && read.body_length == 0);
     return 0;
 }
 
@@ -60,6 +97,7 @@ static int sections(void) {
 static int nothing_of(khumsafil_table table, khumsafil_refusal by) {
     unsigned n;
     EXPECT(table.refusal == by && khumsafil_key_same(table.key, khumsafil_key_of(0, 0)));
+    EXPECT(table.key.service_id == 0 && table.key.time_span_start == 0);
     EXPECT(table.version == 0 && table.last == 0);
     for (n = 0; n < KHUMSAFIL_SECTIONS; n++)
         EXPECT(table.lengths[n] == 0);
@@ -151,6 +189,91 @@ static int shelves(void) {
     return 0;
 }
 
+/* Lists of two services and of two starts stay beside each other, whatever their versions, and each is asked for by its key. */
+static int two_services(void) {
+    static const uint16_t services[] = {7, 8, 7, 7};
+    static const uint32_t starts[] = {1000000800, 1000000800, 1000000801, 1000000800 + 65536};
+    khumsafil_key keys[4];
+    khumsafil_table table;
+    khumsafil_missing missing;
+    khumsafil_size size;
+    uint8_t n;
+    EXPECT(!khumsafil_shelf_begin(&shelf).refusal);
+    for (n = 0; n < 4; n++) {
+        keys[n] = khumsafil_key_of_nrt_it(4097, services[n], starts[n]);
+        EXPECT(dark(keys[n], KHUMSAFIL_REFUSED_TABLE_NOT_HELD) == 0);
+        EXPECT(khumsafil_shelf_offer(&shelf, listed(services[n], starts[n], n, 0), LISTED).accepted ==
+               KHUMSAFIL_SHELF_BEGAN);
+    }
+    for (n = 0; n < 4; n++)
+        EXPECT(khumsafil_shelf_offer(&shelf, listed(services[n], starts[n], n, 0), LISTED).accepted ==
+               KHUMSAFIL_SHELF_REPEAT);
+    EXPECT(khumsafil_shelf_offer(&shelf, listed(8, 1000000801, 0, 0), LISTED).refusal == KHUMSAFIL_REFUSED_NO_FREE_PLACE);
+    EXPECT(dark(khumsafil_key_of_nrt_it(4097, 8, 1000000801), KHUMSAFIL_REFUSED_TABLE_NOT_HELD) == 0);
+    EXPECT(dark(khumsafil_key_of(223, 4097), KHUMSAFIL_REFUSED_TABLE_NOT_HELD) == 0);
+
+    /* One becomes whole and another begins again; the other two are as they were. */
+    EXPECT(khumsafil_shelf_offer(&shelf, listed(8, 1000000800, 1, 1), LISTED).accepted == KHUMSAFIL_SHELF_ADDED);
+    EXPECT(khumsafil_shelf_offer(&shelf, listed(7, 1000000801, 9, 1), LISTED).accepted == KHUMSAFIL_SHELF_BEGAN_AGAIN);
+    for (n = 0; n < 4; n++) {
+        EXPECT(khumsafil_shelf_is_complete(&shelf, keys[n]) == (n == 1));
+        EXPECT(khumsafil_shelf_completeness(&shelf, keys[n]).complete == (n == 1));
+        missing = khumsafil_shelf_lowest_missing(&shelf, keys[n]);
+        EXPECT(!missing.refusal && missing.nothing_missing == (n == 1) && missing.number == (n == 1 || n == 2 ? 0 : 1));
+        size = khumsafil_shelf_copy_section(&shelf, keys[n], n == 2, out, sizeof out);
+        EXPECT(!size.refusal && size.size == LISTED);
+        EXPECT(memcmp(out, listed(services[n], starts[n], n == 2 ? 9 : n, n == 2), LISTED) == 0);
+    }
+
+    /* Each goes round by its file, which tells its whole key. */
+    for (n = 0; n < 4; n++) {
+        size = khumsafil_shelf_save(&shelf, keys[n], out, sizeof out);
+        EXPECT(!size.refusal && size.size == (n == 1 ? 2 + 2 * (1 + LISTED) : 2 + 1 + LISTED));
+        table = khumsafil_file_table(out, size.size);
+        EXPECT(!table.refusal && khumsafil_key_same(table.key, keys[n]) && table.version == (n == 2 ? 9 : n));
+        EXPECT(table.key.service_id == services[n] && table.key.time_span_start == starts[n]);
+        EXPECT(khumsafil_key_same(khumsafil_shelf_table(&shelf, n).key, keys[n]));
+        EXPECT(nothing_of(khumsafil_shelf_load(&shelf, out, size.size), KHUMSAFIL_REFUSED_KEY_HELD) == 0);
+        EXPECT(!khumsafil_shelf_release(&shelf, keys[n]).refusal);
+        EXPECT(khumsafil_shelf_table(&shelf, n).refusal == KHUMSAFIL_REFUSED_TABLE_NOT_HELD);
+        table = khumsafil_shelf_load(&shelf, out, size.size);
+        EXPECT(!table.refusal && khumsafil_key_same(table.key, keys[n]) && table.last == 1);
+        EXPECT(khumsafil_key_same(khumsafil_shelf_table(&shelf, n).key, keys[n]));
+    }
+
+    /* In a file of two sections all have one key, and room for it. */
+    size = khumsafil_shelf_save(&shelf, keys[1], out, sizeof out);
+    EXPECT(!size.refusal && !khumsafil_file_table(out, size.size).refusal);
+    out[2 + 1 + LISTED + 1 + 9] = 7;
+    EXPECT(nothing_of(khumsafil_file_table(out, size.size), KHUMSAFIL_REFUSED_BAD_FILE) == 0);
+    out[2 + 1 + LISTED + 1 + 9] = 8, out[2 + 1 + LISTED]--, out[2 + 1 + LISTED + 1 + 2]--;
+    EXPECT(nothing_of(khumsafil_file_table(out, size.size - 1), KHUMSAFIL_REFUSED_KEY_SHORT) == 0);
+    EXPECT(nothing_of(khumsafil_shelf_load(&shelf, out, size.size - 1), KHUMSAFIL_REFUSED_KEY_SHORT) == 0);
+    EXPECT(khumsafil_shelf_offer(&shelf, out + 2 + 1 + LISTED + 1, LISTED - 1).refusal == KHUMSAFIL_REFUSED_KEY_SHORT);
+    return 0;
+}
+
+/* A question about another table is answered by its first two numbers, whatever the last two are. */
+static int numbers_that_mean_nothing(void) {
+    khumsafil_key key = khumsafil_key_of(201, 4660);
+    khumsafil_size size;
+    key.service_id = 0x0708, key.time_span_start = 0x090A0B0C;
+    EXPECT(!khumsafil_shelf_begin(&shelf).refusal && !khumsafil_shelf_offer(&shelf, p1, sizeof p1).refusal);
+    EXPECT(khumsafil_shelf_is_complete(&shelf, key) && khumsafil_shelf_completeness(&shelf, key).complete);
+    EXPECT(khumsafil_shelf_lowest_missing(&shelf, key).nothing_missing);
+    size = khumsafil_shelf_copy_section(&shelf, key, 0, out, sizeof out);
+    EXPECT(!size.refusal && size.size == sizeof p1 && memcmp(out, p1, sizeof p1) == 0);
+    size = khumsafil_shelf_save(&shelf, key, out, sizeof out);
+    EXPECT(!size.refusal && size.size == sizeof p1_file && memcmp(out, p1_file, sizeof p1_file) == 0);
+    /* In a record they mean nothing either, and are told as 0. */
+    shelf.record[84] = 7, shelf.record[85] = 8, shelf.record[86] = 9;
+    EXPECT(khumsafil_shelf_table(&shelf, 0).key.service_id == 0 && khumsafil_shelf_table(&shelf, 0).key.time_span_start == 0);
+    EXPECT(khumsafil_shelf_is_complete(&shelf, khumsafil_key_of(201, 4660)));
+    EXPECT(!khumsafil_shelf_release(&shelf, key).refusal);
+    EXPECT(khumsafil_shelf_table(&shelf, 0).refusal == KHUMSAFIL_REFUSED_TABLE_NOT_HELD);
+    return 0;
+}
+
 /* Shelves are the same by their tables: not by free places, lengths not held or stores, and by nothing where spoiled. */
 static int same_shelves(void) {
     const khumsafil_key key = khumsafil_key_of(201, 4660);
@@ -177,6 +300,20 @@ static int same_shelves(void) {
     other.record[65]--, other.record[64]++;
     EXPECT(!khumsafil_shelf_same(&shelf, &other));
     other.record[64]--;
+    EXPECT(khumsafil_shelf_same(&shelf, &other));
+    /* The rest of a key counts where an NRT-IT is, and nowhere else. */
+    other.record[84]++, other.record[85]++, other.record[86]++, other.record[87]++;
+    EXPECT(khumsafil_shelf_same(&shelf, &other));
+    EXPECT(!khumsafil_shelf_offer(&shelf, listed(7, 1000000800, 3, 0), LISTED).refusal);
+    EXPECT(!khumsafil_shelf_offer(&other, listed(7, 1000000801, 3, 0), LISTED).refusal);
+    EXPECT(!khumsafil_shelf_same(&shelf, &other));
+    other.record[89]--;
+    EXPECT(khumsafil_shelf_same(&shelf, &other));
+    other.record[88]++;
+    EXPECT(!khumsafil_shelf_same(&shelf, &other));
+    other.record[88]--, other.record[87]++;
+    EXPECT(!khumsafil_shelf_same(&shelf, &other));
+    other.record[87]--;
     EXPECT(khumsafil_shelf_same(&shelf, &other));
     other.record[66] = 32;
     EXPECT(!khumsafil_shelf_same(&shelf, &other) && !khumsafil_shelf_same(&other, &other));
@@ -509,6 +646,10 @@ static int programmes(void) {
     for (size = 8; size < sizeof list; size++) {
         memcpy(other, list, size);
         other[2] = (uint8_t)(size - 3);
+        if (size < 14) {
+            EXPECT(no_list(other, size, KHUMSAFIL_REFUSED_KEY_SHORT) == 0);
+            continue;
+        }
         if (size < 17)
             EXPECT(no_list(other, size, KHUMSAFIL_REFUSED_PROGRAMME_PASSES_END) == 0);
         EXPECT(khumsafil_item_at(other, size, 17, 0).refusal == (size < 59 ? KHUMSAFIL_REFUSED_PROGRAMME_PASSES_END : 0));
@@ -530,7 +671,7 @@ static int programmes(void) {
 
 /* The text for staff of a file that holds the list above alone, which is number 0 of last 1. */
 static int told(void) {
-    static const char text[] = "table 223 key 4096 version 3 last 1\n"
+    static const char text[] = "table 223 key 4096 service 3152 start 1000000800 version 3 last 1\n"
                                "section 0 service 3152 start 1000000800 minutes 1440 items 2\n"
                                "item 0 linkage 66\n"
                                "updates 1 fragment 0 protected 0 master 1 internet 0 broadcast 1\n"
@@ -673,11 +814,19 @@ static int same_clocks(void) {
 
 static int writers(void) {
     const khumsafil_label label = khumsafil_label_of(khumsafil_key_of(0xC9, 0x1234), 3);
-    khumsafil_count count = khumsafil_writer_count(1017);
+    const khumsafil_label of_list = khumsafil_label_of(khumsafil_key_of_nrt_it(4097, 7, 1000000800), 32);
+    khumsafil_count count = khumsafil_writer_count(0xC9, 1017);
     khumsafil_size size;
     EXPECT(!count.refusal && count.sections == 2);
-    count = khumsafil_writer_count(KHUMSAFIL_LARGEST_BODY + 1);
+    count = khumsafil_writer_count(0xC9, KHUMSAFIL_LARGEST_BODY + 1);
     EXPECT(count.refusal == KHUMSAFIL_REFUSED_WRITER_BODY_TOO_LONG && count.sections == 0);
+    /* No NRT-IT is written, which is said before all else. */
+    count = khumsafil_writer_count(0xDF, KHUMSAFIL_LARGEST_BODY + 1);
+    EXPECT(count.refusal == KHUMSAFIL_REFUSED_ASKED_FOR_NRT_IT && count.sections == 0);
+    size = khumsafil_writer_section(of_list, NULL, 0, 1, out, 0);
+    EXPECT(size.refusal == KHUMSAFIL_REFUSED_ASKED_FOR_NRT_IT && size.size == 0);
+    size = khumsafil_writer_file(of_list, NULL, 0, out, 0);
+    EXPECT(size.refusal == KHUMSAFIL_REFUSED_ASKED_FOR_NRT_IT && size.size == 0);
     size = khumsafil_writer_section(label, NULL, 0, 0, out, sizeof out);
     EXPECT(!size.refusal && size.size == sizeof p1 && memcmp(out, p1, sizeof p1) == 0);
     size = khumsafil_writer_section(label, NULL, 0, 1, out, sizeof out);
@@ -718,6 +867,7 @@ static int wider_numbers(void) {
 }
 
 int main(void) {
-    return version_and_words() || keys() || sections() || shelves() || same_shelves() || files() || loops() || triggers() ||
-           programmes() || told() || clocks() || same_clocks() || writers() || wider_numbers();
+    return version_and_words() || keys() || sections() || shelves() || two_services() || numbers_that_mean_nothing() ||
+           same_shelves() || files() || loops() || triggers() || programmes() || told() || clocks() ||
+           same_clocks() || writers() || wider_numbers();
 }

@@ -23,6 +23,7 @@ static int empty_buffers(void) {
     uint64_t over = khumsafil_raw_descriptor_step(NULL, 0, 0);
     uint16_t fields[KHUMSAFIL_TRIGGER_FIELDS];
     EXPECT(khumsafil_raw_section_read(NULL, 0) == KHUMSAFIL_REFUSED_PAYLOAD_SHORT);
+    EXPECT(khumsafil_raw_section_key(NULL, 0) == KHUMSAFIL_REFUSED_PAYLOAD_SHORT);
     EXPECT(over == (uint64_t)KHUMSAFIL_STEP_OVER << 8);
     EXPECT(khumsafil_raw_descriptor_step(NULL, 0, 1) == KHUMSAFIL_REFUSED_DESCRIPTOR_RUNS_PAST);
     EXPECT(khumsafil_raw_descriptor_step(NULL, 0, SIZE_MAX) == KHUMSAFIL_REFUSED_DESCRIPTOR_RUNS_PAST);
@@ -109,9 +110,14 @@ static int no_such_action(void) {
 static const uint8_t p1[] = {0xC9, 0x70, 0x05, 0x12, 0x34, 0xC7, 0x00, 0x00};
 static const uint8_t p1_file[] = {0x01, 0x01, 0x08, 0xC9, 0x70, 0x05, 0x12, 0x34, 0xC7, 0x00, 0x00};
 
+/* Its key as a question takes it: the last two numbers mean nothing, since it is no NRT-IT. */
+#define P1_KEY 0xC9, 0x1234, 0x0708, 0x090A0B0C
+
 static uint16_t record[KHUMSAFIL_SHELF_RECORD];
 static uint8_t store[KHUMSAFIL_STORE];
 static uint8_t out[KHUMSAFIL_LARGEST_FILE];
+
+#define NO_KEY 0, 0, 0, 0
 
 /* No store is 17, no record 18, and an empty payload, file or output what an empty one is. */
 static int empty_shelf(void) {
@@ -122,19 +128,19 @@ static int empty_shelf(void) {
     EXPECT(khumsafil_raw_shelf_offer(NULL, 0, NULL, 0, NULL, 0) == KHUMSAFIL_REFUSED_STORE_SIZE);
     EXPECT(khumsafil_raw_shelf_offer(NULL, 0, store, s, NULL, 0) == KHUMSAFIL_REFUSED_SHELF_SPOILED);
     EXPECT(khumsafil_raw_shelf_offer(record, n, store, s, NULL, 0) == KHUMSAFIL_REFUSED_PAYLOAD_SHORT);
-    EXPECT(khumsafil_raw_shelf_complete(NULL, 0, NULL, 0, 0, 0) == KHUMSAFIL_REFUSED_STORE_SIZE);
-    EXPECT(khumsafil_raw_shelf_complete(NULL, 0, store, s, 0, 0) == KHUMSAFIL_REFUSED_SHELF_SPOILED);
-    EXPECT(khumsafil_raw_shelf_lowest_missing(NULL, 0, NULL, 0, 0, 0) == KHUMSAFIL_REFUSED_STORE_SIZE);
-    EXPECT(khumsafil_raw_shelf_lowest_missing(record, n, store, s, 0, 0) == KHUMSAFIL_REFUSED_TABLE_NOT_HELD);
-    EXPECT(khumsafil_raw_shelf_copy_section(NULL, 0, NULL, 0, 0, 0, 0, NULL, 0) == KHUMSAFIL_REFUSED_STORE_SIZE);
-    EXPECT(khumsafil_raw_shelf_release(NULL, 0, NULL, 0, 0, 0) == KHUMSAFIL_REFUSED_STORE_SIZE);
-    EXPECT(khumsafil_raw_shelf_save(NULL, 0, store, s, 0, 0, NULL, 0) == KHUMSAFIL_REFUSED_SHELF_SPOILED);
+    EXPECT(khumsafil_raw_shelf_complete(NULL, 0, NULL, 0, NO_KEY) == KHUMSAFIL_REFUSED_STORE_SIZE);
+    EXPECT(khumsafil_raw_shelf_complete(NULL, 0, store, s, NO_KEY) == KHUMSAFIL_REFUSED_SHELF_SPOILED);
+    EXPECT(khumsafil_raw_shelf_lowest_missing(NULL, 0, NULL, 0, NO_KEY) == KHUMSAFIL_REFUSED_STORE_SIZE);
+    EXPECT(khumsafil_raw_shelf_lowest_missing(record, n, store, s, NO_KEY) == KHUMSAFIL_REFUSED_TABLE_NOT_HELD);
+    EXPECT(khumsafil_raw_shelf_copy_section(NULL, 0, NULL, 0, NO_KEY, 0, NULL, 0) == KHUMSAFIL_REFUSED_STORE_SIZE);
+    EXPECT(khumsafil_raw_shelf_release(NULL, 0, NULL, 0, NO_KEY) == KHUMSAFIL_REFUSED_STORE_SIZE);
+    EXPECT(khumsafil_raw_shelf_save(NULL, 0, store, s, NO_KEY, NULL, 0) == KHUMSAFIL_REFUSED_SHELF_SPOILED);
     EXPECT(khumsafil_raw_shelf_load(NULL, 0, store, s, NULL, 0) == KHUMSAFIL_REFUSED_SHELF_SPOILED);
     EXPECT(khumsafil_raw_shelf_load(record, n, store, s, NULL, 0) == KHUMSAFIL_REFUSED_BAD_NUMBER);
     EXPECT(khumsafil_raw_file_list(NULL, 0, NULL, 0) == KHUMSAFIL_REFUSED_OUTPUT_TOO_SMALL);
     EXPECT(khumsafil_raw_file_list(NULL, 0, out, sizeof out) == 11 << 8);
-    EXPECT(!khumsafil_raw_shelf_is_complete(NULL, 0, NULL, 0, 0, 0));
-    EXPECT(!khumsafil_raw_shelf_is_complete(NULL, 0, store, s, 0, 0));
+    EXPECT(!khumsafil_raw_shelf_is_complete(NULL, 0, NULL, 0, NO_KEY));
+    EXPECT(!khumsafil_raw_shelf_is_complete(NULL, 0, store, s, NO_KEY));
     EXPECT(khumsafil_raw_shelf_table(NULL, 0, NULL, 0, 0, NULL, 0) == KHUMSAFIL_REFUSED_STORE_SIZE);
     EXPECT(khumsafil_raw_shelf_table(NULL, 0, store, s, 0, NULL, 0) == KHUMSAFIL_REFUSED_SHELF_SPOILED);
     EXPECT(khumsafil_raw_shelf_table(record, n, store, s, 0, NULL, 0) == KHUMSAFIL_REFUSED_TABLE_NOT_HELD);
@@ -151,18 +157,22 @@ static uint16_t fields[KHUMSAFIL_TABLE_FIELDS + 1];
 static uint32_t refused_by_all(size_t n, size_t s) {
     const uint32_t by = khumsafil_raw_shelf_begin(numbers, n, bytes, s);
     const int same = khumsafil_raw_shelf_offer(numbers, n, bytes, s, p1, sizeof p1) == by &&
-                     khumsafil_raw_shelf_complete(numbers, n, bytes, s, 0xC9, 0x1234) == by &&
-                     khumsafil_raw_shelf_lowest_missing(numbers, n, bytes, s, 0xC9, 0x1234) == by &&
-                     khumsafil_raw_shelf_copy_section(numbers, n, bytes, s, 0xC9, 0x1234, 0, out, sizeof out) == by &&
-                     khumsafil_raw_shelf_release(numbers, n, bytes, s, 0xC9, 0x1234) == by &&
-                     khumsafil_raw_shelf_save(numbers, n, bytes, s, 0xC9, 0x1234, out, sizeof out) == by &&
+                     khumsafil_raw_shelf_complete(numbers, n, bytes, s, P1_KEY) == by &&
+                     khumsafil_raw_shelf_lowest_missing(numbers, n, bytes, s, P1_KEY) == by &&
+                     khumsafil_raw_shelf_copy_section(numbers, n, bytes, s, P1_KEY, 0, out, sizeof out) == by &&
+                     khumsafil_raw_shelf_release(numbers, n, bytes, s, P1_KEY) == by &&
+                     khumsafil_raw_shelf_save(numbers, n, bytes, s, P1_KEY, out, sizeof out) == by &&
                      khumsafil_raw_shelf_load(numbers, n, bytes, s, p1_file, sizeof p1_file) == by &&
                      khumsafil_raw_shelf_table(numbers, n, bytes, s, 0, fields, KHUMSAFIL_TABLE_FIELDS) == by &&
-                     !khumsafil_raw_shelf_is_complete(numbers, n, bytes, s, 0xC9, 0x1234);
+                     !khumsafil_raw_shelf_is_complete(numbers, n, bytes, s, P1_KEY);
     return same ? by : 0;
 }
 
-/* A store one byte shorter or longer is 17, a record one number shorter or longer 18, and nothing is written. */
+/* How many numbers a record was before a key had four. */
+#define EARLIER_RECORD 84
+
+/* A store one byte shorter or longer is 17, a record one number shorter or longer or of an earlier count 18, and nothing is
+   written. */
 static int sizes_of_a_shelf(void) {
     const size_t n = KHUMSAFIL_SHELF_RECORD, s = KHUMSAFIL_STORE;
     size_t by, i;
@@ -181,6 +191,7 @@ static int sizes_of_a_shelf(void) {
     }
     EXPECT(refused_by_all(n - 1, s) == KHUMSAFIL_REFUSED_SHELF_SPOILED);
     EXPECT(refused_by_all(n + 1, s) == KHUMSAFIL_REFUSED_SHELF_SPOILED);
+    EXPECT(refused_by_all(EARLIER_RECORD, s) == KHUMSAFIL_REFUSED_SHELF_SPOILED);
     EXPECT(refused_by_all(0, s) == KHUMSAFIL_REFUSED_SHELF_SPOILED);
     for (i = 0; i <= n; i++)
         EXPECT(numbers[i] == 0x0101);
@@ -217,6 +228,9 @@ static int sizes_of_a_clock(void) {
     return 0;
 }
 
+/* The highest key of an NRT-IT, whose list is the longest. */
+#define HIGHEST 0xDF, 0xFFFF, 0xFFFF, 0xFFFFFFFF
+
 /* The largest section, trigger, file and list are as large as the header says: a byte less room is 15, and a byte more
    of a section or a trigger is refused. */
 static int the_largest(void) {
@@ -226,28 +240,36 @@ static int the_largest(void) {
     uint32_t answer;
     unsigned number;
     EXPECT(khumsafil_raw_shelf_begin(record, n, store, s) == 0);
-    /* Table 255, key 65535, version 31, sixteen sections of the largest size. */
-    datagram[0] = datagram[3] = datagram[4] = datagram[5] = 0xFF, datagram[7] = 15;
+    /* Table 223, key 65535, service 65535, the highest start, version 31, sixteen sections of the largest size. */
+    datagram[0] = 0xDF, datagram[3] = datagram[4] = datagram[5] = 0xFF, datagram[7] = 15;
+    for (number = 8; number < 14; number++)
+        datagram[number] = 0xFF;
     datagram[1] = 0x70 | (KHUMSAFIL_LARGEST_SECTION - 3) >> 8, datagram[2] = (uint8_t)(KHUMSAFIL_LARGEST_SECTION - 3);
     for (number = 0; number < 16; number++) {
         datagram[6] = (uint8_t)number;
         EXPECT(khumsafil_raw_section_read(datagram, KHUMSAFIL_LARGEST_SECTION) ==
-               (UINT64_C(0x000F001FFFFFFF00) | (uint64_t)number << 40));
+               (UINT64_C(0x000F001FFFFFDF00) | (uint64_t)number << 40));
+        EXPECT(khumsafil_raw_section_key(datagram, KHUMSAFIL_LARGEST_SECTION) == UINT64_C(0x00FFFFFFFFFFFF00));
         EXPECT(khumsafil_raw_shelf_offer(record, n, store, s, datagram, KHUMSAFIL_LARGEST_SECTION) ==
                (number == 0 ? 1u : 3u) << 8);
     }
-    answer = khumsafil_raw_shelf_copy_section(record, n, store, s, 0xFF, 0xFFFF, 15, out, KHUMSAFIL_LARGEST_SECTION - 1);
+    answer = khumsafil_raw_shelf_copy_section(record, n, store, s, HIGHEST, 15, out, KHUMSAFIL_LARGEST_SECTION - 1);
     EXPECT(answer == KHUMSAFIL_REFUSED_OUTPUT_TOO_SMALL);
-    answer = khumsafil_raw_shelf_copy_section(record, n, store, s, 0xFF, 0xFFFF, 15, out, KHUMSAFIL_LARGEST_SECTION);
+    answer = khumsafil_raw_shelf_copy_section(record, n, store, s, HIGHEST, 15, out, KHUMSAFIL_LARGEST_SECTION);
     EXPECT(answer == KHUMSAFIL_LARGEST_SECTION << 8);
-    answer = khumsafil_raw_shelf_save(record, n, store, s, 0xFF, 0xFFFF, out, KHUMSAFIL_LARGEST_FILE - 1);
+    answer = khumsafil_raw_shelf_save(record, n, store, s, HIGHEST, out, KHUMSAFIL_LARGEST_FILE - 1);
     EXPECT(answer == KHUMSAFIL_REFUSED_OUTPUT_TOO_SMALL);
-    answer = khumsafil_raw_shelf_save(record, n, store, s, 0xFF, 0xFFFF, out, KHUMSAFIL_LARGEST_FILE);
+    answer = khumsafil_raw_shelf_save(record, n, store, s, HIGHEST, out, KHUMSAFIL_LARGEST_FILE);
     EXPECT(answer == KHUMSAFIL_LARGEST_FILE << 8);
     answer = khumsafil_raw_file_list(out, KHUMSAFIL_LARGEST_FILE, text, KHUMSAFIL_LARGEST_LIST - 1);
     EXPECT(answer == KHUMSAFIL_REFUSED_OUTPUT_TOO_SMALL);
     answer = khumsafil_raw_file_list(out, KHUMSAFIL_LARGEST_FILE, text, KHUMSAFIL_LARGEST_LIST);
     EXPECT(answer == KHUMSAFIL_LARGEST_LIST << 8);
+    /* Table 255 has no service and no start to tell. */
+    for (number = 0; number < 16; number++)
+        out[2 + 1026 * number + 2] = 0xFF;
+    EXPECT(khumsafil_raw_file_list(out, KHUMSAFIL_LARGEST_FILE, text, 389) == KHUMSAFIL_REFUSED_OUTPUT_TOO_SMALL);
+    EXPECT(khumsafil_raw_file_list(out, KHUMSAFIL_LARGEST_FILE, text, 390) == 390 << 8);
     /* A section one byte longer says so in its length field. */
     datagram[2]++;
     EXPECT(khumsafil_raw_section_read(datagram, KHUMSAFIL_LARGEST_SECTION + 1) == KHUMSAFIL_REFUSED_LENGTH_OUT_OF_RANGE);
@@ -292,14 +314,14 @@ static int written_on(void) {
     EXPECT(khumsafil_raw_shelf_offer(record, n, store, s, p1, sizeof p1) == KHUMSAFIL_SHELF_BEGAN << 8);
     store[7] = 9;
     EXPECT(khumsafil_raw_shelf_offer(record, n, store, s, p1, sizeof p1) == KHUMSAFIL_REFUSED_DIFFERS);
-    EXPECT(khumsafil_raw_shelf_complete(record, n, store, s, 0xC9, 0x1234) == 1 << 8);
-    EXPECT(khumsafil_raw_shelf_is_complete(record, n, store, s, 0xC9, 0x1234));
-    EXPECT(khumsafil_raw_shelf_copy_section(record, n, store, s, 0xC9, 0x1234, 0, out, 8) == 8 << 8);
+    EXPECT(khumsafil_raw_shelf_complete(record, n, store, s, P1_KEY) == 1 << 8);
+    EXPECT(khumsafil_raw_shelf_is_complete(record, n, store, s, P1_KEY));
+    EXPECT(khumsafil_raw_shelf_copy_section(record, n, store, s, P1_KEY, 0, out, 8) == 8 << 8);
     EXPECT(out[7] == 9);
     record[0] = 7;
-    EXPECT(khumsafil_raw_shelf_complete(record, n, store, s, 0xC9, 0x1234) == KHUMSAFIL_REFUSED_SHELF_SPOILED);
-    EXPECT(!khumsafil_raw_shelf_is_complete(record, n, store, s, 0xC9, 0x1234));
-    EXPECT(khumsafil_raw_shelf_release(record, n, store, s, 0xC9, 0x1234) == KHUMSAFIL_REFUSED_SHELF_SPOILED);
+    EXPECT(khumsafil_raw_shelf_complete(record, n, store, s, P1_KEY) == KHUMSAFIL_REFUSED_SHELF_SPOILED);
+    EXPECT(!khumsafil_raw_shelf_is_complete(record, n, store, s, P1_KEY));
+    EXPECT(khumsafil_raw_shelf_release(record, n, store, s, P1_KEY) == KHUMSAFIL_REFUSED_SHELF_SPOILED);
     EXPECT(khumsafil_raw_clock_fresh(clock_numbers, KHUMSAFIL_CLOCK_RECORD) == 0);
     clock_numbers[2] = 33;
     EXPECT(khumsafil_raw_clock_move(clock_numbers, KHUMSAFIL_CLOCK_RECORD, 1) == KHUMSAFIL_REFUSED_CLOCK_SPOILED);
@@ -316,20 +338,20 @@ static int answers_of_a_shelf(void) {
     EXPECT(khumsafil_raw_shelf_begin(record, n, store, s) == 0);
     EXPECT(khumsafil_raw_shelf_offer(record, n, store, s, p1, sizeof p1) == KHUMSAFIL_SHELF_BEGAN << 8);
     EXPECT(khumsafil_raw_shelf_offer(record, n, store, s, p1, sizeof p1) == KHUMSAFIL_SHELF_REPEAT << 8);
-    EXPECT(khumsafil_raw_shelf_complete(record, n, store, s, 0xC9, 0x1234) == 1 << 8);
-    EXPECT(khumsafil_raw_shelf_is_complete(record, n, store, s, 0xC9, 0x1234));
-    answer = khumsafil_raw_shelf_lowest_missing(record, n, store, s, 0xC9, 0x1234);
+    EXPECT(khumsafil_raw_shelf_complete(record, n, store, s, P1_KEY) == 1 << 8);
+    EXPECT(khumsafil_raw_shelf_is_complete(record, n, store, s, P1_KEY));
+    answer = khumsafil_raw_shelf_lowest_missing(record, n, store, s, P1_KEY);
     EXPECT(answer == 1 << 8);
-    EXPECT(khumsafil_raw_shelf_copy_section(record, n, store, s, 0xC9, 0x1234, 0, NULL, 0) ==
+    EXPECT(khumsafil_raw_shelf_copy_section(record, n, store, s, P1_KEY, 0, NULL, 0) ==
            KHUMSAFIL_REFUSED_OUTPUT_TOO_SMALL);
-    EXPECT(khumsafil_raw_shelf_copy_section(record, n, store, s, 0xC9, 0x1234, 16, NULL, 0) ==
+    EXPECT(khumsafil_raw_shelf_copy_section(record, n, store, s, P1_KEY, 16, NULL, 0) ==
            KHUMSAFIL_REFUSED_SECTION_NOT_HELD);
-    answer = khumsafil_raw_shelf_save(record, n, store, s, 0xC9, 0x1234, out, sizeof out);
+    answer = khumsafil_raw_shelf_save(record, n, store, s, P1_KEY, out, sizeof out);
     EXPECT(answer == sizeof p1_file << 8);
     for (i = 0; i < sizeof p1_file; i++)
         EXPECT(out[i] == p1_file[i]);
     EXPECT(khumsafil_raw_shelf_load(record, n, store, s, p1_file, sizeof p1_file) == KHUMSAFIL_REFUSED_KEY_HELD);
-    EXPECT(khumsafil_raw_shelf_release(record, n, store, s, 0xC9, 0x1234) == 0);
+    EXPECT(khumsafil_raw_shelf_release(record, n, store, s, P1_KEY) == 0);
     EXPECT(khumsafil_raw_shelf_load(record, n, store, s, p1_file, sizeof p1_file) == 0);
     /* Version 4 of the same table, its section 1 of 0 to 2, and then its section 0. */
     for (i = 0; i < 8; i++)
@@ -338,9 +360,9 @@ static int answers_of_a_shelf(void) {
     EXPECT(khumsafil_raw_shelf_offer(record, n, store, s, next, 8) == KHUMSAFIL_SHELF_BEGAN_AGAIN << 8);
     next[6] = 0;
     EXPECT(khumsafil_raw_shelf_offer(record, n, store, s, next, 8) == KHUMSAFIL_SHELF_ADDED << 8);
-    EXPECT(khumsafil_raw_shelf_complete(record, n, store, s, 0xC9, 0x1234) == 2 << 8);
-    EXPECT(!khumsafil_raw_shelf_is_complete(record, n, store, s, 0xC9, 0x1234));
-    answer = khumsafil_raw_shelf_lowest_missing(record, n, store, s, 0xC9, 0x1234);
+    EXPECT(khumsafil_raw_shelf_complete(record, n, store, s, P1_KEY) == 2 << 8);
+    EXPECT(!khumsafil_raw_shelf_is_complete(record, n, store, s, P1_KEY));
+    answer = khumsafil_raw_shelf_lowest_missing(record, n, store, s, P1_KEY);
     EXPECT(answer == (2 << 16 | 2 << 8));
     return 0;
 }
@@ -350,10 +372,22 @@ static int answers_of_a_writer(void) {
     uint8_t section[sizeof p1 + 1], file[sizeof p1_file + 1];
     uint32_t answer;
     size_t i;
-    EXPECT(khumsafil_raw_writer_count(0) == 1 << 8);
-    EXPECT(khumsafil_raw_writer_count(KHUMSAFIL_LARGEST_BODY) == 16 << 8);
-    EXPECT(khumsafil_raw_writer_count(KHUMSAFIL_LARGEST_BODY + 1) == KHUMSAFIL_REFUSED_WRITER_BODY_TOO_LONG);
-    EXPECT(khumsafil_raw_writer_count(SIZE_MAX) == KHUMSAFIL_REFUSED_WRITER_BODY_TOO_LONG);
+    EXPECT(khumsafil_raw_writer_count(0xC9, 0) == 1 << 8);
+    EXPECT(khumsafil_raw_writer_count(0xC9, KHUMSAFIL_LARGEST_BODY) == 16 << 8);
+    EXPECT(khumsafil_raw_writer_count(0xC9, KHUMSAFIL_LARGEST_BODY + 1) == KHUMSAFIL_REFUSED_WRITER_BODY_TOO_LONG);
+    EXPECT(khumsafil_raw_writer_count(0xC9, SIZE_MAX) == KHUMSAFIL_REFUSED_WRITER_BODY_TOO_LONG);
+    /* The NRT-IT's id is refused before all else. */
+    EXPECT(khumsafil_raw_writer_count(0xDF, 0) == KHUMSAFIL_REFUSED_ASKED_FOR_NRT_IT);
+    EXPECT(khumsafil_raw_writer_count(0xDF, SIZE_MAX) == KHUMSAFIL_REFUSED_ASKED_FOR_NRT_IT);
+    EXPECT(khumsafil_raw_writer_section(0xDF, 0x1234, 32, bytes, KHUMSAFIL_LARGEST_BODY + 1, 1, NULL, 0) ==
+           KHUMSAFIL_REFUSED_ASKED_FOR_NRT_IT);
+    EXPECT(khumsafil_raw_writer_section(0xDF, 0x1234, 3, NULL, 0, 0, section, sizeof section) ==
+           KHUMSAFIL_REFUSED_ASKED_FOR_NRT_IT);
+    EXPECT(khumsafil_raw_writer_file(0xDF, 0x1234, 32, bytes, KHUMSAFIL_LARGEST_BODY + 1, NULL, 0) ==
+           KHUMSAFIL_REFUSED_ASKED_FOR_NRT_IT);
+    EXPECT(khumsafil_raw_writer_file(0xDF, 0x1234, 3, NULL, 0, file, sizeof file) == KHUMSAFIL_REFUSED_ASKED_FOR_NRT_IT);
+    EXPECT(khumsafil_raw_writer_section(0xC9, 0x1234, 32, bytes, KHUMSAFIL_LARGEST_BODY + 1, 1, NULL, 0) ==
+           KHUMSAFIL_REFUSED_WRITER_BODY_TOO_LONG);
     EXPECT(khumsafil_raw_writer_section(0xC9, 0x1234, 32, NULL, 0, 1, NULL, 0) == KHUMSAFIL_REFUSED_WRITER_VERSION_ABOVE_31);
     EXPECT(khumsafil_raw_writer_section(0xC9, 0x1234, 31, NULL, 0, 1, NULL, 0) == KHUMSAFIL_REFUSED_WRITER_K_ABOVE_LAST);
     EXPECT(khumsafil_raw_writer_section(0xC9, 0x1234, 3, NULL, 0, 0, NULL, 0) == KHUMSAFIL_REFUSED_OUTPUT_TOO_SMALL);
@@ -399,6 +433,8 @@ static int room_for_a_table(void) {
                 EXPECT(fields[i] == 0xABCD);
             if (from != 0) {
                 EXPECT(fields[KHUMSAFIL_TABLE_ID] == 0xC9 && fields[KHUMSAFIL_TABLE_EXTENSION] == 0x1234);
+                EXPECT(fields[KHUMSAFIL_TABLE_SERVICE_ID] == 0);
+                EXPECT(fields[KHUMSAFIL_TABLE_START_HIGH] == 0 && fields[KHUMSAFIL_TABLE_START_LOW] == 0);
                 EXPECT(fields[KHUMSAFIL_TABLE_VERSION] == 3 && fields[KHUMSAFIL_TABLE_LAST] == 0);
                 EXPECT(fields[KHUMSAFIL_TABLE_LENGTHS] == 8);
                 for (i = 1; i < KHUMSAFIL_SECTIONS; i++)
@@ -410,6 +446,94 @@ static int room_for_a_table(void) {
     for (i = 1; i < 256; i++)
         EXPECT(khumsafil_raw_shelf_table(record, n, store, s, (uint8_t)i, fields, KHUMSAFIL_TABLE_FIELDS) ==
                KHUMSAFIL_REFUSED_TABLE_NOT_HELD);
+    return 0;
+}
+
+/* A section of an NRT-IT with that service and start, of version 3, and its key. */
+static const uint8_t *nrt_it(uint16_t service, uint32_t start) {
+    static uint8_t made[] = {0xDF, 0x70, 0x0B, 0x10, 0x01, 0xC7, 0, 0, 0, 0, 0, 0, 0, 0};
+    made[8] = (uint8_t)(service >> 8), made[9] = (uint8_t)service;
+    made[10] = (uint8_t)(start >> 24), made[11] = (uint8_t)(start >> 16);
+    made[12] = (uint8_t)(start >> 8), made[13] = (uint8_t)start;
+    return made;
+}
+#define NRT_IT 14
+#define NRT_IT_KEY(service, start) 0xDF, 0x1001, service, start
+
+/* Every bit of the rest of a key, and 46 where there is no room for it. */
+static int rest_of_a_key(void) {
+    uint8_t short_one[NRT_IT];
+    unsigned bit;
+    size_t size, i;
+    for (bit = 0; bit < 48; bit++) {
+        const uint16_t service = (uint16_t)(bit < 16 ? 1u << bit : 0);
+        const uint32_t start = bit < 16 ? 0 : (uint32_t)1 << (bit - 16);
+        EXPECT(khumsafil_raw_section_read(nrt_it(service, start), NRT_IT) == UINT64_C(0x000000031001DF00));
+        EXPECT(khumsafil_raw_section_key(nrt_it(service, start), NRT_IT) == UINT64_C(1) << (8 + bit));
+    }
+    EXPECT(khumsafil_raw_section_key(nrt_it(0x0708, 0x090A0B0C), NRT_IT) == UINT64_C(0x00090A0B0C070800));
+    EXPECT(khumsafil_raw_section_key(p1, sizeof p1) == 0);
+    for (size = 0; size < NRT_IT; size++) {
+        const khumsafil_refusal by = size < 8 ? KHUMSAFIL_REFUSED_PAYLOAD_SHORT : KHUMSAFIL_REFUSED_KEY_SHORT;
+        for (i = 0; i < NRT_IT; i++)
+            short_one[i] = nrt_it(7, 9)[i];
+        EXPECT(khumsafil_raw_section_key(short_one, size) == (size < 8 ? by : KHUMSAFIL_REFUSED_LONGER_THAN_PAYLOAD));
+        short_one[2] = (uint8_t)(size - 3);
+        EXPECT(khumsafil_raw_section_read(short_one, size) == by && khumsafil_raw_section_key(short_one, size) == by);
+        EXPECT(khumsafil_raw_programme_own(short_one, size, 17) == by);
+        short_one[0] = 0xDE;
+        EXPECT(khumsafil_raw_section_key(short_one, size) == (size < 8 ? by : KHUMSAFIL_NOT_REFUSED));
+    }
+    return 0;
+}
+
+/* Two services, and two starts that differ in their higher bits alone, on one shelf; and one key in two places. */
+static int two_services(void) {
+    const size_t n = KHUMSAFIL_SHELF_RECORD, s = KHUMSAFIL_STORE;
+    const uint32_t start = 0x3B9ACD20;
+    uint32_t answer;
+    size_t i;
+    EXPECT(khumsafil_raw_shelf_begin(record, n, store, s) == 0);
+    EXPECT(khumsafil_raw_shelf_offer(record, n, store, s, nrt_it(7, start), NRT_IT) == KHUMSAFIL_SHELF_BEGAN << 8);
+    EXPECT(khumsafil_raw_shelf_offer(record, n, store, s, nrt_it(8, start), NRT_IT) == KHUMSAFIL_SHELF_BEGAN << 8);
+    EXPECT(khumsafil_raw_shelf_offer(record, n, store, s, nrt_it(7, start ^ 1), NRT_IT) == KHUMSAFIL_SHELF_BEGAN << 8);
+    EXPECT(khumsafil_raw_shelf_offer(record, n, store, s, nrt_it(7, start ^ 65536), NRT_IT) == KHUMSAFIL_SHELF_BEGAN << 8);
+    EXPECT(khumsafil_raw_shelf_offer(record, n, store, s, nrt_it(7, start), NRT_IT) == KHUMSAFIL_SHELF_REPEAT << 8);
+    EXPECT(khumsafil_raw_shelf_offer(record, n, store, s, nrt_it(9, start), NRT_IT) == KHUMSAFIL_REFUSED_NO_FREE_PLACE);
+    EXPECT(khumsafil_raw_shelf_complete(record, n, store, s, NRT_IT_KEY(8, start)) == 1 << 8);
+    EXPECT(khumsafil_raw_shelf_is_complete(record, n, store, s, NRT_IT_KEY(7, start ^ 65536)));
+    EXPECT(!khumsafil_raw_shelf_is_complete(record, n, store, s, NRT_IT_KEY(8, start ^ 1)));
+    EXPECT(khumsafil_raw_shelf_complete(record, n, store, s, NRT_IT_KEY(0, 0)) == KHUMSAFIL_REFUSED_TABLE_NOT_HELD);
+    answer = khumsafil_raw_shelf_copy_section(record, n, store, s, NRT_IT_KEY(8, start), 0, out, NRT_IT);
+    EXPECT(answer == NRT_IT << 8 && out[9] == 8);
+    answer = khumsafil_raw_shelf_save(record, n, store, s, NRT_IT_KEY(7, start ^ 1), out, sizeof out);
+    EXPECT(answer == (NRT_IT + 3) << 8 && out[3 + 9] == 7 && out[3 + 13] == (uint8_t)(start ^ 1));
+    EXPECT(khumsafil_raw_shelf_load(record, n, store, s, out, NRT_IT + 3) == KHUMSAFIL_REFUSED_KEY_HELD);
+    EXPECT(khumsafil_raw_file_table(out, NRT_IT + 3, fields, KHUMSAFIL_TABLE_FIELDS) == 0);
+    EXPECT(fields[KHUMSAFIL_TABLE_ID] == 0xDF && fields[KHUMSAFIL_TABLE_EXTENSION] == 0x1001);
+    EXPECT(fields[KHUMSAFIL_TABLE_SERVICE_ID] == 7 && fields[KHUMSAFIL_TABLE_START_HIGH] == start >> 16);
+    EXPECT(fields[KHUMSAFIL_TABLE_START_LOW] == (uint16_t)(start ^ 1) && fields[KHUMSAFIL_TABLE_VERSION] == 3);
+    EXPECT(fields[KHUMSAFIL_TABLE_LAST] == 0 && fields[KHUMSAFIL_TABLE_LENGTHS] == NRT_IT);
+    EXPECT(khumsafil_raw_shelf_table(record, n, store, s, 1, fields, KHUMSAFIL_TABLE_FIELDS) == 0);
+    EXPECT(fields[KHUMSAFIL_TABLE_SERVICE_ID] == 8 && fields[KHUMSAFIL_TABLE_START_LOW] == (uint16_t)start);
+    EXPECT(khumsafil_raw_shelf_release(record, n, store, s, NRT_IT_KEY(7, start ^ 1)) == 0);
+    EXPECT(khumsafil_raw_shelf_load(record, n, store, s, out, NRT_IT + 3) == 0);
+
+    /* Place 1 with the key of place 0. */
+    record[87] = 7;
+    EXPECT(khumsafil_raw_shelf_complete(record, n, store, s, NRT_IT_KEY(7, start)) == KHUMSAFIL_REFUSED_SHELF_SPOILED);
+    EXPECT(!khumsafil_raw_shelf_is_complete(record, n, store, s, NRT_IT_KEY(7, start)));
+    record[87] = 8;
+    EXPECT(khumsafil_raw_shelf_complete(record, n, store, s, NRT_IT_KEY(7, start)) == 1 << 8);
+    /* Of another table the three numbers tell no two places apart. */
+    record[64] = record[68] = 256 + 0xDE;
+    EXPECT(khumsafil_raw_shelf_complete(record, n, store, s, NRT_IT_KEY(7, start ^ 1)) == KHUMSAFIL_REFUSED_SHELF_SPOILED);
+    record[69]++;
+    EXPECT(khumsafil_raw_shelf_complete(record, n, store, s, 0xDE, 0x1001, 1, 2) == 1 << 8);
+    EXPECT(khumsafil_raw_shelf_table(record, n, store, s, 0, fields, KHUMSAFIL_TABLE_FIELDS) == 0);
+    EXPECT(fields[KHUMSAFIL_TABLE_ID] == 0xDE);
+    for (i = KHUMSAFIL_TABLE_SERVICE_ID; i <= KHUMSAFIL_TABLE_START_LOW; i++)
+        EXPECT(fields[i] == 0);
     return 0;
 }
 
@@ -426,6 +550,7 @@ static int left_in_a_record(void) {
             EXPECT(record[16 * p + i] == 8);
         EXPECT(record[64 + 4 * p] == p && record[65 + 4 * p] == 0 && record[66 + 4 * p] == 0 && record[67 + 4 * p] == 0);
         EXPECT(record[80 + p] == 1);
+        EXPECT(record[84 + 3 * p] == 0 && record[85 + 3 * p] == 0 && record[86 + 3 * p] == 0);
     }
     /* Free places may have any numbers, and those that a call does not name stay. */
     for (i = 0; i < n; i++)
@@ -434,9 +559,10 @@ static int left_in_a_record(void) {
         before[i] = record[i];
     EXPECT(khumsafil_raw_shelf_offer(record, n, store, s, p1, sizeof p1) == KHUMSAFIL_SHELF_BEGAN << 8);
     before[0] = 8, before[64] = 256 + 0xC9, before[65] = 0x1234, before[66] = 3, before[67] = 0, before[80] = 1;
+    before[84] = before[85] = before[86] = 0;
     for (i = 0; i < n; i++)
         EXPECT(record[i] == before[i]);
-    EXPECT(khumsafil_raw_shelf_release(record, n, store, s, 0xC9, 0x1234) == 0);
+    EXPECT(khumsafil_raw_shelf_release(record, n, store, s, P1_KEY) == 0);
     before[64] = 0, before[65] = 0, before[66] = 0, before[67] = 0, before[80] = 1;
     for (i = 0; i < n; i++)
         EXPECT(record[i] == before[i]);
@@ -444,6 +570,22 @@ static int left_in_a_record(void) {
     before[0] = 8, before[64] = 256 + 0xC9, before[65] = 0x1234, before[66] = 3, before[67] = 0, before[80] = 1;
     for (i = 0; i < n; i++)
         EXPECT(record[i] == before[i]);
+    /* The rest of an NRT-IT's key is written where its table begins, and stays where it is released. */
+    EXPECT(khumsafil_raw_shelf_offer(record, n, store, s, nrt_it(0x0708, 0x090A0B0C), NRT_IT) == KHUMSAFIL_SHELF_BEGAN << 8);
+    before[16] = NRT_IT, before[68] = 256 + 0xDF, before[69] = 0x1001, before[70] = 3, before[71] = 0, before[81] = 1;
+    before[87] = 0x0708, before[88] = 0x090A, before[89] = 0x0B0C;
+    for (i = 0; i < n; i++)
+        EXPECT(record[i] == before[i]);
+    EXPECT(khumsafil_raw_shelf_release(record, n, store, s, NRT_IT_KEY(0x0708, 0x090A0B0C)) == 0);
+    before[68] = 1, before[69] = 0, before[70] = 0, before[71] = 0, before[81] = 1;
+    for (i = 0; i < n; i++)
+        EXPECT(record[i] == before[i]);
+    /* A table that is loaded there writes them too. */
+    EXPECT(khumsafil_raw_shelf_release(record, n, store, s, P1_KEY) == 0);
+    EXPECT(khumsafil_raw_shelf_offer(record, n, store, s, nrt_it(7, 9), NRT_IT) == KHUMSAFIL_SHELF_BEGAN << 8);
+    EXPECT(record[84] == 7 && record[85] == 0 && record[86] == 9);
+    EXPECT(khumsafil_raw_shelf_load(record, n, store, s, p1_file, sizeof p1_file) == 0);
+    EXPECT(record[68] == 256 + 0xC9 && record[87] == 0 && record[88] == 0 && record[89] == 0);
     return 0;
 }
 
@@ -555,7 +697,7 @@ static int places_of_a_list(void) {
 /* The text of a file: bytes that hold the list above alone, with nothing, too little and more lent. A file of the largest size
    has a text with room for any, and with a byte less than the text nothing is written. */
 static int text_of_a_file(void) {
-    static const char said[] = "table 223 key 4096 version 3 last 0\n"
+    static const char said[] = "table 223 key 4096 service 3152 start 1000000800 version 3 last 0\n"
                                "section 0 service 3152 start 1000000800 minutes 1440 items 1\n"
                                "item 0 linkage 66\n"
                                "updates 0 fragment 0 protected 0 master 0 internet 0 broadcast 0\n"
@@ -626,6 +768,6 @@ int main(void) {
     EXPECT(khumsafil_raw_version() == KHUMSAFIL_VERSION);
     return empty_buffers() || room_for_a_trigger() || no_such_action() || empty_shelf() || sizes_of_a_shelf() ||
            sizes_of_a_clock() || the_largest() || shared_to_be_read() || written_on() || answers_of_a_shelf() ||
-           answers_of_a_writer() || room_for_a_table() || left_in_a_record() || numbers_of_a_file() ||
-           room_for_a_list() || places_of_a_list() || text_of_a_file();
+           answers_of_a_writer() || room_for_a_table() || rest_of_a_key() || two_services() || left_in_a_record() ||
+           numbers_of_a_file() || room_for_a_list() || places_of_a_list() || text_of_a_file();
 }

@@ -79,10 +79,14 @@ fn ended(program: &Path, input: &[u8]) -> (String, Option<i32>) {
 fn said(payload: &[u8]) -> String {
     match opinion::section::read(payload) {
         Err(number) => format!("refused {number}\n"),
-        Ok(s) => format!(
-            "table {} key {} version {} section {} last {} body {}\n",
-            s.table_id, s.extension, s.version, s.number, s.last, s.body_length
-        ),
+        Ok(s) => {
+            let mut text = format!("table {} key {}", s.table_id, s.extension);
+            if s.table_id == 0xDF {
+                text += &format!(" service {} start {}", s.service_id, s.time_span_start);
+            }
+            let (version, number, last, body) = (s.version, s.number, s.last, s.body_length);
+            text + &format!(" version {version} section {number} last {last} body {body}\n")
+        }
     }
 }
 
@@ -91,8 +95,13 @@ fn the_sample_reads_sections() {
     let sample = compile("section", top("samples/section.c"));
     let mut random = Random::new(0x4B68_756D_7361_0003);
     for kind in KINDS {
-        for size in [0, 7, 8, 9, 64, 513, 1_023, 1_024] {
-            let payload = sections::payload(&mut random, kind, size);
+        for size in [0, 7, 8, 9, 13, 14, 64, 513, 1_023, 1_024] {
+            let mut payload = sections::payload(&mut random, kind, size);
+            assert_eq!(run(&sample, &payload), said(&payload), "{payload:02X?}");
+            // The same of an NRT-IT.
+            if let Some(table_id) = payload.first_mut() {
+                *table_id = 0xDF;
+            }
             assert_eq!(run(&sample, &payload), said(&payload), "{payload:02X?}");
         }
     }
@@ -114,7 +123,7 @@ fn the_sample_lists_files() {
             );
         }
     }
-    for name in ["whole", "gaps", "damaged"] {
+    for name in ["whole", "gaps", "damaged", "programmes"] {
         let file = fs::read(top(&format!("samples/{name}.shelf"))).expect(name);
         assert_eq!(run(&sample, &file), opinion::lister::list(&file), "{name}");
     }
@@ -218,7 +227,7 @@ const ANSWERS: [(&str, &str); 29] = [
     ("clock_move", "&clock, 1"),
     ("clock_time", "&clock"),
     ("clock_state", "&clock, 1"),
-    ("writer_count", "8"),
+    ("writer_count", "201, 8"),
     ("writer_section", "label, bytes, 4, 0, bytes + 4, 4"),
     ("writer_file", "label, bytes, 4, bytes + 4, 4"),
 ];

@@ -98,7 +98,7 @@ fn a_file_is_listed_from_anywhere() {
         command
     };
     let samples = top("samples");
-    for name in ["whole", "gaps", "damaged"] {
+    for name in ["whole", "gaps", "damaged", "programmes"] {
         let name = format!("{name}.shelf");
         let file = fs::read(samples.join(&name)).expect("a sample");
         let listed = opinion::lister::list(&file);
@@ -226,6 +226,10 @@ fn pipes() {
     let line = "printf Pier | \"$TOOLS/feed\" 201 4660 3 | tail -c +3 | \"$TOOLS/offer\"";
     let replayed = "payload 1 bytes 12: began\ntable 201 key 4660 version 3 last 0\ncomplete\n";
     said(&piped(line), replayed, 0);
+    // The bench makes no programme list.
+    let refused = piped("printf Pier | \"$TOOLS/feed\" 223 4097 3 | \"$TOOLS/list\"");
+    assert!(text(&refused.stderr).ends_with("refused 59, the writer asked for the NRT-IT's id\n"));
+    said(&refused, "refused 11\n", 1);
     let recording = fs::read(top("samples/recording.bin")).expect("the sample");
     outside.write("recording", recording);
     let told = fs::read_to_string(top("samples/recording.txt")).expect("the text");

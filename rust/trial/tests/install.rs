@@ -111,7 +111,7 @@ fn programs(outside: &Outside, prefix: &Path) {
         command.arg(word);
         command
     };
-    for name in ["whole", "gaps", "damaged"] {
+    for name in ["whole", "gaps", "damaged", "programmes"] {
         let path = top(&format!("samples/{name}.shelf"));
         let file = fs::read(&path).expect(name);
         let listed = opinion::lister::list(&file);

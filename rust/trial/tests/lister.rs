@@ -47,13 +47,13 @@ fn random_files() {
     }
     tally.show(
         &format!("files through the lister, seed {SEED:#018X}"),
-        &[0, 2, 3, 4, 5, 6, 7, 8, 11, 12],
+        &[0, 2, 3, 4, 5, 6, 7, 8, 11, 12, 46],
     );
 }
 
 #[test]
 fn the_samples() {
-    for name in ["whole", "gaps", "damaged"] {
+    for name in ["whole", "gaps", "damaged", "small", "programmes"] {
         let file = fs::read(top(&format!("samples/{name}.shelf"))).expect(name);
         assert_eq!(printed(&file), lister::list(&file), "{name}");
     }

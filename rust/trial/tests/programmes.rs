@@ -8,6 +8,7 @@ use trial::beside::programmes::{
 use trial::files;
 use trial::programmes::{self, Made, Shape, KINDS, MOST, SMALLEST};
 use trial::random::Random;
+use trial::sections::{self, Fields};
 use trial::tally::{common, share, Tally};
 
 /// The seed of every random comparison here.
@@ -17,13 +18,13 @@ const SEED: u64 = 0x4B68_756D_7361_000B;
 const ROUNDS: usize = 22_000;
 
 /// What a walk can end with, 0 for a whole list.
-const ANSWERS: [u8; 12] = [0, 1, 2, 3, 4, 5, 6, 7, 8, 43, 44, 45];
+const ANSWERS: [u8; 13] = [0, 1, 2, 3, 4, 5, 6, 7, 8, 43, 44, 45, 46];
 
 /// What a step can answer, and the table's own loop.
-const STEPS: [u8; 14] = [ITEM, OVER, OWN, 1, 2, 3, 4, 5, 6, 7, 8, 43, 44, 45];
+const STEPS: [u8; 15] = [ITEM, OVER, OWN, 1, 2, 3, 4, 5, 6, 7, 8, 43, 44, 45, 46];
 
 /// What a call for items can answer.
-const SEVERAL: [u8; 13] = [ITEM, OVER, 1, 2, 3, 4, 5, 6, 7, 8, 15, 43, 45];
+const SEVERAL: [u8; 14] = [ITEM, OVER, 1, 2, 3, 4, 5, 6, 7, 8, 15, 43, 45, 46];
 
 /// How many numbers are lent for items: fewer than one takes, those of one, some or all, and numbers that are part of none.
 fn room(random: &mut Random) -> usize {
@@ -54,7 +55,61 @@ fn random_lists() {
     common(tally.total(), 300_000);
     tally.show(&format!("lists, seed {SEED:#018X}"), &ANSWERS);
     found.show("lists, each answer", &STEPS);
+    common(tally.of(46).min(found.met("any own loop", 46)), 1_000);
+    // Of another table 45 comes, however short it is.
+    assert_eq!(tally.met("another table", 46), 0);
 }
+
+/// Payloads of 8 to 20 bytes, of the NRT-IT and of other tables, with every header field broken or none: 46 is given where nothing
+/// before it is, and 45 only of other tables.
+#[test]
+fn short_lists() {
+    let mut random = Random::new(SEED);
+    let (mut tally, mut found) = (Tally::default(), Tally::default());
+    for size in 8..=20 {
+        for _ in 0..share(5_000) {
+            let fields = Fields::random(&mut random);
+            let mut payload = sections::section(&mut random, size, fields);
+            // No item and few descriptors.
+            let small = payload.iter_mut().skip(16);
+            small.for_each(|byte| *byte &= random.byte() & 1);
+            let mut kind = match fields.is_nrt_it() {
+                true => "an NRT-IT",
+                false => "another table",
+            };
+            if random.once_in(3) {
+                sections::break_field(&mut random, &mut payload);
+                kind = "a field broken";
+            }
+            let number = walk(&payload, &mut found);
+            let expected = match (kind, size) {
+                ("an NRT-IT", 8..=13) => Some(46),
+                ("an NRT-IT", 14..=16) => Some(43),
+                ("another table", _) => Some(45),
+                _ => None,
+            };
+            assert!(expected.is_none_or(|n| n == number), "{payload:02X?}");
+            tally.note(kind, number);
+            let (at, item) = (random.below(size + 2), random.byte());
+            found.note("any place", step(&payload, at, item));
+            found.note("any own loop", own(&payload, at));
+            in_room(&payload, at, item, room(&mut random));
+        }
+    }
+    tally.show(&format!("short lists, seed {SEED:#018X}"), &SHORT);
+    ["an NRT-IT", "a field broken"]
+        .iter()
+        .for_each(|kind| common(tally.met(kind, 46), 100));
+    common(
+        tally
+            .met("an NRT-IT", 43)
+            .min(tally.met("another table", 45)),
+        1_000,
+    );
+}
+
+/// What a walk over a short list can end with.
+const SHORT: [u8; 12] = [0, 2, 3, 4, 5, 6, 7, 8, 43, 44, 45, 46];
 
 /// Calls for several items of any list from the place of any of its items and from any other, taken for any number, in any room.
 #[test]
@@ -152,6 +207,7 @@ fn cut_at_every_place() {
             let number = walk(&payload, found);
             let expected = match size {
                 0..=7 => 1,
+                8..=13 => 46,
                 _ if size < whole => 43,
                 _ => 0,
             };
@@ -167,8 +223,8 @@ fn cut_at_every_place() {
         every(&made, &mut tally, &mut found);
     }
     common(tally.total(), 200_000);
-    tally.show(&format!("lists cut, seed {SEED:#018X}"), &[0, 1, 43]);
-    found.show("lists cut, each answer", &[ITEM, OVER, OWN, 1, 43]);
+    tally.show(&format!("lists cut, seed {SEED:#018X}"), &[0, 1, 43, 46]);
+    found.show("lists cut, each answer", &[ITEM, OVER, OWN, 1, 43, 46]);
 }
 
 /// The smallest items, all fields with two descriptors at most, long names, long loops.
@@ -284,7 +340,7 @@ fn reserved_bits() {
     found.show("reserved bits", &[ITEM, OVER, OWN]);
 }
 
-/// The refusals in their order: the section's own, then 45, then 43 of the fields from the left.
+/// The refusals in their order: the section's own, then 46, then 45, then 43 of the fields from the left.
 #[test]
 fn the_order_of_refusals() {
     let mut random = Random::new(SEED);
@@ -301,6 +357,12 @@ fn the_order_of_refusals() {
     assert_eq!(with(16, &[(0, 0xDE), (1, 0xF0)]), 2, "2 before 45");
     assert_eq!(with(16, &[(0, 0xDE), (6, 17), (7, 16)]), 6, "6 before 45");
     assert_eq!(with(7, &[(0, 0xDE)]), 1, "1 before 45");
+    assert_eq!(with(8, &[]), 46, "46 before 43");
+    assert_eq!(with(13, &[]), 46, "46 before 43");
+    assert_eq!(with(13, &[(0, 0xDE)]), 45, "46 of the NRT-IT alone");
+    assert_eq!(with(13, &[(5, 0xC6)]), 8, "8 before 46");
+    assert_eq!(with(13, &[(6, 3), (7, 2)]), 6, "6 before 46");
+    assert_eq!(with(14, &[]), 43);
     // 43 of an item before 44 of the loop, 43 of the loop before 44.
     let mut body = vec![0; 8];
     body.extend([1, 0, 0, 0, 1, 0, 0, 200, 0]);
@@ -372,7 +434,7 @@ fn word(line: &str) -> &'static str {
 fn files_have_every_line() {
     let mut random = Random::new(SEED);
     let mut lines: BTreeMap<&str, u64> = BTreeMap::new();
-    let (mut longest, mut refused) = (0, [0u64; 2]);
+    let (mut longest, mut refused) = (0, [0u64; 4]);
     for kind in files::KINDS {
         for _ in 0..share(1_000) {
             let file = programmes::file(&mut random, kind);
@@ -382,10 +444,16 @@ fn files_have_every_line() {
                 *lines.entry(word(line)).or_default() += 1;
                 refused[0] += u64::from(line.contains(" refused 43 place "));
                 refused[1] += u64::from(line.contains(" refused 44 place "));
+                refused[2] += u64::from(line == "refused 46");
+                let service = line.starts_with("table 223 ") && line.contains(" service ");
+                refused[3] += u64::from(service);
+                assert_eq!(service, line.starts_with("table 223 "), "{line}");
             }
         }
     }
-    println!("texts of files, seed {SEED:#018X}: the longest {longest} bytes, 43 and 44 {refused:?}, {lines:?}");
+    println!(
+        "texts of files, seed {SEED:#018X}: the longest {longest} bytes, 43, 44, 46 and tables with a service {refused:?}, {lines:?}"
+    );
     LINES
         .iter()
         .for_each(|word| common(lines.get(word).copied().unwrap_or(0), 100));

@@ -1,12 +1,16 @@
 //! The library and the independent program are held to every answer of `vectors/`.
 
+mod raw;
+
 use khumsafil::clock::{self, Heard, State};
 use khumsafil::shelf::{self, lent, Accepted};
-use khumsafil::{descriptor, file, programme, section, trigger, writer, Key, Refusal};
+use khumsafil::{descriptor, file, programme, section, trigger, writer, Refusal};
 use opinion::clock as their_clock;
 use opinion::shelf as their_shelf;
 use std::collections::BTreeMap;
 use trial::beside::writer::their_file;
+use trial::keys::{for_us, Key};
+use trial::shelf::{rest, rest_of};
 use trial::top;
 use trial::vectors::{all, spelt, spelt_held, Arguments, Call, Step, Vector};
 
@@ -82,8 +86,7 @@ impl Lent {
                 let p: usize = with.number("number");
                 let place = their_shelf::Place {
                     taken: true,
-                    table_id: with.number("table_id"),
-                    extension: with.number("extension"),
+                    key: key(&mut with),
                     version: with.number("version"),
                     last: with.number("last"),
                     lengths: with.held("held"),
@@ -96,11 +99,12 @@ impl Lent {
                 }
                 self.record[80 + p] = mask;
                 self.record[64 + 4 * p..68 + 4 * p].copy_from_slice(&[
-                    256 + u16::from(place.table_id),
-                    place.extension,
+                    256 + u16::from(place.key.table_id),
+                    place.key.extension,
                     place.version.into(),
                     place.last.into(),
                 ]);
+                self.record[rest(p)].copy_from_slice(&rest_of(place.key));
                 self.their_record.places[p] = place;
             }
             Step::Clock(mut with) => {
@@ -149,11 +153,15 @@ fn refused_by(number: u8) -> String {
 
 /// A table in the numbers that it is answered in, as a vector spells it.
 fn table(fields: &[u16]) -> String {
-    let held = spelt_held(fields[4..20].try_into().expect("sixteen lengths"));
-    let [table_id, extension, version, last] = fields[..4] else {
-        unreachable!("four numbers")
+    let held = spelt_held(fields[7..23].try_into().expect("sixteen lengths"));
+    let [table_id, extension, service_id, high, low, version, last] = fields[..7] else {
+        unreachable!("seven numbers")
     };
-    format!("table_id={table_id} extension={extension} version={version} last={last} held={held}")
+    let start = u32::from(high) << 16 | u32::from(low);
+    format!(
+        "table_id={table_id} extension={extension} {} version={version} last={last} held={held}",
+        rest_said((service_id, start))
+    )
 }
 
 /// An answer's bytes, at the front of an output whose other bytes are as they were.
@@ -190,8 +198,30 @@ fn listed(text: &str) -> String {
     format!("text\n{}", text.trim_end_matches('\n'))
 }
 
+/// The rest of a key as a vector spells it.
+fn rest_said((service_id, start): (u16, u32)) -> String {
+    format!("service_id={service_id} time_span_start={start}")
+}
+
+/// The four numbers of a key, of which the last two may lack; they are 0 then.
 fn key(with: &mut Arguments) -> Key {
-    Key::new(with.number("table_id"), with.number("extension"))
+    Key {
+        table_id: with.number("table_id"),
+        extension: with.number("extension"),
+        service_id: with.maybe("service_id").unwrap_or(0),
+        time_span_start: with.maybe("time_span_start").unwrap_or(0),
+    }
+}
+
+/// The same for the library.
+fn our_key(with: &mut Arguments) -> khumsafil::Key {
+    for_us(key(with))
+}
+
+/// What the writer takes beside a body: a table id, an extension and a version.
+fn label(with: &mut Arguments) -> writer::Label {
+    let key = khumsafil::Key::new(with.number("table_id"), with.number("extension"));
+    writer::Label::new(key, with.number("version"))
 }
 
 /// What the library answers.
@@ -218,6 +248,10 @@ fn ours(lent: &mut Lent, call: &Call) -> String {
             ),
             Err(refusal) => refused(refusal),
         },
+        "section_key" => {
+            let answer = raw::section_key(&with.bytes("payload"));
+            answer.map_or_else(refused_by, rest_said)
+        }
         "shelf_begin" => done(lent::begin(record, store)),
         "shelf_offer" => match lent::offer(record, store, &with.bytes("payload")) {
             Ok(Accepted::Began) => "began".to_string(),
@@ -226,13 +260,13 @@ fn ours(lent: &mut Lent, call: &Call) -> String {
             Ok(Accepted::Repeat) => "repeat".to_string(),
             Err(refusal) => refused(refusal),
         },
-        "shelf_is_complete" => yes(lent::is_complete(record, store, key(with))),
-        "shelf_complete" => match lent::complete(record, store, key(with)) {
+        "shelf_is_complete" => yes(lent::is_complete(record, store, our_key(with))),
+        "shelf_complete" => match lent::complete(record, store, our_key(with)) {
             Ok(true) => "complete".to_string(),
             Ok(false) => "incomplete".to_string(),
             Err(refusal) => refused(refusal),
         },
-        "shelf_lowest_missing" => match lent::lowest_missing(record, store, key(with)) {
+        "shelf_lowest_missing" => match lent::lowest_missing(record, store, our_key(with)) {
             Ok(Some(number)) => format!("missing={number}"),
             Ok(None) => "nothing".to_string(),
             Err(refusal) => refused(refusal),
@@ -244,13 +278,13 @@ fn ours(lent: &mut Lent, call: &Call) -> String {
             numbered(answer, &out, shelf::TABLE_FIELDS).map_or_else(|refused| refused, table)
         }
         "shelf_copy_section" => {
-            let (key, number, mut out) = (key(with), with.number("number"), room(with));
+            let (key, number, mut out) = (our_key(with), with.number("number"), room(with));
             let answer = lent::copy_section(record, store, key, number, &mut out);
             written(answer.map_err(refused), &out)
         }
-        "shelf_release" => done(lent::release(record, store, key(with))),
+        "shelf_release" => done(lent::release(record, store, our_key(with))),
         "shelf_save" => {
-            let (key, mut out) = (key(with), room(with));
+            let (key, mut out) = (our_key(with), room(with));
             let answer = lent::save(record, store, key, &mut out);
             written(answer.map_err(refused), &out)
         }
@@ -362,18 +396,17 @@ fn ours(lent: &mut Lent, call: &Call) -> String {
             Err(refusal) => refused(refusal),
         },
         "writer_count" => {
-            let counted = writer::count(with.number("length"));
+            let counted = writer::count(with.number("table_id"), with.number("length"));
             counted.map_or_else(refused, |sections| format!("sections={sections}"))
         }
         "writer_section" => {
-            let label = writer::Label::new(key(with), with.number("version"));
+            let label = label(with);
             let (body, k, mut out) = (with.bytes("body"), with.number("k"), room(with));
             let answer = writer::section(label, &body, k, &mut out);
             written(answer.map_err(refused), &out)
         }
         "writer_file" => {
-            let label = writer::Label::new(key(with), with.number("version"));
-            let (body, mut out) = (with.bytes("body"), room(with));
+            let (label, body, mut out) = (label(with), with.bytes("body"), room(with));
             let answer = writer::file(label, &body, &mut out);
             written(answer.map_err(refused), &out)
         }
@@ -508,7 +541,6 @@ fn theirs(lent: &mut Lent, call: &Call) -> Option<String> {
     }
     let mut with = call.with.clone();
     let with = &mut with;
-    let key = |with: &mut Arguments| (with.number("table_id"), with.number("extension"));
     let (record, store) = (&mut lent.their_record, &mut lent.their_store);
     let room = |with: &mut Arguments| vec![UNWRITTEN; with.number("room")];
     // The independent program's answers need no room for numbers.
@@ -530,6 +562,11 @@ fn theirs(lent: &mut Lent, call: &Call) -> Option<String> {
                 Err(number) => refused_by(number),
             }
         }
+        "section_key" => {
+            let read = opinion::section::read(&with.bytes("payload"));
+            let rest = read.map(|s| (s.service_id, s.time_span_start));
+            rest.map_or_else(refused_by, rest_said)
+        }
         "shelf_begin" if store.len() != their_shelf::STORE => return None,
         "shelf_begin" => {
             *record = their_shelf::fresh();
@@ -543,26 +580,17 @@ fn theirs(lent: &mut Lent, call: &Call) -> Option<String> {
             Ok(their_shelf::Accepted::Repeat) => "repeat".to_string(),
             Err(number) => refused_by(number),
         },
-        "shelf_is_complete" => {
-            let (table_id, extension) = key(with);
-            yes(their_shelf::complete(record, store, table_id, extension) == Ok(true))
-        }
-        "shelf_complete" => {
-            let (table_id, extension) = key(with);
-            match their_shelf::complete(record, store, table_id, extension) {
-                Ok(true) => "complete".to_string(),
-                Ok(false) => "incomplete".to_string(),
-                Err(number) => refused_by(number),
-            }
-        }
-        "shelf_lowest_missing" => {
-            let (table_id, extension) = key(with);
-            match their_shelf::lowest_missing(record, store, table_id, extension) {
-                Ok(Some(number)) => format!("missing={number}"),
-                Ok(None) => "nothing".to_string(),
-                Err(number) => refused_by(number),
-            }
-        }
+        "shelf_is_complete" => yes(their_shelf::complete(record, store, key(with)) == Ok(true)),
+        "shelf_complete" => match their_shelf::complete(record, store, key(with)) {
+            Ok(true) => "complete".to_string(),
+            Ok(false) => "incomplete".to_string(),
+            Err(number) => refused_by(number),
+        },
+        "shelf_lowest_missing" => match their_shelf::lowest_missing(record, store, key(with)) {
+            Ok(Some(number)) => format!("missing={number}"),
+            Ok(None) => "nothing".to_string(),
+            Err(number) => refused_by(number),
+        },
         "shelf_table" => {
             let answer = their_shelf::table(record, store, with.number("place"));
             if answer.is_ok() && !enough(with, shelf::TABLE_FIELDS) {
@@ -571,19 +599,14 @@ fn theirs(lent: &mut Lent, call: &Call) -> Option<String> {
             their_table_said(answer)
         }
         "shelf_copy_section" => {
-            let ((table_id, extension), mut out) = (key(with), room(with));
-            let number = with.number("number");
-            let answer =
-                their_shelf::copy_section(record, store, table_id, extension, number, &mut out);
+            let (key, number, mut out) = (key(with), with.number("number"), room(with));
+            let answer = their_shelf::copy_section(record, store, key, number, &mut out);
             written(answer.map_err(refused_by), &out)
         }
-        "shelf_release" => {
-            let (table_id, extension) = key(with);
-            done(their_shelf::release(record, store, table_id, extension))
-        }
+        "shelf_release" => done(their_shelf::release(record, store, key(with))),
         "shelf_save" => {
-            let ((table_id, extension), mut out) = (key(with), room(with));
-            let answer = opinion::file::save(record, store, table_id, extension, &mut out);
+            let (key, mut out) = (key(with), room(with));
+            let answer = opinion::file::save(record, store, key, &mut out);
             written(answer.map_err(refused_by), &out)
         }
         "shelf_load" => done(opinion::file::load(record, store, &with.bytes("file"))),
@@ -711,26 +734,22 @@ fn theirs(lent: &mut Lent, call: &Call) -> Option<String> {
             }
         }
         "writer_count" => {
-            let counted = opinion::writer::count(with.number("length"));
+            let (table_id, length) = (with.number("table_id"), with.number("length"));
+            let counted = opinion::writer::count(table_id, length);
             counted.map_or_else(refused_by, |sections| format!("sections={sections}"))
         }
         "writer_section" => {
-            let (table_id, extension) = key(with);
+            let (id, extension) = (with.number("table_id"), with.number("extension"));
             let (version, k) = (with.number("version"), with.number("k"));
             let (body, mut out) = (with.bytes("body"), room(with));
-            let answer = opinion::writer::write(table_id, extension, version, &body, k, &mut out);
+            let answer = opinion::writer::write(id, extension, version, &body, k, &mut out);
             written(answer.map_err(refused_by), &out)
         }
-        "writer_file" => {
-            let (table_id, extension) = key(with);
-            let key = Key::new(table_id, extension);
-            let label = writer::Label::new(key, with.number("version"));
-            match their_file(label, &with.bytes("body")) {
-                Ok(file) if !enough(with, file.len()) => return None,
-                Ok(file) => format!("bytes={}", spelt(&file)),
-                Err(number) => refused_by(number),
-            }
-        }
+        "writer_file" => match their_file(label(with), &with.bytes("body")) {
+            Ok(file) if !enough(with, file.len()) => return None,
+            Ok(file) => format!("bytes={}", spelt(&file)),
+            Err(number) => refused_by(number),
+        },
         other => panic!("no function {other}"),
     })
 }

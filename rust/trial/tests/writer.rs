@@ -5,8 +5,9 @@ use khumsafil::writer::{self as ours, Label, LARGEST_BODY};
 use khumsafil::{section, Refusal};
 use opinion::writer as theirs;
 use trial::beside::writer as beside;
+use trial::keys::{self, NRT_IT};
 use trial::random::Random;
-use trial::tally::Tally;
+use trial::tally::{common, Tally};
 
 /// The seed of every random comparison here.
 const SEED: u64 = 0x4B68_756D_7361_0010;
@@ -27,11 +28,21 @@ fn label(random: &mut Random) -> Label {
     labelled(random, None)
 }
 
-/// A label with that version, or any.
+/// A label with that version, or any. One in four is an NRT-IT's.
 fn labelled(random: &mut Random, version: Option<u8>) -> Label {
-    let key = Key::new(random.byte(), random.word() as u16);
+    let key = keys::for_us(keys::any(random));
     let any = random.byte() % 64;
     Label::new(key, version.unwrap_or(any))
+}
+
+/// A label of a table that can be written.
+fn writable(random: &mut Random, version: u8) -> Label {
+    loop {
+        let label = labelled(random, Some(version));
+        if label.key.table_id != NRT_IT {
+            return label;
+        }
+    }
 }
 
 #[test]
@@ -39,15 +50,19 @@ fn every_section_of_bodies() {
     let mut random = Random::new(SEED);
     let (mut counts, mut tally) = (Tally::default(), Tally::default());
     for length in lengths() {
-        let count = beside::count(length);
-        counts.note("count", count.err().unwrap_or(0));
-        let last = count.unwrap_or(16) - 1;
+        for table_id in 0..=255 {
+            let count = beside::count(table_id, length);
+            counts.note("every table id", count.err().unwrap_or(0));
+        }
+        let last = beside::count(201, length).unwrap_or(16) - 1;
         let body = random.bytes(length);
         for label in [
             label(&mut random),
             label(&mut random),
             labelled(&mut random, Some(31)),
             labelled(&mut random, Some(32)),
+            Label::new(Key::nrt_it(4_097, 7, keys::START), 3),
+            Label::new(Key::new(NRT_IT, 4_097), 32),
         ] {
             for k in (0..=last + 1).chain([random.byte(), 255]) {
                 // The section's size where there is one; a room that would do where there is none.
@@ -66,13 +81,49 @@ fn every_section_of_bodies() {
         }
     }
     for length in [LARGEST_BODY + 1, usize::MAX - 1, usize::MAX] {
-        assert_eq!(ours::count(length), Err(Refusal::WRITER_BODY_TOO_LONG));
+        assert_eq!(beside::count(201, length), Err(40));
+        assert_eq!(beside::count(NRT_IT, length), Err(59), "59 before 40");
     }
-    counts.show("lengths of bodies", &[0, 40]);
+    let nrt_it = ours::count(NRT_IT, 0);
+    assert_eq!(nrt_it, Err(Refusal::ASKED_FOR_NRT_IT));
+    counts.show("lengths of bodies", &[0, 40, 59]);
     tally.show(
         &format!("sections written, seed {SEED:#018X}"),
-        &[0, 15, 40, 41, 42],
+        &[0, 15, 40, 41, 42, 59],
     );
+    common(counts.of(59).min(tally.of(59)), 100);
+}
+
+/// Every fault of the writer beside the NRT-IT's id: 59 stands before the body's length, the version, k and the room.
+#[test]
+fn asked_for_an_nrt_it() {
+    let mut random = Random::new(SEED);
+    let mut tally = Tally::default();
+    for length in lengths() {
+        let body = random.bytes(length);
+        for version in [0, 31, 32, 255] {
+            let any = keys::any(&mut random);
+            for key in [
+                Key::nrt_it(any.extension, any.service_id, any.time_span_start),
+                Key::new(NRT_IT, any.extension),
+            ] {
+                let label = Label::new(key, version);
+                for k in [0, 1, 15, 16, 255] {
+                    for room in [0, 8, LARGEST_SECTION] {
+                        let (answer, _) = beside::section(label, &body, k, room);
+                        assert_eq!(answer, Err(59), "{label:?}, {length} bytes, k {k}");
+                        tally.note("section", 59);
+                    }
+                }
+                for room in [0, 11, LARGEST_FILE] {
+                    let (answer, _) = beside::file(label, &body, room);
+                    assert_eq!(answer, Err(59), "{label:?}, {length} bytes");
+                    tally.note("file", 59);
+                }
+            }
+        }
+    }
+    tally.show("asked for an NRT-IT", &[59]);
 }
 
 /// The sections of one body are read as they were written.
@@ -97,9 +148,9 @@ fn offered_in_any_order() {
     for length in lengths().into_iter().filter(|n| *n <= LARGEST_BODY) {
         let body = random.bytes(length);
         let version = random.byte() % 32;
-        let label = labelled(&mut random, Some(version));
+        let label = writable(&mut random, version);
         let key = label.key;
-        let count = ours::count(length).expect("a body that is not too long");
+        let count = ours::count(key.table_id, length).expect("a body that is not too long");
         let sections: Vec<_> = (0..count)
             .map(|k| {
                 let (answer, mut out) = beside::section(label, &body, k, LARGEST_SECTION);
@@ -161,6 +212,7 @@ fn files_of_bodies() {
         let body = random.bytes(length);
         let version = random.byte() % 32;
         for label in [
+            writable(&mut random, version),
             labelled(&mut random, Some(version)),
             labelled(&mut random, Some(32)),
             label(&mut random),
@@ -191,7 +243,7 @@ fn files_of_bodies() {
     assert!(loaded > 100);
     tally.show(
         &format!("files of bodies, seed {SEED:#018X}"),
-        &[0, 15, 40, 41],
+        &[0, 15, 40, 41, 59],
     );
 }
 
@@ -203,6 +255,10 @@ fn every_label() {
     for number in 0..=u16::MAX {
         let label = Label::new(Key::new(number as u8, number), (number % 32) as u8);
         let (answer, out) = beside::section(label, &body, 1, 9);
+        if number as u8 == NRT_IT {
+            assert_eq!(answer, Err(59));
+            continue;
+        }
         assert_eq!(answer, Ok(9));
         let read = section::read(&out).expect("a sound section");
         assert_eq!(read.key, label.key);

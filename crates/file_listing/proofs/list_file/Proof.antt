@@ -12,11 +12,11 @@ use Rattle.file_listing.proofs.list_file.Tie as tie
 text-for-requires : tie.Need-text-for-requires
 text-for-requires c κs = search needs
 
-long : (c : tie.After-bytes) → length (c .before .text-for .result .bytes) ≡ 687
+long : (c : tie.After-bytes) → length (c .before .text-for .result .bytes) ≡ 718
 long c = search needs
 
 room : (c : tie.After-bytes) → c .before .text-for .result .size ≤ length (c .before .text-for .result .bytes)
-room c = let w : c .before .text-for .result .size ≤ 687 = c .before .text-for .ensures .within in omega (arith, long c)
+room c = let w : c .before .text-for .result .size ≤ 718 = c .before .text-for .ensures .within in omega (arith, long c)
 
 returns : tie.Need-returns
 returns c = too-small _ _ _ (long (c .before)) (c .before .before .text-for .ensures) (c .if1 .taken)

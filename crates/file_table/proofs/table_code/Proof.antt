@@ -39,9 +39,9 @@ same-length c = search needs
 
 returns-2 : tie.Need-returns-2
 returns-2 c =
-    let r = c .before .before .before .before .before .before .before .before .before .before .read-file .ensures in
+    let r = c .before .before .before .before .before .before .before .before .before .before .before .read-file .ensures in
     lent-table _ _ _ _
-    (ap (λ (s : Scanned). s .answer) (sym r) ∙ c .before .before .before .before .before .before .before .answer2 .given .1)
+    (ap (λ (s : Scanned). s .answer) (sym r) ∙ c .before .before .before .before .before .before .before .before .answer2 .given .1)
     (ap (λ (s : Scanned). s .lengths) r)
     (c .before .before .put-table .ensures ∙ rw (c .before .before .before .before .before .half .ensures .0, c .before .before .before .before .half2 .ensures .0))
 

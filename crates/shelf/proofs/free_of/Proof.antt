@@ -17,7 +17,7 @@ use Rattle.shelf.proofs.free_of.Reads as reads
 use Rattle.shelf.proofs.free_of.Lts as lts
 
 abbrev Inv-loop : tie.InvT-loop
-Inv-loop words free₀ free = (free ≤ 4) × (length words ≡ 84) × (lowest free (λ k. not (placeAt (shelfIn words) k .taken)) ≡ free)
+Inv-loop words free₀ free = (free ≤ 4) × (length words ≡ 96) × (lowest free (λ k. not (placeAt (shelfIn words) k .taken)) ≡ free)
 
 abbrev μ-loop : tie.MeasureT-loop
 μ-loop words free₀ free = 4 - free

@@ -1,71 +1,34 @@
--- `shelf::place_of` meets its promise: the search for the lowest place that has the key.
+-- `shelf::place_of` meets its promise: a key that no four numbers say is nowhere, and any other is where `place_of_said` says.
 use borrow.Author.Needs.{needs}
-use mathlib.Core.Path.{_≡_, sym, _∙_}
-use Prim.Native.Nat.{_≤_, _-_}
-use native.Mathlib.Omega.{arith}
-use lib.ListN.{length}
-use Rattle.base.specs.Below.{lowest}
-use Rattle.base.proofs.Below.{lowest-none, lowest-more, lowest-found}
-use Rattle.shelf.proofs.Find.{lowest-at}
-use Rattle.shelf.specs.Record.{placeAt, hasKey, placeOf}
-use Rattle.shelf.specs.Layout.{shelfIn}
-use Rattle.shelf.proofs.Numbers.{key-told, among-place, place-none}
+use borrow.Author.Tests.{not-true, not-false}
+use mathlib.Core.Path.{sym}
+use Rattle.shelf.proofs.Alike.{nowhere, is-said, unsaid}
 use Rattle.shelf.proofs.place_of.Statement.{statement}
 use Rattle.shelf.proofs.place_of.Tie as tie
 use Rattle.shelf.proofs.place_of.Reads as reads
 use Rattle.shelf.proofs.place_of.Lts as lts
-use Rattle.shelf.proofs.has_key.Reads as has-key-reads
+use Rattle.key.proofs.from.Reads as from-reads
+use Rattle.key.proofs.same.Reads as same-reads
+use Rattle.shelf.proofs.place_of_said.Reads as place-of-said-reads
 
-abbrev Inv-loop : tie.InvT-loop
-Inv-loop words key p₀ p = (p ≤ 4) × (length words ≡ 84) × (lowest p (λ k. hasKey (placeAt (shelfIn words) k) key) ≡ p)
+from-requires : tie.Need-from-requires
+from-requires c κs = search needs
 
-abbrev μ-loop : tie.MeasureT-loop
-μ-loop words key p₀ p = 4 - p
+same-requires : tie.Need-same-requires
+same-requires c κs = search needs
 
-returns : tie.Need-returns Inv-loop μ-loop
-returns c = (sym (place-none _ _ (c .if1 .taken)), search needs)
+returns : tie.Need-returns
+returns c = (sym (nowhere _ _ (unsaid _ (c .before .before .from .ensures) (c .before .same .ensures) (not-true _ (c .if1 .taken)))), search needs)
 
-loop-holds : tie.Need-loop-holds Inv-loop μ-loop
-loop-holds c = (search needs, search needs, lowest-none _)
+place-of-said-requires : tie.Need-place-of-said-requires
+place-of-said-requires c κs = search needs
 
-has-key-requires : tie.Need-has-key-requires Inv-loop μ-loop
-has-key-requires c κs = search needs
-
-returns-2 : tie.Need-returns-2 Inv-loop μ-loop
-unfolding placeOf
-returns-2 c =
-    let k = c .before .before .before .loop in
-    (sym (among-place _ _ (k .inv .1) ∙ lowest-found _ 4 (k .p) (omega arith) (k .inv .2) (key-told _ (k .p) _ (omega arith) (c .before .has-key .ensures) (c .if2 .taken))), search needs)
-
-add-p : tie.Need-add-p Inv-loop μ-loop
-add-p c = search needs
-
-loop-less : tie.Need-loop-less Inv-loop μ-loop
-loop-less c = search needs
-
-loop-again : tie.Need-loop-again Inv-loop μ-loop
-loop-again c =
-    let k = c .before .before .before .loop in
-    (search needs, k .inv .1, lowest-more _ (k .p) (k .inv .2) (key-told _ (k .p) _ (omega arith) (c .before .has-key .ensures) (c .if2 .left)))
-
-returns-3 : tie.Need-returns-3 Inv-loop μ-loop
-unfolding placeOf
-returns-3 c =
-    let k = c .before .loop in
-    let e : k .p ≡ 4 = omega arith in
-    (e ∙ sym (among-place _ _ (k .inv .1) ∙ lowest-at 4 _ e (k .inv .2)), search needs)
+returns-2 : tie.Need-returns-2
+returns-2 c = (
+  c .place-of-said .ensures .0 (is-said _ (c .before .before .before .from .ensures) (c .before .before .same .ensures) (not-false _ (c .before .if1 .left))),
+  c .place-of-said .ensures .1,
+)
 
 pub place-of-spec : {M : Type 1} → statement M
 place-of-spec =
-    tie.close
-    (tie.spec
-    Inv-loop
-    μ-loop
-    returns
-    loop-holds
-    has-key-requires
-    returns-2
-    add-p
-    loop-less
-    loop-again
-    returns-3)
+    tie.close (tie.spec from-requires same-requires returns place-of-said-requires returns-2)

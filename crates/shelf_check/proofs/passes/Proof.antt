@@ -1,4 +1,4 @@
--- `shelf_check::passes` meets its promise: of 84 numbers both parts of the pass say yes, and another count does not pass.
+-- `shelf_check::passes` meets its promise: of 96 numbers both parts of the pass say yes, and another count does not pass.
 use mathlib.Core.Path.{sym}
 use Rattle.base.proofs.Cases.{unlike}
 use Rattle.shelf_check.proofs.Quick.{both-pass}

@@ -14,7 +14,7 @@ use Rattle.shelf_load.proofs.hold_each.Lts as lts
 use Rattle.shelf_write.proofs.put_held.Reads as put-held-reads
 
 abbrev Inv-loop : tie.InvT-loop
-Inv-loop words₀ p lengths n₀ words n = (n ≤ 16) × (length words ≡ 84) × (length lengths ≡ 16) × (words ≡ heldBelow n words₀ p lengths)
+Inv-loop words₀ p lengths n₀ words n = (n ≤ 16) × (length words ≡ 96) × (length lengths ≡ 16) × (words ≡ heldBelow n words₀ p lengths)
 
 abbrev μ-loop : tie.MeasureT-loop
 μ-loop words₀ p lengths n₀ words n = 16 - n

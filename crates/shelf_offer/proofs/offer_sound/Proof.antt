@@ -1,5 +1,6 @@
 -- `shelf_offer::offer_sound` meets its promise: the step that was found settles the offer, or is carried out.
 use native.Mathlib.Omega.{arith}
+use Rattle.key.proofs.Keys.{from-proper}
 use Rattle.section.proofs.Laws.{sound-facts}
 use Rattle.shelf_offer.proofs.Left.{settles, leads}
 use borrow.Author.Needs.{needs}
@@ -20,7 +21,7 @@ sound-step-requires : tie.Need-sound-step-requires
 sound-step-requires c κs =
     let pre = c .before .before .before .before .before .pre in
     let f = sound-facts _ _ (pre .0 .2) in
-    ((pre .0 .0, pre .0 .1), (omega (arith, f .number, f .last), f .version, omega (arith, f .last), f .most))
+    ((pre .0 .0, pre .0 .1), ((omega (arith, f .number, f .last), f .version, omega (arith, f .last), f .most), rw (f .header) (from-proper _ _ _ _)))
 
 what-by-requires : tie.Need-what-by-requires
 what-by-requires c κs = search needs

@@ -1,5 +1,5 @@
 -- `shelf_offer::sound_step` meets its promise: the key's place, or the free place, is the definition's.
-use mathlib.Core.Path.{_≡_, sym, ap, _∙_}
+use mathlib.Core.Path.{_≡_, refl, sym, ap, _∙_}
 use denote.Ref.{now}
 use lib.ListN.{length}
 use Rattle.shelf.specs.Record.{spoiledOf}
@@ -13,27 +13,23 @@ use Rattle.shelf_offer.proofs.sound_step.Reads as reads
 use Rattle.shelf_offer.proofs.sound_step.Lts as lts
 use Rattle.shelf_offer.proofs.held_step.Reads as held-step-reads
 use Rattle.shelf.proofs.free_of.Reads as free-of-reads
-use Rattle.shelf.proofs.key_of.Reads as key-of-reads
-use Rattle.shelf.proofs.place_of.Reads as place-of-reads
+use Rattle.shelf.proofs.place_of_said.Reads as place-of-said-reads
 
-key-of-requires : tie.Need-key-of-requires
-key-of-requires c κs = search needs
-
-place-of-requires : tie.Need-place-of-requires
-place-of-requires c κs = search needs
+place-of-said-requires : tie.Need-place-of-said-requires
+place-of-said-requires c κs = search needs
 
 held-step-requires : tie.Need-held-step-requires
 held-step-requires c κs =
-    let a = c .before .before .before .before .before .before .args in
-    let n : length (now (a .words)) ≡ 84 = search needs in
-    ((n, search needs), ((search needs, placed (now (a .words)) n (a .header) (c .before .before .key-of .ensures) (c .before .place-of .ensures .0) (search needs)), (search needs, search needs, search needs, search needs)))
+    let a = c .before .before .before .before .before .args in
+    let n : length (now (a .words)) ≡ 96 = search needs in
+    ((n, search needs), ((search needs, placed (now (a .words)) n (a .header) refl (c .before .place-of-said .ensures .0 (c .before .before .before .before .before .pre .1 .1)) (search needs)), (search needs, search needs, search needs, search needs)))
 
 returns : tie.Need-returns
 returns c =
     λ s.
-    let a = c .before .before .before .before .before .before .before .args in
-    let n : length (now (a .words)) ≡ 84 = search needs in
-    sound-held _ _ _ _ (place-found (now (a .words)) n (a .header) (c .before .before .before .key-of .ensures) (c .before .before .place-of .ensures .0)) (search needs) (rw (at-count (now (a .words)) n) (c .held-step .ensures (ap spoiledOf (sym (at-count (now (a .words)) n)) ∙ s)))
+    let a = c .before .before .before .before .before .before .args in
+    let n : length (now (a .words)) ≡ 96 = search needs in
+    sound-held _ _ _ _ (place-found (now (a .words)) n (a .header) refl (c .before .before .place-of-said .ensures .0 (c .before .before .before .before .before .before .pre .1 .1))) (search needs) (rw (at-count (now (a .words)) n) (c .held-step .ensures (ap spoiledOf (sym (at-count (now (a .words)) n)) ∙ s)))
 
 free-of-requires : tie.Need-free-of-requires
 free-of-requires c κs = search needs
@@ -41,23 +37,22 @@ free-of-requires c κs = search needs
 returns-2 : tie.Need-returns-2
 returns-2 c =
     λ s.
-    let a = c .before .before .before .before .before .before .before .before .args in
-    let n : length (now (a .words)) ≡ 84 = search needs in
-    sound-begins _ _ _ _ (place-found (now (a .words)) n (a .header) (c .before .before .before .before .key-of .ensures) (c .before .before .before .place-of .ensures .0)) (search needs) (search needs) (free-found (now (a .words)) n (c .before .free-of .ensures .0)) (search needs)
+    let a = c .before .before .before .before .before .before .before .args in
+    let n : length (now (a .words)) ≡ 96 = search needs in
+    sound-begins _ _ _ _ (place-found (now (a .words)) n (a .header) refl (c .before .before .before .place-of-said .ensures .0 (c .before .before .before .before .before .before .before .pre .1 .1))) (search needs) (search needs) (free-found (now (a .words)) n (c .before .free-of .ensures .0)) (search needs)
 
 returns-3 : tie.Need-returns-3
 returns-3 c =
     λ s.
-    let a = c .before .before .before .before .before .before .before .before .args in
-    let n : length (now (a .words)) ≡ 84 = search needs in
-    sound-full _ _ _ _ (place-found (now (a .words)) n (a .header) (c .before .before .before .before .key-of .ensures) (c .before .before .before .place-of .ensures .0)) (search needs) (search needs) (free-found (now (a .words)) n (c .before .free-of .ensures .0)) (search needs) (search needs)
+    let a = c .before .before .before .before .before .before .before .args in
+    let n : length (now (a .words)) ≡ 96 = search needs in
+    sound-full _ _ _ _ (place-found (now (a .words)) n (a .header) refl (c .before .before .before .place-of-said .ensures .0 (c .before .before .before .before .before .before .before .pre .1 .1))) (search needs) (search needs) (free-found (now (a .words)) n (c .before .free-of .ensures .0)) (search needs) (search needs)
 
 pub sound-step-spec : {M : Type 1} → statement M
 sound-step-spec =
     tie.close
     (tie.spec
-    key-of-requires
-    place-of-requires
+    place-of-said-requires
     held-step-requires
     returns
     free-of-requires

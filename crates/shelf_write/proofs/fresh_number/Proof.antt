@@ -21,5 +21,8 @@ returns-3 c = search (tests, needs)
 returns-4 : tie.Need-returns-4
 returns-4 c = search (tests, needs)
 
+returns-5 : tie.Need-returns-5
+returns-5 c = search (tests, needs)
+
 pub fresh-number-spec : {M : Type 1} → statement M
-fresh-number-spec = tie.close (tie.spec returns cast-result returns-2 returns-3 returns-4)
+fresh-number-spec = tie.close (tie.spec returns cast-result returns-2 returns-3 returns-4 returns-5)

@@ -16,10 +16,10 @@ use Rattle.shelf_write.proofs.put_fresh.Lts as lts
 use Rattle.shelf_write.proofs.fresh_number.Reads as fresh-number-reads
 
 abbrev Inv-loop : tie.InvT-loop
-Inv-loop words₀ i₀ words i = (i ≤ 84) × (length words ≡ 84) × (length words₀ ≡ 84) × Filled words i freshNumber
+Inv-loop words₀ i₀ words i = (i ≤ 96) × (length words ≡ 96) × (length words₀ ≡ 96) × Filled words i freshNumber
 
 abbrev μ-loop : tie.MeasureT-loop
-μ-loop words₀ i₀ words i = 84 - i
+μ-loop words₀ i₀ words i = 96 - i
 
 returns : tie.Need-returns Inv-loop μ-loop
 unfolding freshPut
@@ -55,7 +55,7 @@ returns-2 : tie.Need-returns-2 Inv-loop μ-loop
 unfolding freshPut freshWords
 returns-2 c =
     let k = c .before .loop in
-    rw (eq-eqb _ 84 (k .inv .2)) (filled-all _ 84 _ freshNumber (omega arith) (k .inv .1) (k .inv .3))
+    rw (eq-eqb _ 96 (k .inv .2)) (filled-all _ 96 _ freshNumber (omega arith) (k .inv .1) (k .inv .3))
 
 pub put-fresh-spec : {M : Type 1} → statement M
 put-fresh-spec =

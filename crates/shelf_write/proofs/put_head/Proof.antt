@@ -8,6 +8,7 @@ use Rattle.shelf_write.proofs.put_head.Tie as tie
 use Rattle.shelf_write.proofs.put_head.Reads as reads
 use Rattle.shelf_write.proofs.put_head.Lts as lts
 use Rattle.base.proofs.half.Reads as half-reads
+use Rattle.shelf_write.proofs.put_rest.Reads as put-rest-reads
 use Rattle.shelf_write.proofs.put_row.Reads as put-row-reads
 
 returns : tie.Need-returns
@@ -33,11 +34,16 @@ half-requires-3 c κs = search needs
 put-row-requires : tie.Need-put-row-requires
 put-row-requires c κs = search needs
 
+put-rest-requires : tie.Need-put-rest-requires
+put-rest-requires c κs = search needs
+
 same-length : tie.Need-same-length
 same-length c = search needs
 
 returns-3 : tie.Need-returns-3
-returns-3 c = head-put-row _ _ _ _ _ (search needs) (search needs) (c .before .before .before .before .before .half .ensures .0) (c .before .before .before .before .half2 .ensures .0) (c .before .before .before .half3 .ensures .0) (c .before .before .put-row .ensures)
+returns-3 c =
+    head-put-row _ _ _ _ _ (search needs) (search needs) (c .before .before .before .before .before .before .before .before .before .half .ensures .0) (c .before .before .before .before .before .before .before .before .half2 .ensures .0) (c .before .before .before .before .before .before .before .half3 .ensures .0)
+    (c .before .before .before .before .before .before .put-row .ensures) (c .before .before .put-rest .ensures)
 
 pub put-head-spec : {M : Type 1} → statement M
 put-head-spec =
@@ -50,5 +56,6 @@ put-head-spec =
     half-requires-2
     half-requires-3
     put-row-requires
+    put-rest-requires
     same-length
     returns-3)

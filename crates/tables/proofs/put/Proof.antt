@@ -1,4 +1,4 @@
--- `put` meets its promise: four stores from the front, and then the lengths, one after another.
+-- `put` meets its promise: seven stores from the front, and then the lengths, one after another.
 use borrow.Author.Needs.{needs}
 use Prim.Native.Nat.{_-_}
 use native.Mathlib.Omega.{arith}
@@ -6,7 +6,7 @@ use lib.ListN.{length, drop, length-set}
 use mathlib.Core.Path.{ap, _∙_}
 use mathlib.Core.List.{_∷_, _++_}
 use lib.Seq.{paste-zero}
-use Rattle.tables.proofs.Puts.{Behind, behind-long, behind-more, put-all}
+use Rattle.tables.proofs.Puts.{Behind, behind-long, behind-more, put-all, front-by}
 use Rattle.tables.proofs.put.Statement.{statement}
 use Rattle.tables.proofs.put.Tie as tie
 use Rattle.tables.proofs.put.Reads as reads
@@ -31,12 +31,27 @@ slice-write-fields-2 c = simp length-set (search needs)
 slice-write-fields-3 : tie.Need-slice-write-fields-3 Inv-loop μ-loop
 slice-write-fields-3 c = simp length-set (search needs)
 
+high-requires : tie.Need-high-requires Inv-loop μ-loop
+high-requires c κs = search needs
+
 slice-write-fields-4 : tie.Need-slice-write-fields-4 Inv-loop μ-loop
 slice-write-fields-4 c = simp length-set (search needs)
 
+low-requires : tie.Need-low-requires Inv-loop μ-loop
+low-requires c κs = search needs
+
+slice-write-fields-5 : tie.Need-slice-write-fields-5 Inv-loop μ-loop
+slice-write-fields-5 c = simp length-set (search needs)
+
+slice-write-fields-6 : tie.Need-slice-write-fields-6 Inv-loop μ-loop
+slice-write-fields-6 c = simp length-set (search needs)
+
+slice-write-fields-7 : tie.Need-slice-write-fields-7 Inv-loop μ-loop
+slice-write-fields-7 c = simp length-set (search needs)
+
 loop-holds : tie.Need-loop-holds Inv-loop μ-loop
 loop-holds c =
-    record { some = search needs; room = simp length-set (search needs); all = search needs; stand = paste-zero _ 4 (c .before .before .before .args .t .lengths) }
+    record { some = search needs; room = simp length-set (search needs); all = search needs; stand = paste-zero _ 7 (c .before .before .before .before .before .before .args .t .lengths) }
 
 mul-fields : tie.Need-mul-fields Inv-loop μ-loop
 mul-fields c = search needs
@@ -50,8 +65,8 @@ add-fields c = search needs
 mul-fields-2 : tie.Need-mul-fields-2 Inv-loop μ-loop
 mul-fields-2 c = search needs
 
-slice-write-fields-5 : tie.Need-slice-write-fields-5 Inv-loop μ-loop
-slice-write-fields-5 c =
+slice-write-fields-8 : tie.Need-slice-write-fields-8 Inv-loop μ-loop
+slice-write-fields-8 c =
     let k = c .before .loop in
     let e = behind-long _ _ _ _ (k .inv) in
     omega (arith, e, k .inv .room)
@@ -70,9 +85,10 @@ same-length c = behind-long _ _ _ _ (c .before .loop .inv) ∙ simp length-set
 
 returns : tie.Need-returns Inv-loop μ-loop
 returns c =
-    let g = c .before .before .before .before .before .args in
-    put-all (g .fields .now) _ (g .t .extension) (g .t .version) (g .t .last) (g .t .lengths) _ _ (c .before .loop .inv) (omega arith)
-    ∙ ap (λ x. x ∷ g .t .extension ∷ g .t .version ∷ g .t .last ∷ (g .t .lengths ++ drop 20 (g .fields .now))) (c .before .before .half .ensures .0)
+    let g = c .before .before .before .before .before .before .before .before .args in
+    put-all (g .fields .now) _ (g .t .key .extension) (g .t .key .service) _ _ (g .t .version) (g .t .last) (g .t .lengths) _ _ (c .before .loop .inv) (omega arith)
+    ∙ front-by (g .t .key .extension) (g .t .key .service) (g .t .version) (g .t .last) (g .t .lengths ++ drop 23 (g .fields .now))
+    (c .before .before .before .before .half .ensures .0) (c .before .before .before .high .ensures) (c .before .before .low .ensures)
 
 pub put-spec : {M : Type 1} → statement M
 put-spec =
@@ -84,13 +100,18 @@ put-spec =
     slice-write-fields
     slice-write-fields-2
     slice-write-fields-3
+    high-requires
     slice-write-fields-4
+    low-requires
+    slice-write-fields-5
+    slice-write-fields-6
+    slice-write-fields-7
     loop-holds
     mul-fields
     array-read-fields
     add-fields
     mul-fields-2
-    slice-write-fields-5
+    slice-write-fields-8
     add-n
     loop-less
     loop-again

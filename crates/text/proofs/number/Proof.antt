@@ -5,7 +5,8 @@ use Prim.Native.Nat.{_^_, _/_, _≤_}
 use native.Mathlib.Omega.{arith}
 use lib.ListN.{length}
 use borrow.Author.Needs.{needs}
-use Rattle.text.specs.Words.{places, decimal}
+use Rattle.file_listing.specs.Words.{places}
+use Rattle.text.specs.Words.{decimal}
 use Rattle.text.proofs.Writing.{Left, all-left, finish}
 use Rattle.text.proofs.Digits.{unit, digits-step, digits-end, ten-less, ten-up}
 use Rattle.text.proofs.number.Statement.{statement}

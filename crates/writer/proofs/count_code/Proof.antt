@@ -26,11 +26,11 @@ cast-result-2 c = search needs
 
 returns : tie.Need-returns
 returns c =
-    count-told _ _ _ (c .before .before .before .count-sections .ensures) (sym (ap countedCode (c .before .counted .given .1)))
+    count-told _ _ _ _ (c .before .before .before .count-sections .ensures) (sym (ap countedCode (c .before .counted .given .1)))
 
 returns-2 : tie.Need-returns-2
 returns-2 c =
-    count-told _ _ _ (c .before .before .before .count-sections .ensures) (sym (ap countedCode (c .before .counted2 .given .1)))
+    count-told _ _ _ _ (c .before .before .before .count-sections .ensures) (sym (ap countedCode (c .before .counted2 .given .1)))
 
 pub count-code-spec : {M : Type 1} → statement M
 count-code-spec =

@@ -21,7 +21,7 @@ abbrev μ-loop : tie.MeasureT-loop
 μ-loop label body count out₀ form at₀ k₀ out at k = count - k
 
 begun : (s : tie.Start Inv-loop μ-loop) → Begun (s .args .label) (s .args .body .now) (s .args .count) (s .args .out .now)
-begun s = record { fits = s .pre .0 .0; counted = s .pre .0 .2; room = s .pre .1 }
+begun s = record { fits = s .pre .0 .1; counted = s .pre .0 .3; room = s .pre .1 }
 
 cast-form : tie.Need-cast-form Inv-loop μ-loop
 cast-form c = search needs

@@ -5,7 +5,7 @@ use Rattle.writer_file.proofs.write_one.Statement.{statement}
 use Rattle.writer_file.proofs.write_one.Tie as tie
 
 room : (s : tie.Start) → Room (s .args .label) (s .args .body .now) (s .args .k) (s .args .rest .now)
-room s = record { fits = s .pre .0 .0; five = s .pre .0 .1; known = s .pre .0 .2; room = s .pre .1 }
+room s = record { other = s .pre .0 .0; fits = s .pre .0 .1; five = s .pre .0 .2; known = s .pre .0 .3; room = s .pre .1 }
 
 size-at-requires : tie.Need-size-at-requires
 size-at-requires c κs = search needs

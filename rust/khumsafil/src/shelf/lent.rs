@@ -34,7 +34,7 @@ pub fn begin(record: &mut [u16], store: &mut [u8]) -> Result<(), Refusal> {
     })
 }
 
-/// Offers a payload. Refused: 17, 18, 1 to 10.
+/// Offers a payload. Refused: 17, 18, 1 to 8, 46, 9, 10.
 #[inline]
 pub fn offer(record: &mut [u16], store: &mut [u8], payload: &[u8]) -> Result<Accepted, Refusal> {
     // SAFETY: pointers and lengths are those of slices, of which none that is written is part of another.
@@ -70,6 +70,8 @@ pub fn is_complete(record: &[u16], store: &[u8], key: Key) -> bool {
             store.len(),
             key.table_id,
             key.extension,
+            key.service_id,
+            key.time_span_start,
         )
     }
 }
@@ -86,6 +88,8 @@ pub fn complete(record: &[u16], store: &[u8], key: Key) -> Result<bool, Refusal>
             store.len(),
             key.table_id,
             key.extension,
+            key.service_id,
+            key.time_span_start,
         )
     };
     answered(word.into()).map(|found| found as u8 == WHOLE)
@@ -103,6 +107,8 @@ pub fn lowest_missing(record: &[u16], store: &[u8], key: Key) -> Result<Option<u
             store.len(),
             key.table_id,
             key.extension,
+            key.service_id,
+            key.time_span_start,
         )
     };
     answered(word).map(|found| (found as u8 != WHOLE).then_some((found >> 8) as u8))
@@ -157,6 +163,8 @@ pub fn copy_section(
             store.len(),
             key.table_id,
             key.extension,
+            key.service_id,
+            key.time_span_start,
             number,
             out.as_mut_ptr(),
             out.len(),
@@ -177,6 +185,8 @@ pub fn release(record: &mut [u16], store: &mut [u8], key: Key) -> Result<(), Ref
             store.len(),
             key.table_id,
             key.extension,
+            key.service_id,
+            key.time_span_start,
         )
     })
 }
@@ -193,6 +203,8 @@ pub fn save(record: &[u16], store: &[u8], key: Key, out: &mut [u8]) -> Result<us
             store.len(),
             key.table_id,
             key.extension,
+            key.service_id,
+            key.time_span_start,
             out.as_mut_ptr(),
             out.len(),
         )
@@ -200,7 +212,8 @@ pub fn save(record: &[u16], store: &[u8], key: Key, out: &mut [u8]) -> Result<us
     answered(word).map(|size| size as usize)
 }
 
-/// Loads a file's table into the lowest free place. Refused: 17, 18, a fault of the file (11, 12, 2 to 8), 13, 9.
+/// Loads a file's table into the lowest free place. Refused: 17, 18, a fault of the file (11, 12, 2 to 8, 46), 13,
+/// 9.
 #[inline]
 pub fn load(record: &mut [u16], store: &mut [u8], file: &[u8]) -> Result<(), Refusal> {
     // SAFETY: pointers and lengths are those of slices, of which none that is written is part of another.

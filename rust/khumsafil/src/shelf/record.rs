@@ -1,12 +1,13 @@
 //! A shelf's record by itself.
 
 use super::{PLACES, RECORD, SECTIONS};
+use crate::Key;
 
 /// A shelf's record, apart from its store: [`RECORD`] numbers, to put away and to take up again.
 ///
 /// Any numbers are some record; [`super::Shelf::resume`] refuses one that is spoiled. Two records are equal where their
 /// taken places are: what the numbers of a free place happen to be does not matter, nor the length of a section that is
-/// not held.
+/// not held, nor the rest of the key of any table but an NRT-IT.
 ///
 /// A record is in one place, so that it is not resumed twice. This does not compile:
 ///
@@ -28,10 +29,25 @@ pub struct Record {
     numbers: [u16; RECORD],
 }
 
-/// Where the heads of the places begin, of four numbers each, and where the masks do; the lengths are before them.
+/// Where the heads of the places begin, of four numbers each, where the masks do, and where the rests of the keys do, of three
+/// numbers each; the lengths are before them.
 const HEADS: usize = SECTIONS * PLACES;
 const MASKS: usize = HEADS + HEAD * PLACES;
+const RESTS: usize = MASKS + PLACES;
 const HEAD: usize = 4;
+const REST: usize = 3;
+
+/// What a taken place says.
+#[derive(PartialEq)]
+struct Place<'a> {
+    /// Its table id, extension, version and last number.
+    head: &'a [u16],
+    /// The rest of the key of an NRT-IT.
+    rest: &'a [u16],
+    mask: u16,
+    /// The lengths of the sections that are held, 0 for the others.
+    held: [u16; SECTIONS],
+}
 
 impl Record {
     /// The numbers, as the header lays them out.
@@ -43,14 +59,22 @@ impl Record {
         &mut self.numbers
     }
 
-    /// The table id, extension, version and last number of a place, the mask of what it holds, and the lengths of that; of
-    /// a free place nothing.
-    fn place(&self, p: usize) -> Option<(&[u16], u16, [u16; SECTIONS])> {
+    /// What a place says; of a free place nothing.
+    fn place(&self, p: usize) -> Option<Place<'_>> {
         let head = &self.numbers[HEADS + HEAD * p..][..HEAD];
+        let rest = match head[0] as u8 {
+            Key::NRT_IT => &self.numbers[RESTS + REST * p..][..REST],
+            _ => &[],
+        };
         let mask = self.numbers[MASKS + p];
         let lengths = &self.numbers[SECTIONS * p..][..SECTIONS];
         let held = core::array::from_fn(|n| if mask >> n & 1 == 1 { lengths[n] } else { 0 });
-        (head[0] >> 8 == 1).then_some((head, mask, held))
+        (head[0] >> 8 == 1).then_some(Place {
+            head,
+            rest,
+            mask,
+            held,
+        })
     }
 }
 

@@ -75,11 +75,19 @@ pub fn read(payload: &[u8], room: usize) -> u8 {
         |p: &theirs::Programme| (p.service_id, p.time_span_start, p.time_span_length, p.items);
     match (programme::read(payload), &other) {
         (Err(refusal), Err(number)) if refusal.number() == *number => {}
-        (Ok(a), Ok(b)) => assert_eq!(
-            (a.service_id, a.time_span_start, a.time_span_length, a.count),
-            list(b),
-            "{payload:02X?}"
-        ),
+        (Ok(a), Ok(b)) => {
+            assert_eq!(
+                (a.service_id, a.time_span_start, a.time_span_length, a.count),
+                list(b),
+                "{payload:02X?}"
+            );
+            let key = khumsafil::section::read(payload).expect("a section").key;
+            assert_eq!(
+                (key.service_id, key.time_span_start),
+                (a.service_id, a.time_span_start),
+                "the rest of the key of {payload:02X?}"
+            );
+        }
         (ours, other) => panic!("{ours:?} is not {other:?}: {payload:02X?}"),
     }
     let mut out = [UNWRITTEN as u32; FIELDS + 4];

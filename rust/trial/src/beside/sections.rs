@@ -1,6 +1,6 @@
 //! Sections.
 
-use khumsafil::Key;
+use crate::keys::answered;
 
 /// Reads the payload by both, fails where they differ, and gives the number that both gave.
 pub fn compare(payload: &[u8]) -> u8 {
@@ -9,10 +9,15 @@ pub fn compare(payload: &[u8]) -> u8 {
     match (ours, theirs) {
         (Err(refusal), Err(number)) if refusal.number() == number => number,
         (Ok(a), Ok(b)) => {
-            let key = Key::new(b.table_id, b.extension);
+            assert!(answered(a.key, b.key()), "{a:?} is not {b:?}");
             assert_eq!(
-                (a.key, a.version, a.number, a.last),
-                (key, b.version, b.number, b.last),
+                (b.service_id, b.time_span_start),
+                (a.key.service_id, a.key.time_span_start),
+                "the rest of the key of {payload:02X?}"
+            );
+            assert_eq!(
+                (a.version, a.number, a.last),
+                (b.version, b.number, b.last),
                 "fields of {payload:02X?}"
             );
             let body = &payload[b.body_start..b.body_start + b.body_length];

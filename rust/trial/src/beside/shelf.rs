@@ -1,8 +1,9 @@
 //! The shelf.
 
-use crate::shelf::{begun, decode, promised, shown, Call};
+use crate::keys::{answered, for_them};
+use crate::shelf::{begun, decode, promised, rest_of, shown, Call};
 use khumsafil::shelf::{self as ours, lent, Shelf, RECORD, STORE, TABLE_FIELDS};
-use khumsafil::{Key, Refusal};
+use khumsafil::Refusal;
 use opinion::shelf::{self as theirs, Record, BERTH, PLACES, SECTIONS};
 
 /// What the bytes of an output are before a call, and the numbers.
@@ -30,14 +31,12 @@ fn missing(number: Option<u8>) -> usize {
 /// The numbers that a table is answered in.
 pub fn fields(table: &theirs::Table) -> [u16; TABLE_FIELDS] {
     let mut fields = [0; TABLE_FIELDS];
-    let head = [
-        table.table_id.into(),
-        table.extension,
-        table.version.into(),
-        table.last.into(),
-    ];
-    fields[..4].copy_from_slice(&head);
-    fields[4..].copy_from_slice(&table.lengths);
+    fields[0] = table.key.table_id.into();
+    fields[1] = table.key.extension;
+    fields[2..5].copy_from_slice(&rest_of(table.key));
+    fields[5] = table.version.into();
+    fields[6] = table.last.into();
+    fields[7..].copy_from_slice(&table.lengths);
     fields
 }
 
@@ -47,7 +46,7 @@ pub fn same_table(ours: &ours::Table, other: &theirs::Table) -> bool {
     let missing = || (0..=other.last).filter(|n| held(*n) == 0);
     // Those past a table's numbers are not held.
     let mut asked = (0..SECTIONS as u8 + 2).chain([128, 255]);
-    ours.key == Key::new(other.table_id, other.extension)
+    answered(ours.key, other.key)
         && (ours.version, ours.last) == (other.version, other.last)
         && ours.lengths == other.lengths
         && ours.missing().eq(missing())
@@ -141,19 +140,13 @@ fn their_call(
             Ok(0)
         }
         Call::Offer(payload) => theirs::offer(record, store, payload).map(said),
-        Call::Complete(k) => {
-            theirs::complete(record, store, k.table_id, k.extension).map(usize::from)
-        }
-        Call::Missing(k) => {
-            theirs::lowest_missing(record, store, k.table_id, k.extension).map(missing)
-        }
+        Call::Complete(k) => theirs::complete(record, store, for_them(*k)).map(usize::from),
+        Call::Missing(k) => theirs::lowest_missing(record, store, for_them(*k)).map(missing),
         Call::Copy { key: k, number, .. } => {
-            theirs::copy_section(record, store, k.table_id, k.extension, *number, out)
+            theirs::copy_section(record, store, for_them(*k), *number, out)
         }
-        Call::Release(k) => theirs::release(record, store, k.table_id, k.extension).map(|()| 0),
-        Call::Save { key: k, .. } => {
-            opinion::file::save(record, store, k.table_id, k.extension, out)
-        }
+        Call::Release(k) => theirs::release(record, store, for_them(*k)).map(|()| 0),
+        Call::Save { key: k, .. } => opinion::file::save(record, store, for_them(*k), out),
         Call::Load(file) => opinion::file::load(record, store, file).map(|()| 0),
     }
 }
@@ -222,7 +215,11 @@ impl Both {
             assert_eq!(answer, number, "{place} of {record:?}, room {room}");
             let written = if number == 0 { TABLE_FIELDS } else { 0 };
             if let (0, Ok(table)) = (number, &other) {
-                assert_eq!(given[..TABLE_FIELDS], fields(table), "{place} of {record:?}");
+                assert_eq!(
+                    given[..TABLE_FIELDS],
+                    fields(table),
+                    "{place} of {record:?}"
+                );
             }
             let kept = given[written..].iter().all(|n| *n == UNWRITTEN_NUMBER);
             assert!(kept, "{place} of {record:?}, room {room}: past the answer");
@@ -257,7 +254,11 @@ impl Both {
             call,
             &mut self.other_out,
         );
-        assert_eq!(flat(answer), flat(other), "{call:?} on {before:?}: {answer:?} is not {other:?}");
+        assert_eq!(
+            flat(answer),
+            flat(other),
+            "{call:?} on {before:?}: {answer:?} is not {other:?}"
+        );
         assert!(self.out == self.other_out, "{call:?} on {before:?}: output");
         self.tables_agree(size);
         let repeat = matches!(call, Call::Offer(_)) && flat(other) == flat(Ok(4));

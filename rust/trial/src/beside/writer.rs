@@ -7,10 +7,11 @@ use khumsafil::writer::{self as ours, Label};
 use khumsafil::Refusal;
 use opinion::writer as theirs;
 
-/// How many sections a body of so many bytes makes.
-pub fn count(length: usize) -> Result<u8, u8> {
-    let answer = ours::count(length).map_err(Refusal::number);
-    assert_eq!(answer, theirs::count(length), "{length} bytes");
+/// How many sections a body of so many bytes makes in a table with that id.
+pub fn count(table_id: u8, length: usize) -> Result<u8, u8> {
+    let answer = ours::count(table_id, length).map_err(Refusal::number);
+    let other = theirs::count(table_id, length);
+    assert_eq!(answer, other, "{length} bytes of table {table_id}");
     answer
 }
 
@@ -84,7 +85,7 @@ fn their_section(label: Label, body: &[u8], k: u8, out: &mut [u8]) -> Result<usi
 /// The file of the independent program's sections, or its refusal.
 pub fn their_file(label: Label, body: &[u8]) -> Result<Vec<u8>, u8> {
     let mut sections = Vec::new();
-    for k in 0..theirs::count(body.len())? {
+    for k in 0..theirs::count(label.key.table_id, body.len())? {
         let mut out = vec![0; LARGEST_SECTION];
         let size = their_section(label, body, k, &mut out)?;
         out.truncate(size);

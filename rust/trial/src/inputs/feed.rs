@@ -1,7 +1,8 @@
 //! Choices out of bytes.
 
+use crate::keys::{Key, NRT_IT, STARTS};
 use crate::sections::{self, Fields};
-use khumsafil::shelf::{Key, LARGEST_SECTION};
+use khumsafil::shelf::LARGEST_SECTION;
 
 /// Bytes that are taken from the front. Where they are used up, zeros follow.
 pub struct Feed<'a>(&'a [u8]);
@@ -44,20 +45,48 @@ impl<'a> Feed<'a> {
         self.part(usize::MAX)
     }
 
-    /// One of few keys that share a table id or an extension, or any.
+    /// One of few keys: of tables that share a table id or an extension, of NRT-ITs that share all but one field, of the same
+    /// tables with added numbers that mean nothing; or any four numbers.
     pub fn key(&mut self) -> Key {
-        let (table_id, extension) = match self.byte() % 8 {
-            i @ 0..=5 => {
-                let i = usize::from(i);
-                (
-                    [201, 201, 7, 7, 0, 255][i],
-                    [4_660, 52, 4_660, 52, 0, 65_535][i],
-                )
-            }
-            6 => (201, 4_661),
-            _ => (self.byte(), self.half()),
+        let how = self.byte();
+        let few = usize::from(how % 8);
+        let start = STARTS[usize::from(how >> 2 & 7) % STARTS.len()];
+        let (service_id, time_span_start) = match how >> 6 {
+            3 => ([0, 7, 8, 65_535][usize::from(how >> 4 & 3)], start),
+            _ => (0, 0),
         };
-        Key::new(table_id, extension)
+        let (table_id, extension) = match few {
+            _ if how >> 6 == 2 => {
+                let (extension, service) = (how & 1, how >> 1 & 1);
+                return Key::new(
+                    NRT_IT,
+                    4_096 + u16::from(extension),
+                    7 + u16::from(service),
+                    start,
+                );
+            }
+            0..=5 => (
+                [201, 201, 7, 7, 0, 255][few],
+                [4_660, 52, 4_660, 52, 0, 65_535][few],
+            ),
+            6 => (201, 4_661),
+            _ => return self.any(),
+        };
+        Key {
+            table_id,
+            extension,
+            service_id,
+            time_span_start,
+        }
+    }
+
+    /// Any key. An NRT-IT's has its four numbers, another table's two.
+    fn any(&mut self) -> Key {
+        let (table_id, extension) = (self.byte(), self.half());
+        match table_id {
+            NRT_IT => Key::new(NRT_IT, extension, self.half(), self.word()),
+            _ => Key::new(table_id, extension, 0, 0),
+        }
     }
 
     /// A table's fields, the number and the last in four bits each.
@@ -66,8 +95,7 @@ impl<'a> Feed<'a> {
         let version = self.byte();
         let numbers = self.byte();
         Fields {
-            table_id: key.table_id,
-            extension: key.extension,
+            key,
             version: match version % 8 {
                 7 => version >> 3,
                 few => few / 2,
@@ -77,12 +105,13 @@ impl<'a> Feed<'a> {
         }
     }
 
-    /// The bytes of a section with these fields: its size and what stands in it by one byte, or by two or three.
+    /// The bytes of a section with these fields: its size and what stands in it by one byte, or by two or three. The smallest
+    /// hold their key; by two or three bytes some do not.
     pub fn section(&mut self, fields: Fields) -> Vec<u8> {
         let how = self.byte();
         let size = match how % 8 {
-            0..=2 => 8,
-            3 => 9,
+            0..=2 => fields.least(),
+            3 => fields.least() + 1,
             4 => 20,
             5 => 8 + usize::from(self.byte()),
             6 => LARGEST_SECTION - usize::from(how >> 7),

@@ -3,9 +3,10 @@
 use super::feed::Feed;
 use crate::beside;
 use crate::files::Parts;
+use crate::keys::for_us;
 use crate::sections::Fields;
 use crate::shelf::Call;
-use khumsafil::shelf::{Key, LARGEST_FILE, STORE};
+use khumsafil::shelf::{LARGEST_FILE, STORE};
 
 /// A file as it stands in the bytes, or one that is built from choices: sections of one table in any order, sound or
 /// nearly.
@@ -36,8 +37,12 @@ pub fn built(feed: &mut Feed, how: u8) -> Vec<u8> {
         let mut fields = Fields { number, ..table };
         match choice {
             0x91 => fields.version ^= 1,
-            0x92 => fields.extension ^= 1,
+            0x92 => fields.key.extension ^= 1,
             0x93 => fields.last ^= 1,
+            0x95 => fields.key.service_id ^= 1,
+            0x96 => fields.key.time_span_start ^= 1,
+            0x97 => fields.key.time_span_start ^= 0x0001_0000,
+            0x98 => fields.key.table_id ^= 1,
             _ => {}
         }
         let mut bytes = feed.section(fields);
@@ -91,8 +96,7 @@ pub fn files(bytes: &[u8]) {
         if loaded.is_err() {
             return;
         }
-        let first = both.held.places[0];
-        let key = Key::new(first.table_id, first.extension);
+        let key = for_us(both.held.places[0].key);
         for room in [file.len() - 1, usize::from(less).min(file.len() - 1)] {
             assert_eq!(both.call(&Call::Save { key, room }, STORE), Err(15));
         }

@@ -3,7 +3,8 @@
 use super::feed::Feed;
 use super::file;
 use crate::beside::shelf::{equal, Both};
-use crate::shelf::{decode, Call};
+use crate::keys::for_us;
+use crate::shelf::{decode, Call, RESTS};
 use khumsafil::shelf::{LARGEST_FILE, RECORD, STORE};
 use std::cell::RefCell;
 
@@ -57,27 +58,29 @@ fn call(feed: &mut Feed, both: &Both, saved: &[Vec<u8>]) -> Call {
             let length = feed.byte();
             Call::Offer(feed.part(length.into()))
         }
-        16..=17 => Call::Complete(feed.key()),
-        18..=19 => Call::Missing(feed.key()),
+        16..=17 => Call::Complete(for_us(feed.key())),
+        18..=19 => Call::Missing(for_us(feed.key())),
         20..=22 => {
             let key = feed.key();
             let number = feed.byte();
             let number = if number < 0xE0 { number % 17 } else { number };
             let mut places = both.held.places.iter();
-            let held = places.find(|p| (p.table_id, p.extension) == (key.table_id, key.extension));
+            let held = places.find(|p| p.key.proper() == key.proper());
             let length = held.and_then(|p| p.lengths.get(usize::from(number)));
             let room = room(feed, length.copied().unwrap_or(0).into());
+            let key = for_us(key);
             Call::Copy { key, number, room }
         }
-        23 => Call::Release(feed.key()),
+        23 => Call::Release(for_us(feed.key())),
         24..=25 => {
             let key = feed.key();
             let mut places = both.held.places.iter();
-            let held = places.find(|p| (p.table_id, p.extension) == (key.table_id, key.extension));
+            let held = places.find(|p| p.key.proper() == key.proper());
             let size = |length: &u16| usize::from(*length) + 1 + usize::from(*length > 127);
             let lengths = held.map_or([0; 16], |p| p.lengths);
             let exact = 2 + lengths.iter().filter(|l| **l > 0).map(size).sum::<usize>();
             let room = room(feed, exact);
+            let key = for_us(key);
             Call::Save { key, room }
         }
         26..=27 if !saved.is_empty() => {
@@ -127,7 +130,8 @@ pub fn shelf(bytes: &[u8]) {
                     both.record[at] = match how & 3 {
                         0 => feed.half(),
                         1 => both.record[at] ^ 1 << (feed.byte() % 16),
-                        2 => both.record[(at + 4) % RECORD],
+                        // The same number of the next place, where heads or rests of keys stand.
+                        2 => both.record[(at + if at < RESTS { 4 } else { 3 }) % RECORD],
                         _ => u16::from(feed.byte()),
                     };
                     both.held = decode(&both.record);

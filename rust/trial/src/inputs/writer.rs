@@ -3,6 +3,7 @@
 use super::feed::Feed;
 use super::shelf::{room, with};
 use crate::beside::{self, writer};
+use crate::keys::NRT_IT;
 use crate::random::Random;
 use crate::shelf::Call;
 use khumsafil::section::{self, HEADER};
@@ -13,9 +14,13 @@ use opinion::writer::BODY;
 /// The most calls for one body.
 const CALLS: usize = 16;
 
-/// Any label, and every value of a version; those above 31 are seldom.
+/// Any label, more often than others an NRT-IT's, and every value of a version; those above 31 are seldom.
 fn label(feed: &mut Feed) -> Label {
-    let key = Key::new(feed.byte(), feed.half());
+    let table_id = match feed.byte() {
+        0xF0..=0xFE => NRT_IT,
+        any => any,
+    };
+    let key = Key::new(table_id, feed.half());
     let version = match feed.byte() {
         few @ 0..=0xDF => few % 33,
         _ => feed.byte(),
@@ -132,7 +137,12 @@ fn call(feed: &mut Feed, label: Label, body: &[u8], count: Result<u8, u8>) {
         0 => {
             let far = how >> 3 & 3;
             let length = u64::from(feed.half()) << (16 * far);
-            let _ = writer::count(length as usize);
+            let table_id = if how >> 5 == 7 {
+                NRT_IT
+            } else {
+                label.key.table_id
+            };
+            let _ = writer::count(table_id, length as usize);
         }
         1..=3 => {
             let number = feed.byte();
@@ -163,7 +173,7 @@ pub fn writer(bytes: &[u8]) {
     let mut feed = Feed::new(bytes);
     let label = label(&mut feed);
     let length = length(&mut feed);
-    let count = writer::count(length);
+    let count = writer::count(label.key.table_id, length);
     let body = body(&mut feed, length);
     for _ in 0..CALLS {
         if feed.over() {

@@ -13,7 +13,7 @@ element-write-self c = search needs
 add-self : tie.Need-add-self
 add-self c = search needs
 
-long : (c : tie.Start) → length (c .args .t1 .bytes) ≡ 687
+long : (c : tie.Start) → length (c .args .t1 .bytes) ≡ 718
 long c = search needs
 
 returns : tie.Need-returns

@@ -20,6 +20,9 @@ slice-aggregate-field-2 c = search needs
 field-requires-2 : tie.Need-field-requires-2
 field-requires-2 c κs = search needs
 
+added-words-requires : tie.Need-added-words-requires
+added-words-requires c κs = search needs
+
 slice-aggregate-field-3 : tie.Need-slice-aggregate-field-3
 slice-aggregate-field-3 c = search needs
 
@@ -44,10 +47,10 @@ byte-requires c κs = search needs
 returns : tie.Need-returns
 unfolding headLine
 returns c =
-    let table = rw (c .before .before .before .before .before .before .before .before .before .before .half .ensures .0) at (c .before .before .before .before .before .before .before .before .before .field .ensures) in
+    let table = rw (c .before .before .before .before .before .before .before .before .before .before .before .half .ensures .0) at (c .before .before .before .before .before .before .before .before .before .before .field .ensures) in
     let version = rw (c .before .before .before .before .before .half2 .ensures .0) at (c .before .before .before .before .field3 .ensures) in
     let last = rw (c .before .before .half3 .ensures .0) at (c .before .field4 .ensures) in
-    then table (then (c .before .before .before .before .before .before .before .field2 .ensures) (then version (then last (c .byte .ensures))))
+    then table (then (c .before .before .before .before .before .before .before .before .field2 .ensures) (then (c .before .before .before .before .before .before .before .added-words .ensures) (then version (then last (c .byte .ensures)))))
 
 pub head-line-spec : {M : Type 1} → statement M
 head-line-spec =
@@ -58,6 +61,7 @@ head-line-spec =
     field-requires
     slice-aggregate-field-2
     field-requires-2
+    added-words-requires
     slice-aggregate-field-3
     half-requires-2
     field-requires-3

@@ -1,7 +1,7 @@
 -- `Text::number` meets its promise: the digits follow each other.
 use borrow.Author.Needs.{needs}
-use Rattle.file_listing.specs.Words.{decimal}
-use Rattle.file_listing.proofs.Growing.{then}
+use Rattle.file_listing.specs.Words.{places, decimal}
+use Rattle.file_listing.proofs.Growing.{nothing, then}
 use Rattle.file_listing.proofs.Text.number.Statement.{statement}
 use Rattle.file_listing.proofs.Text.number.Tie as tie
 
@@ -27,8 +27,8 @@ byte-requires : tie.Need-byte-requires
 byte-requires c κs = search needs
 
 returns : tie.Need-returns
-unfolding decimal
-returns c = then (c .before .before .before .before .place .ensures) (then (c .before .before .before .place2 .ensures) (then (c .before .before .place3 .ensures) (then (c .before .place4 .ensures) (c .byte .ensures))))
+unfolding decimal places
+returns c = then (then (c .before .before .before .before .place .ensures) (then (c .before .before .before .place2 .ensures) (then (c .before .before .place3 .ensures) (then (c .before .place4 .ensures) (nothing _ 0))))) (c .byte .ensures)
 
 pub number-spec : {M : Type 1} → statement M
 number-spec =

@@ -14,7 +14,7 @@ sub-copy c = search needs
 part-bytes-start : tie.Need-part-bytes-start
 part-bytes-start c = search needs
 
-long : (c : tie.Start) → length (c .args .self .bytes) ≡ 687
+long : (c : tie.Start) → length (c .args .self .bytes) ≡ 718
 long c = search needs
 
 part-bytes-end : tie.Need-part-bytes-end
@@ -30,7 +30,7 @@ returns : tie.Need-returns
 returns c =
     let self = c .before .before .before .before .before .args .self in
     let l : self .size ≤ length (self .bytes) = omega (arith, long (c .before .before .before .before .before)) in
-    lent self (687 - self .size) _ _ _ l (c .before .copy .ensures .1)
+    lent self (718 - self .size) _ _ _ l (c .before .copy .ensures .1)
 
 pub word-spec : {M : Type 1} → statement M
 word-spec =

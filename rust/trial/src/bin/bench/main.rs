@@ -52,12 +52,13 @@ impl Table {
     }
 }
 
-fn tables() -> [Table; 7] {
+fn tables() -> [Table; 8] {
     [
         sections::table(),
         others::table(),
         programmes::table(),
         shelf::table(),
+        shelf::by_key(),
         shelf::by_length(),
         shelf::by_table(),
         shelf::files_by_table(),

@@ -5,8 +5,10 @@ use crate::{Table, SEED};
 use khumsafil::programme::{self, FIRST_ITEM, ITEM_FIELDS, MOST_ITEMS, TEXT};
 use std::hint::black_box;
 use trial::files::Parts;
+use trial::keys::{Key, START};
 use trial::programmes::{mend, MOST, TABLE};
 use trial::random::Random;
+use trial::sections::rest;
 
 pub fn table() -> Table {
     let mut table = Table::new(
@@ -176,9 +178,11 @@ fn reading(lists: &[Vec<u8>]) -> (f64, f64) {
 /// The text of a file as large as any, into room for every text; the independent program's is a string of its own.
 fn text(item: Maker) -> (f64, f64) {
     let mut sections = lists(item);
+    let key = Key::new(TABLE, 4_096, 3_152, START);
     for (number, section) in sections.iter_mut().enumerate() {
         section[6] = number as u8;
         section[7] = 15;
+        section[8..14].copy_from_slice(&rest(key));
     }
     let file = Parts::of(sections).bytes();
     let mut out = vec![0; TEXT];

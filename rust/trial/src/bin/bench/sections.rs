@@ -3,6 +3,7 @@
 use crate::timing::race;
 use crate::{Table, SEED};
 use std::hint::black_box;
+use trial::keys::{Key, NRT_IT};
 use trial::random::Random;
 use trial::sections::{section, Fields};
 
@@ -18,14 +19,19 @@ const USES: [&str; 3] = ["kept whole", "each field used", "fields added up"];
 pub fn table() -> Table {
     let mut table = Table::new(
         "Reading a section",
-        "256 sound sections in a list, by what the host does with each answer.",
+        "256 sound sections of other ids than the NRT-IT's in a list, by what the host does with each answer.",
     );
     for used in USES {
         for size in [8, 64, 1_024] {
             table.row(&format!("{size} bytes, {used}"), move || {
                 let mut random = Random::new(SEED);
                 let mut one = || {
-                    let fields = Fields::random(&mut random);
+                    let (id, extension) = (random.byte(), random.word() as u16);
+                    let id = if id == NRT_IT { 0 } else { id };
+                    let fields = Fields {
+                        key: Key::new(id, extension, 0, 0),
+                        ..Fields::random(&mut random)
+                    };
                     section(&mut random, size, fields)
                 };
                 let list: Vec<_> = (0..256).map(|_| one()).collect();

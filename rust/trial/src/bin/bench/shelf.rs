@@ -2,8 +2,9 @@
 
 use crate::timing::race;
 use crate::{Table, SEED};
-use khumsafil::shelf::{lent, Key, Shelf, LARGEST_FILE, RECORD, STORE};
+use khumsafil::shelf::{lent, Shelf, LARGEST_FILE, RECORD, STORE};
 use std::hint::black_box;
+use trial::keys::{for_us, Key, NRT_IT, START};
 use trial::random::Random;
 use trial::sections::{section, Fields};
 
@@ -15,10 +16,48 @@ pub fn table() -> Table {
          The store is never cleared. Offers are timed beside the ordinary keeper, which owns its record and does not look whether it is spoiled;\n\
          files, of the largest table, beside the independent program.",
     );
-    table.row("offer of 64 bytes", || offers(4, 16, 64));
-    table.row("offer of 1,024 bytes", || offers(4, 16, 1_024));
+    table.row("offer of 64 bytes", || offers(old_key, 4, 16, 64));
+    table.row("offer of 1,024 bytes", || offers(old_key, 4, 16, 1_024));
     table.row("load of 16,418 bytes", || loads(16, 1_024));
     table.row("save of 16,418 bytes", || saves(16, 1_024));
+    table
+}
+
+/// The keys of the tables of a carousel, by their number.
+type Keys = fn(u16) -> Key;
+
+/// Tables of another id, which differ in the extension.
+fn old_key(table: u16) -> Key {
+    Key::new(201, table, 0, 0)
+}
+
+/// NRT-ITs that differ in the extension.
+fn by_extension(table: u16) -> Key {
+    Key::new(NRT_IT, table, 7, START)
+}
+
+/// NRT-ITs that share the extension and differ in the service.
+fn by_service(table: u16) -> Key {
+    Key::new(NRT_IT, 0, 7 + table, START)
+}
+
+/// What the wider key costs.
+pub fn by_key() -> Table {
+    let mut table = Table::beside_the_keeper(
+        "Offers by the key",
+        "As above: four full tables of sixteen, nine in ten repeats. The tables are of another id than the NRT-IT's and differ in the\n\
+         extension, or they are NRT-ITs that differ in the extension, or NRT-ITs that share the extension and differ in the service.",
+    );
+    for (what, keys) in [
+        ("another id", old_key as Keys),
+        ("NRT-ITs by extension", by_extension),
+        ("NRT-ITs by service", by_service),
+    ] {
+        for (size, bytes) in [(64, "64"), (1_024, "1,024")] {
+            let name = format!("{what}, {bytes} bytes");
+            table.row(&name, move || offers(keys, 4, 16, size));
+        }
+    }
     table
 }
 
@@ -29,7 +68,9 @@ pub fn by_length() -> Table {
         "As above: four full tables of sixteen, nine in ten repeats.",
     );
     for size in [8, 64, 256, 512, 1_024] {
-        table.row(&format!("{size} bytes"), move || offers(4, 16, size));
+        table.row(&format!("{size} bytes"), move || {
+            offers(old_key, 4, 16, size)
+        });
     }
     table
 }
@@ -43,7 +84,7 @@ pub fn by_table() -> Table {
     for tables in [1, 4] {
         for sections in [1, 4, 16] {
             let name = format!("{tables} of {sections}");
-            table.row(&name, move || offers(tables, sections, 64));
+            table.row(&name, move || offers(old_key, tables, sections, 64));
         }
     }
     table
@@ -87,22 +128,26 @@ fn their_load(
 fn their_save(
     record: &opinion::shelf::Record,
     store: &[u8],
-    table_id: u8,
-    extension: u16,
+    key: Key,
     out: &mut [u8],
 ) -> Result<usize, u8> {
-    opinion::file::save(record, store, table_id, extension, out)
+    opinion::file::save(record, store, key, out)
 }
 
 /// Full tables in two versions, each version sent ten times over: nine offers in ten are repeats.
-fn carousel(random: &mut Random, tables: u16, sections: u16, size: usize) -> Vec<Vec<u8>> {
+fn carousel(
+    random: &mut Random,
+    keys: Keys,
+    tables: u16,
+    sections: u16,
+    size: usize,
+) -> Vec<Vec<u8>> {
     let mut offers = Vec::new();
     for version in 0..2 {
         let all: Vec<_> = (0..tables * sections)
             .map(|i| {
                 let fields = Fields {
-                    table_id: 201,
-                    extension: i / sections,
+                    key: keys(i / sections),
                     version,
                     number: (i % sections) as u8,
                     last: sections as u8 - 1,
@@ -116,9 +161,9 @@ fn carousel(random: &mut Random, tables: u16, sections: u16, size: usize) -> Vec
 }
 
 /// Offers a carousel over and over to one shelf, whose store is never cleared.
-fn offers(tables: u16, sections: u16, size: usize) -> (f64, f64) {
+fn offers(keys: Keys, tables: u16, sections: u16, size: usize) -> (f64, f64) {
     use khumsafil::shelf::Accepted;
-    let list = carousel(&mut Random::new(SEED), tables, sections, size);
+    let list = carousel(&mut Random::new(SEED), keys, tables, sections, size);
     let (mut ours, mut theirs) = (vec![0; STORE], vec![0; STORE]);
     let mut shelf = Shelf::begin(&mut ours).expect("a store");
     let mut keeper = opinion::keeper::Keeper::new();
@@ -147,7 +192,7 @@ fn offers(tables: u16, sections: u16, size: usize) -> (f64, f64) {
     timed
 }
 
-const KEY: Key = Key::new(201, 4_660);
+const KEY: Key = Key::new(201, 4_660, 0, 0);
 
 /// A full table on both sides, and its file.
 struct Held {
@@ -167,8 +212,7 @@ fn held(sections: u8, size: usize) -> Held {
     let mut full = fresh;
     for number in 0..sections {
         let fields = Fields {
-            table_id: KEY.table_id,
-            extension: KEY.extension,
+            key: KEY,
             version: 3,
             number,
             last: sections - 1,
@@ -177,7 +221,7 @@ fn held(sections: u8, size: usize) -> Held {
         lent::offer(&mut full, &mut ours, &payload).expect("a section");
     }
     let mut file = vec![0; LARGEST_FILE];
-    let length = lent::save(&full, &ours, KEY, &mut file).expect("room");
+    let length = lent::save(&full, &ours, for_us(KEY), &mut file).expect("room");
     file.truncate(length);
     let mut record = opinion::shelf::fresh();
     opinion::file::load(&mut record, &mut theirs, &file).expect("a file");
@@ -226,13 +270,13 @@ fn saves(sections: u8, size: usize) -> (f64, f64) {
         ..
     } = held(sections, size);
     let (mut out, mut other) = (file.clone(), file.clone());
+    let key = for_us(KEY);
     let timed = race(
         1,
         20,
-        || assert!(black_box(lent::save(&full, black_box(&ours), KEY, &mut out)).is_ok()),
+        || assert!(black_box(lent::save(&full, black_box(&ours), key, &mut out)).is_ok()),
         || {
-            let (table_id, extension) = (KEY.table_id, KEY.extension);
-            let saved = their_save(&record, black_box(&theirs), table_id, extension, &mut other);
+            let saved = their_save(&record, black_box(&theirs), KEY, &mut other);
             assert!(black_box(saved).is_ok());
         },
     );

@@ -1,0 +1,35 @@
+-- Two services with one extension, proved of the functions that a host calls.
+--   others-stay, services-apart
+use mathlib.Core.Path.{_≡_, sym, ap, subst, _∙_}
+use mathlib.Core.List.{List, [], _∷_}
+use mathlib.Core.Logic.{⊎-elim}
+use Prim.Native.Nat.{ℕ}
+use Rattle.key.specs.Key.{nrtIt}
+use Rattle.section.specs.Section.{tableId, keyIn}
+use Rattle.section.proofs.Keys.{lists-told-apart}
+use Rattle.shelf_laws.specs.History.{Question, about, reply, afterAll}
+use Rattle.shelf_laws.specs.Apart.{Others}
+use Rattle.shelf_laws.proofs.Apart as apart
+use Rattle.shelf_histories.specs.Numbers.{replied}
+use Rattle.shelf_histories.proofs.After.{reply-after}
+use Rattle.demands.specs.Services.{OthersStay, OtherLists, ServicesApart}
+
+pub others-stay : OthersStay
+others-stay first second payloads then q o =
+    reply-after second q
+    ∙ ap replied (ap (λ cs. reply (afterAll cs) q) then ∙ apart.others-stay (first .calls) payloads q o)
+    ∙ sym (reply-after first q)
+
+-- such lists have other keys
+other-keys : (one : List ℕ) → tableId one ≡ nrtIt → (payloads : List (List ℕ)) → OtherLists one payloads → Others (keyIn one) payloads
+other-keys one i [] o = tt
+other-keys one i (p ∷ ps) o = (
+  λ e.
+      let same = lists-told-apart p one (o .0) i .0 e in
+      ⊎-elim (λ d. d (same .1)) (λ d. d (same .2)) (o .1),
+  other-keys one i ps (o .2),
+)
+
+pub services-apart : ServicesApart
+services-apart first second one payloads i o then q e =
+    others-stay first second payloads then q (subst (λ k. Others k payloads) (sym e) (other-keys one i payloads o))
