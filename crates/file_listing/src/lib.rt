@@ -66,8 +66,9 @@ impl Text {
         Text { bytes, size }
     }
 
-    // The digit of a power of ten, where the number reaches it.
-    fn place(self, n: u32, power: u32) -> Text
+    // The digit of a power of ten, where the number reaches it. It is put where the text stands: one handed on to `byte` would leave
+    // another text on the stack for each digit.
+    fn place(mut self, n: u32, power: u32) -> Text
         requires { ⌜ self .size < room ⌝ }
         requires { ⌜ 0 < power ⌝ }
         ensures { λ r. ⌜ Grew (placeOf power n) 1 self r ⌝ }
@@ -75,7 +76,10 @@ impl Text {
         if n < power {
             return self;
         }
-        self.byte(48 + (n / power % 10) as u8)
+        let at = self.size;
+        self.bytes[at] = 48 + (n / power % 10) as u8;
+        self.size = at + 1;
+        self
     }
     // A number of up to five digits in decimal; of a longer one the last five.
     fn number(self, n: u32) -> Text
