@@ -1,22 +1,27 @@
 -- Document 02, request 4, of the functions that a host calls: two programme lists of different services no longer drive each other off the shelf,
--- each seen as a new version of the other. The theorems are in proofs/Services. When an offer is answered that its table began, or began again, and
--- what a question is answered, is told exactly in specs/Offers and specs/Shelf (BeganExactly, BeganAgainExactly, AskedExactly).
+-- each seen as a new version of the other: the second begins a table of its own, and the first stays. The theorems are in proofs/Services. When any offer
+-- is answered so, and what a question is answered, is told exactly in specs/Offers and specs/Shelf (BeganExactly, BeganAgainExactly, AskedExactly).
 use Prim.Native.Nat.{ℕ}
 use mathlib.Core.Path.{_≡_}
+use mathlib.Core.Bool.{false}
 use mathlib.Core.Logic.{_⊎_}
 use mathlib.Core.List.{List, [], _∷_, _++_}
 use Rattle.key.specs.Key.{nrtIt}
 use Rattle.section.specs.Section.{tableId, serviceId, timeSpanStart, keyIn}
+use Rattle.shelf_offer.specs.declared.Offered.{Offered}
+use Rattle.shelf_offer.specs.Answer.{offeredCode}
 use Rattle.shelf_laws.specs.History.{Question, about}
+use Rattle.shelf_laws.specs.Log.{heldBy, Full}
+use Rattle.shelf_laws.specs.Reception.{SectionOf}
 use Rattle.shelf_laws.specs.Apart.{offersOf, Others}
-use Rattle.shelf_histories.specs.History.{History, replyAfter}
+use Rattle.shelf_histories.specs.History.{History, logAfter, replyAfter, offerAfter}
 
 -- the second history is the first, and then these payloads are offered
 abbrev pub ThenOffers : History → List (List ℕ) → History → Type 0
 ThenOffers first payloads second = second .calls ≡ first .calls ++ offersOf payloads
 
--- payloads with other keys than a table's, as many as one likes, change no answer about that table, whatever they are answered themselves: it is
--- held as before, with the same bytes, and is called complete if it was
+-- payloads with other keys than a table's, as many as one likes, change the answer to no question about that table (a copy, whether it is complete, what is
+-- missing, a save), whatever they are answered themselves: it is held as before, with the same bytes, and is called complete if it was
 abbrev pub OthersStay : Type 0
 OthersStay =
     (first second : History) (payloads : List (List ℕ))
@@ -40,3 +45,13 @@ ServicesApart =
     → (q : Question)
     → about q ≡ keyIn one
     → replyAfter second q ≡ replyAfter first q
+
+-- a list that was not held begins a table of its own, where a place is free, though such lists came just before it
+abbrev pub ServiceBegins : Type 0
+ServiceBegins =
+    (first second : History) (one : List ℕ) (payloads : List (List ℕ)) → tableId one ≡ nrtIt → OtherLists one payloads
+    → ThenOffers first payloads second
+    → SectionOf (keyIn one) one
+    → heldBy (keyIn one) (logAfter first) ≡ false
+    → ¬ (Full (logAfter second))
+    → offerAfter second one .code ≡ offeredCode Offered.Began

@@ -64,7 +64,7 @@ Reading-Number s = (readingCode (readOf s) % 2 ^ 8 ≡ numberOf (readOf s)) × (
 abbrev pub Nothing-Added : List ℕ → Type 0
 Nothing-Added s = (h : Header) → readOf s ≡ Sound h → ¬ (h .key .table ≡ nrtIt) → keyCode (readOf s) ≡ 0
 
--- so they are 0 exactly when the section is sound
+-- so those of the first are 0 exactly when the section is sound
 abbrev pub Accepted : List ℕ → Type 0
 Accepted s = (readingCode (readOf s) % 2 ^ 8 ≡ 0) ↔ ((h : Header) × (readOf s ≡ Sound h))
 

@@ -1,4 +1,4 @@
--- The quick pass is a first look at the numbers before the rest of the keys, whether a place is taken or not. Where it says yes, FineColumns, FineMasks and Apart hold, and the
+-- The quick pass is a first look at the numbers, whether a place is taken or not; at the rest of the keys only where two heads begin alike. Where it says yes, FineColumns, FineMasks and Apart hold, and the
 -- three together are enough for a record that is not spoiled; where it does not, 18 is asked in its own words.
 use Prim.Native.Nat.{ℕ, _+_, _*_, _/_, _%_, _^_, _<_, _≤_}
 use mathlib.Core.Path.{_≡_}
