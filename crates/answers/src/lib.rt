@@ -1,4 +1,6 @@
 // What the calls over a host's numbers share: a refusal and a size as they stand in an answer.
+#![tactic(auto)]
+
 ghost use Rattle.std.specs.Prelude.{◌≡◌};
 ghost use Rattle.answers.specs.Answers.{size_code};
 

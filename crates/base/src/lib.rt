@@ -1,6 +1,8 @@
 // The ground that every layer stands on: definitions of bytes, numbers, choices and tables of refusals in specs/, and
 // their laws in proofs/. Its code is what several layers need: a number in a wider type, as a call, so that what is known of
 // the number is told once.
+#![tactic(auto)]
+
 ghost use Rattle.std.specs.Prelude.{◌≡◌, ◌<◌};
 
 // A byte in 16 bits.

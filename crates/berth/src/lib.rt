@@ -1,5 +1,7 @@
 // The berths of the store that the host lends (document 01, "The shelf"): section s of the table in place p begins at
 // 1,024 × (16p + s), and the rest of its berth is zeros. A call that names no berth of a whole store changes nothing.
+#![tactic(auto)]
+
 ghost use Rattle.std.specs.Prelude.{◌≡◌, true, ◌&&◌, eqb, ◌+◌, ◌<◌, ◌≤◌, ◌++◌, length, drop};
 ghost use Rattle.base.specs.Bits.{bit};
 ghost use Rattle.base.specs.Below.{every};

@@ -1,6 +1,8 @@
 // The clock that applies activations to applications (document 01, "Applications and the clock").
 // Each call takes the clock record and hands back the next one. Any record may be handed in: a spoiled one is refused.
 
+#![tactic(auto)]
+
 ghost use Rattle.std.specs.Prelude.{◌≡◌};
 ghost use Rattle.clock_record.specs.Book.{fresh};
 ghost use Rattle.clock_states.specs.States.{apps_in, states_word};

@@ -1,5 +1,7 @@
 // An activation, what is kept of one, and the two words that a record keeps it in (document 01, "Applications and the clock").
 
+#![tactic(auto)]
+
 ghost use Rattle.std.specs.Prelude.{◌≡◌, ◌-◌, ◌<◌, min};
 ghost use Rattle.clock_activation.specs.Limits.{most_held};
 ghost use Rattle.clock_activation.specs.Activation.{past};

@@ -1,6 +1,8 @@
 // The clock's calls over a record that the host lends in 67 words. The record goes in and out by a copy of its words, and each
 // call is answered in one number.
 
+#![tactic(auto)]
+
 ghost use Rattle.std.specs.Prelude.{◌≡◌, length};
 ghost use Rattle.clock_record.specs.Words.{record_size};
 ghost use Rattle.clock_answers.specs.Calls.{fresh_call, offer_call, move_call, time_call, state_call};

@@ -1,1 +1,2 @@
 // What is demanded of the clock, stated about the exported functions' own promises. There is no code here.
+#![tactic(auto)]

@@ -1,5 +1,7 @@
 // The words of the record that a call leaves: with one more held, or once the clock has moved.
 
+#![tactic(auto)]
+
 ghost use Rattle.std.specs.Prelude.{◌≡◌};
 ghost use Rattle.base.specs.Choice.{if◌then◌else◌};
 ghost use Rattle.clock_record.specs.Words.{book_in, words_with};

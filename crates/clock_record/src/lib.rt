@@ -1,6 +1,8 @@
 // A clock record: 67 words of 32 bits. The layout stands in specs/Words.antt. Whether a record is spoiled, and whether it
 // holds an activation, is told from the words where they stand.
 
+#![tactic(auto)]
+
 ghost use Rattle.std.specs.Prelude.{◌≡◌, [], ◌∷◌, ◌≤◌, min, eqb, length, take, drop};
 ghost use Rattle.clock_activation.specs.Limits.{most_held};
 ghost use Rattle.clock_record.specs.Lists.{any_of};

@@ -1,5 +1,7 @@
 // What an action does to an application's state (document 01, "Applications and the clock").
 
+#![tactic(auto)]
+
 ghost use Rattle.std.specs.Prelude.{◌≡◌, ◌<◌};
 ghost use Rattle.clock_rule.specs.Rule.{acted, above, applied};
 ghost use Rattle.clock_rule.specs.Numbers.{row_of, column_of};

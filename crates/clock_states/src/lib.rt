@@ -1,4 +1,6 @@
 // The word of the eight applications' states, two bits each. The layout of a record stands in crates/clock_record/specs/Words.antt.
+#![tactic(auto)]
+
 ghost use Rattle.std.specs.Prelude.{◌≡◌, ◌<◌};
 ghost use Rattle.clock_rule.specs.Numbers.{column_of};
 ghost use Rattle.clock_states.specs.States.{state_no, apps_in, states_word};

@@ -1,2 +1,3 @@
 // The buyer's third condition and what stands beside it, of the functions that a host calls. No code: specs/ has the statements,
 // proofs/ that each is so.
+#![tactic(auto)]

@@ -1,5 +1,7 @@
 // A descriptor loop: a run of tag 8, length 8, then that many bytes, to the end of the lent bytes. A caller walks it by
 // asking for a step at place 0, and then at each answer's next place, until the walk is over or refused.
+#![tactic(auto)]
+
 ghost use Rattle.std.specs.Prelude.{◌≡◌, ◌+◌, ◌≤◌, ◌||◌, length, eqb};
 ghost use Rattle.descriptors.specs.Loop.{step_of, view_of};
 ghost use Rattle.descriptors.specs.Answer.{descriptor_code, step_code};

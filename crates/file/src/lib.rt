@@ -1,5 +1,7 @@
 // Reads a shelf file (document 01, "The shelf file") from left to right: which table it is, and where in the file each of its
 // sections lies. Nothing is copied, and the first fault from the left is the answer.
+#![tactic(auto)]
+
 ghost use Rattle.std.specs.Prelude.{◌≡◌};
 ghost use Rattle.base.specs.Choice.{if◌then◌else◌};
 ghost use Rattle.file_number.specs.Number.{number_at};

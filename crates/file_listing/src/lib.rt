@@ -1,4 +1,6 @@
 // The text that the lister prints for a shelf file (document 01, "The lister"), as a function of the file's bytes.
+#![tactic(auto)]
+
 ghost use Rattle.std.specs.Prelude.{◌≡◌, [], ◌∷◌, ◌++◌, ◌+◌, ◌<◌, ◌≤◌, length};
 ghost use Rattle.file_listing.specs.Words.{place as place_of, decimal, long_decimal, lines};
 ghost use Rattle.file_listing.specs.Growing.{room, empty, Grew};

@@ -1,5 +1,7 @@
 // The numbers of a shelf file (document 01, "The shelf file"): groups of seven bits, lowest group first, top bit set on
 // every group but the last, in the shortest form, at most 65,535. So a number has one spelling.
+#![tactic(auto)]
+
 ghost use Rattle.std.specs.Prelude.{◌≡◌};
 ghost use Rattle.file_number.specs.Number.{number_at, writing, written_of};
 ghost use Rattle.file_number.specs.Answer.{number_lent};

@@ -1,4 +1,6 @@
 // Which table a shelf file is, in the numbers that a host gets: the file is read and nothing is loaded.
+#![tactic(auto)]
+
 ghost use Rattle.std.specs.Prelude.{◌≡◌};
 ghost use Rattle.answers.specs.Answers.{out as out_of};
 ghost use Rattle.file_table.specs.Answer.{file_table_lent};

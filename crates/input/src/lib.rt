@@ -1,4 +1,6 @@
 // Reads the standard input into a buffer, for the programs.
+#![tactic(auto)]
+
 ghost use Rattle.std.specs.Prelude.{length};
 ghost use Rattle.input.specs.Within.{Within};
 

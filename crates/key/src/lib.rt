@@ -1,4 +1,6 @@
 // What tells one table from another (document 01, "The shelf", and document 02, request 4).
+#![tactic(auto)]
+
 ghost use Rattle.std.specs.Prelude.{◌≡◌, ◌+◌, ◌*◌, ◌/◌, ◌%◌};
 ghost use Rattle.key.specs.Key.{key_from, same_key};
 

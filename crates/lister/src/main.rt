@@ -1,5 +1,7 @@
 // Lists a shelf file that stands on the standard input (document 01, "The lister"). The text is `file_listing::list_file`'s; here
 // it is only read and written.
+#![tactic(auto)]
+
 ghost use Rattle.std.specs.Prelude.{◌≡◌, ◌+◌, length};
 ghost use Rattle.file.specs.Layout.{largest_file};
 ghost use Rattle.file_listing.specs.Listing.{listing, list_of};

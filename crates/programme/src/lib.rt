@@ -1,5 +1,7 @@
 // Reads an NRT-IT section, a programme list, by Table 6.5 of source document 004 (document 02, request 3): the fields before its
 // items, an item at a place, and the table's own loop. Names and loops are answered as places in the payload, so nothing is copied.
+#![tactic(auto)]
+
 ghost use Rattle.std.specs.Prelude.{◌≡◌, ◌≤◌, length};
 ghost use Rattle.programme.specs.Field.{number_in};
 ghost use Rattle.programme.specs.Run.{run_of};

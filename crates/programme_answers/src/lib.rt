@@ -1,4 +1,6 @@
 // The answers about an NRT-IT section in numbers, as a host gets them.
+#![tactic(auto)]
+
 ghost use Rattle.std.specs.Prelude.{◌≡◌, ◌<◌};
 ghost use Rattle.answers.specs.Answers.{out as out_of};
 ghost use Rattle.programme.specs.Reading.{own_of};

@@ -1,5 +1,7 @@
 // The items of an NRT-IT section, a programme list (Table 6.5 of source document 004): one at a place, or those from a place on, in ten
 // numbers each, as many as a host lends room for. Where an item's parts lie is found first; then each number is put once.
+#![tactic(auto)]
+
 ghost use Rattle.std.specs.Prelude.{◌≡◌, ◌+◌, ◌*◌, ◌/◌, ◌%◌, ◌<◌, ◌≤◌, min, eqb, length};
 ghost use Rattle.std.proofs.lemmas.List.Edits.{sets};
 ghost use Rattle.answers.specs.Answers.{out as out_of};

@@ -1,4 +1,6 @@
 // The lines of the text for staff: of a section of a programme list and of its items. Each is written as the crate text writes.
+#![tactic(auto)]
+
 ghost use Rattle.std.specs.Prelude.{[], ◌++◌};
 ghost use Rattle.base.specs.Choice.{if◌then◌else◌};
 ghost use Rattle.file_listing.specs.Words.{newline};

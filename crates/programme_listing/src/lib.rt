@@ -1,5 +1,7 @@
 // The text for staff: what a shelf file holds of a programme list, as a function of the file's bytes. The text is too long for a buffer
 // of its own, so it is written over the output twice: first over no byte of it, which only tells the size, and then where it fits.
+#![tactic(auto)]
+
 ghost use Rattle.std.specs.Prelude.{◌≡◌, [], ◌++◌, ◌+◌, ◌<◌, ◌≤◌, length};
 ghost use Rattle.base.specs.Below.{every};
 ghost use Rattle.file_listing.specs.Words.{lines};

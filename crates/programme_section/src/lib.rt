@@ -1,4 +1,6 @@
 // The text for staff: what one section of a programme list holds.
+#![tactic(auto)]
+
 ghost use Rattle.std.specs.Prelude.{◌≡◌, ◌<◌, length};
 ghost use Rattle.text.specs.Over.{Wrote};
 ghost use Rattle.programme.specs.Run.{end_of};

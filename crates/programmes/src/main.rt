@@ -1,5 +1,7 @@
 // Prints for staff what a shelf file that stands on the standard input holds of a programme list. The text is
 // `programme_listing::list_programmes`'s; here it is only read and written.
+#![tactic(auto)]
+
 ghost use Rattle.std.specs.Prelude.{◌≡◌, ◌+◌, length};
 ghost use Rattle.file.specs.Layout.{largest_file};
 ghost use Rattle.input.specs.Within.{Within};

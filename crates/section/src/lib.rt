@@ -1,5 +1,7 @@
 // Reads one table section from a datagram's payload (document 01, "A section"): eight header bytes, then the body.
 // A payload is one section, so a section that is longer or shorter than its payload is refused and never clipped.
+#![tactic(auto)]
+
 ghost use Rattle.std.specs.Prelude.{◌≡◌, ◌+◌, ◌<◌, ◌≤◌, length};
 ghost use Rattle.base.specs.Bytes.{word};
 ghost use Rattle.key.specs.Key.{nrt_it};

@@ -1,6 +1,8 @@
 // The shelf's record as the host lends it (document 01, "The shelf"): four places, each free or with one table of sixteen
 // sections, in 96 numbers of 16 bits. What a number means is in specs/Layout. Any numbers may be lent: a call that names no
 // place of a record finds nothing and writes nothing.
+#![tactic(auto)]
+
 ghost use Rattle.std.specs.Prelude.{◌≡◌, ◌+◌, ◌*◌, ◌/◌, ◌%◌, ◌^◌, ◌<◌, ◌≤◌, length, get_or, eqb};
 ghost use Rattle.berth.specs.Berth.{places, sections};
 ghost use Rattle.base.specs.Below.{lowest};

@@ -1,5 +1,7 @@
 // Asking the shelf (document 01, "The shelf"): a section's bytes, whether a table is complete, its lowest missing number, and which
 // table is in a place. The record is the numbers that the host lends.
+#![tactic(auto)]
+
 ghost use Rattle.std.specs.Prelude.{◌≡◌, not, ◌+◌, ◌<◌};
 ghost use Rattle.base.specs.Below.{lowest};
 ghost use Rattle.base.specs.Bits.{bit};

@@ -1,4 +1,6 @@
 // Begins a shelf (document 01, "The shelf"): four free places and a zeroed store.
+#![tactic(auto)]
+
 ghost use Rattle.std.specs.Prelude.{◌≡◌, length};
 ghost use Rattle.base.specs.Bytes.{zeros};
 ghost use Rattle.berth.specs.Berth.{store_size};

@@ -1,5 +1,7 @@
 // Whether a lent record of 96 numbers is spoiled (18). One pass over the numbers before the rest of the keys says at once that a record which the library left
 // is not; where it does not say so, each place is looked at.
+#![tactic(auto)]
+
 ghost use Rattle.std.specs.Prelude.{◌≡◌, true, false, ℕ, ◌+◌, ◌/◌, ◌%◌, ◌^◌, ◌<◌, ◌≤◌, length};
 ghost use Rattle.berth.specs.Berth.{places, sections};
 ghost use Rattle.base.specs.Below.{some};

@@ -1,4 +1,6 @@
 // Loads a file's table onto the shelf (document 01, "The shelf file"). Nothing is written before the last fault is ruled out.
+#![tactic(auto)]
+
 ghost use Rattle.std.specs.Prelude.{◌≡◌, ◌<◌, length};
 ghost use Rattle.berth.specs.Berth.{places, sections, store_size};
 ghost use Rattle.shelf.specs.Layout.{count};

@@ -1,4 +1,6 @@
 // Offering a section to the shelf (document 01, "Offering a sound section"), over the numbers and the store that the host lends.
+#![tactic(auto)]
+
 ghost use Rattle.std.specs.Prelude.{◌≡◌, true, false, ◌<◌, ◌≤◌, ◌/◌, ◌%◌, length};
 ghost use Rattle.berth.specs.Berth.{berth_size, places, sections, store_size};
 ghost use Rattle.berth.specs.Calls.{put_in};

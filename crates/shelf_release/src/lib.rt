@@ -1,4 +1,6 @@
 // Releasing a table (document 01, "The shelf"): its place is free again, and its sixteen berths are zeroed.
+#![tactic(auto)]
+
 ghost use Rattle.std.specs.Prelude.{◌≡◌};
 ghost use Rattle.shelf_release.specs.On.{leaving, release_on};
 ghost use Rattle.answers.specs.Answers.{lent};

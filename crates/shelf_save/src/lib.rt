@@ -1,4 +1,6 @@
 // Saves a table of the shelf as a file (document 01, "The shelf file").
+#![tactic(auto)]
+
 ghost use Rattle.std.specs.Prelude.{◌≡◌, ◌+◌, ◌*◌, ◌<◌, ◌≤◌, length};
 ghost use Rattle.berth.specs.Berth.{berth_size, places, sections, store_size, laid};
 ghost use Rattle.shelf.specs.Layout.{shelf_at};

@@ -1,5 +1,7 @@
 // What the shelf's calls write into the numbers of a record that the host lends (document 01, "The shelf"). A call that names no place
 // of a record writes nothing.
+#![tactic(auto)]
+
 ghost use Rattle.std.specs.Prelude.{◌≡◌, ◌^◌, ◌<◌, length};
 ghost use Rattle.std.specs.Int.Bits.{bit_or};
 ghost use Rattle.berth.specs.Berth.{places, sections};

@@ -1,5 +1,7 @@
 // A table in the numbers that a host is told it in: its key, its version, its last number, and how many bytes each of its sixteen
 // sections has.
+#![tactic(auto)]
+
 ghost use Rattle.std.specs.Prelude.{◌≡◌, ◌++◌, ◌≤◌, length, drop};
 ghost use Rattle.answers.specs.Answers.{out as out_of};
 ghost use Rattle.tables.specs.Numbers.{table_numbers, table_put};

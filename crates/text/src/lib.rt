@@ -1,5 +1,7 @@
 // Text that is written over an output that may be too short for it: a byte that has no room is only counted, so that writing a text
 // over nothing tells its size, and writing it again leaves it.
+#![tactic(auto)]
+
 ghost use Rattle.std.specs.Prelude.{◌≡◌, [], ◌∷◌, ◌++◌, ◌<◌};
 ghost use Rattle.file_listing.specs.Words.{place as place_of, newline};
 ghost use Rattle.text.specs.Words.{decimal, hex_digit, plain as plain_byte, shown as shownByte, escaped as escapedName};

@@ -1,5 +1,7 @@
 // An A/93 trigger: read whole from a payload, or refused by the first fault from the left; and whether it belongs to an
 // application. Texts and bytes are answered as places in the payload, so nothing is copied.
+#![tactic(auto)]
+
 ghost use Rattle.std.specs.Prelude.{◌≡◌, ◌+◌, ◌≤◌, length};
 ghost use Rattle.base.specs.Bytes.{word, same};
 ghost use Rattle.trigger_faults.specs.Fields.{target_at, user_at};

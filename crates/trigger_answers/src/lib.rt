@@ -1,4 +1,6 @@
 // The reading of a trigger in numbers, as a host gets them.
+#![tactic(auto)]
+
 ghost use Rattle.std.specs.Prelude.{◌≡◌, ◌++◌, ◌≤◌, ◌<◌, length, drop};
 ghost use Rattle.answers.specs.Answers.{out as out_of};
 ghost use Rattle.trigger.specs.Answer.{numbers_of};

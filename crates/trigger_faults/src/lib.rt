@@ -1,4 +1,6 @@
 // Whether a payload is a trigger: the first fault from the left, field by field, or where its parts are.
+#![tactic(auto)]
+
 ghost use Rattle.std.specs.Prelude.{◌≡◌, ◌+◌, ◌≤◌, length};
 ghost use Rattle.base.specs.Bytes.{word};
 ghost use Rattle.trigger_faults.specs.Fields.{wrong_length, is_uri, some_high};

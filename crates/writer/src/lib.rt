@@ -1,5 +1,7 @@
 // The bench's section writer (document 02, request 1): as few sections as will do for a body, each asked for by its
 // number and written into a lent buffer. It writes no NRT-IT (request 4), since a label does not say all of its key.
+#![tactic(auto)]
+
 ghost use Rattle.std.specs.Prelude.{◌≡◌, ◌+◌, ◌≤◌, length};
 ghost use Rattle.answers.specs.Answers.{out as out_of};
 ghost use Rattle.writer.specs.Writer.{last_of, end_of, count_of, header_of, section_of, write_of, write};

@@ -1,4 +1,6 @@
 // A bench's table as a shelf file (document 02, request 1): the file of the sections that carry a body.
+#![tactic(auto)]
+
 ghost use Rattle.std.specs.Prelude.{◌≡◌, ◌++◌, ◌+◌, ◌≤◌, length, drop};
 ghost use Rattle.answers.specs.Answers.{out as out_of};
 ghost use Rattle.key.specs.Key.{nrt_it};
