@@ -3,8 +3,7 @@ ghost use Rattle.std.specs.Prelude.{◌≡◌};
 ghost use Rattle.clock_answers.specs.Calls.{fresh_call, offer_call, move_call, time_call, state_call};
 
 // Makes the record a fresh clock.
-#[unsafe(no_mangle)]
-pub extern "C" fn khumsafil_raw_clock_fresh(record: &mut [u32]) -> u8
+pub fn khumsafil_raw_clock_fresh(record: &mut [u32]) -> u8
     ensures value { result ≡ (fresh_call «record».old).answer }
     ensures record_after { «record».new ≡ (fresh_call «record».old).words }
 {
@@ -12,8 +11,7 @@ pub extern "C" fn khumsafil_raw_clock_fresh(record: &mut [u32]) -> u8
 }
 
 // Offers an activation to the clock.
-#[unsafe(no_mangle)]
-pub extern "C" fn khumsafil_raw_clock_offer(
+pub fn khumsafil_raw_clock_offer(
     record: &mut [u32],
     application: u8,
     event: u16,
@@ -27,8 +25,7 @@ pub extern "C" fn khumsafil_raw_clock_offer(
 }
 
 // Moves the clock.
-#[unsafe(no_mangle)]
-pub extern "C" fn khumsafil_raw_clock_move(record: &mut [u32], to: u32) -> u16
+pub fn khumsafil_raw_clock_move(record: &mut [u32], to: u32) -> u16
     ensures value { result ≡ (move_call «record».old to).answer }
     ensures record_after { «record».new ≡ (move_call «record».old to).words }
 {
@@ -36,16 +33,14 @@ pub extern "C" fn khumsafil_raw_clock_move(record: &mut [u32], to: u32) -> u16
 }
 
 // The clock's time.
-#[unsafe(no_mangle)]
-pub extern "C" fn khumsafil_raw_clock_time(record: &[u32]) -> u64
+pub fn khumsafil_raw_clock_time(record: &[u32]) -> u64
     ensures { result ≡ time_call «record».now }
 {
     clock_answers::clock_time(record)
 }
 
 // The state of an application.
-#[unsafe(no_mangle)]
-pub extern "C" fn khumsafil_raw_clock_state(record: &[u32], application: u8) -> u16
+pub fn khumsafil_raw_clock_state(record: &[u32], application: u8) -> u16
     ensures { result ≡ state_call «record».now application }
 {
     clock_answers::clock_state(record, application)

@@ -10,8 +10,7 @@ ghost use Rattle.writer_file.specs.Answer.{file_lent};
 use writer::Label;
 
 // Which table a file is.
-#[unsafe(no_mangle)]
-pub extern "C" fn khumsafil_raw_file_table(file: &[u8], fields: &mut [u16]) -> u8
+pub fn khumsafil_raw_file_table(file: &[u8], fields: &mut [u16]) -> u8
     ensures { out_of result fields.new ≡ file_table_lent file.now fields.old }
 {
     file_table::table_code(file, fields)
@@ -19,24 +18,21 @@ pub extern "C" fn khumsafil_raw_file_table(file: &[u8], fields: &mut [u16]) -> u
 
 // The number at the front of some bytes, in one number: the refusal alone, or 0 in the low 8 bits, and above the number and how
 // many bytes it takes.
-#[unsafe(no_mangle)]
-pub extern "C" fn khumsafil_raw_file_number(bytes: &[u8]) -> u32
+pub fn khumsafil_raw_file_number(bytes: &[u8]) -> u32
     ensures { result ≡ number_lent bytes.now }
 {
     file_number::number_code(bytes)
 }
 
 // Lists a file.
-#[unsafe(no_mangle)]
-pub extern "C" fn khumsafil_raw_file_list(file: &[u8], out: &mut [u8]) -> u32
+pub fn khumsafil_raw_file_list(file: &[u8], out: &mut [u8]) -> u32
     ensures { out_of result out.new ≡ list_lent file.now out.old }
 {
     file_listing::list_code(file, out)
 }
 
 // Writes the file of the table that carries the body.
-#[unsafe(no_mangle)]
-pub extern "C" fn khumsafil_raw_writer_file(
+pub fn khumsafil_raw_writer_file(
     table: u8,
     extension: u16,
     version: u8,

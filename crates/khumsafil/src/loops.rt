@@ -5,16 +5,14 @@ ghost use Rattle.descriptors.specs.Mark.{is_trigger_tap};
 ghost use Rattle.descriptors.specs.Answer.{step_code};
 
 // What stands at a place of the loop, in one number: the refusal alone, or 0 in the low 8 bits and what was found above.
-#[unsafe(no_mangle)]
-pub extern "C" fn khumsafil_raw_descriptor_step(bytes: &[u8], at: usize) -> u64
+pub fn khumsafil_raw_descriptor_step(bytes: &[u8], at: usize) -> u64
     ensures { result ≡ step_code (step_of bytes.now at) }
 {
     descriptors::step_code(bytes, at)
 }
 
 // Whether the descriptor at a place marks a trigger Tap.
-#[unsafe(no_mangle)]
-pub extern "C" fn khumsafil_raw_descriptor_is_trigger_tap(bytes: &[u8], at: usize) -> bool
+pub fn khumsafil_raw_descriptor_is_trigger_tap(bytes: &[u8], at: usize) -> bool
     ensures { result ≡ is_trigger_tap bytes.now at }
 {
     descriptors::is_trigger_tap(bytes, at)

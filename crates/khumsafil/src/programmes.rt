@@ -6,8 +6,7 @@ ghost use Rattle.programme_answers.specs.Lent.{read_lent, items_lent, own_code};
 ghost use Rattle.programme_listing.specs.Answer.{list_lent};
 
 // The fields before the items, at the front of the buffer, or the refusal.
-#[unsafe(no_mangle)]
-pub extern "C" fn khumsafil_raw_programme_read(payload: &[u8], fields: &mut [u32]) -> u8
+pub fn khumsafil_raw_programme_read(payload: &[u8], fields: &mut [u32]) -> u8
     ensures { out_of result fields.new ≡ read_lent payload.now fields.old }
 {
     programme_answers::programme_read(payload, fields)
@@ -15,8 +14,7 @@ pub extern "C" fn khumsafil_raw_programme_read(payload: &[u8], fields: &mut [u32
 
 // The items from a place on, the one there taken for item `number`, as many as there is room for, their numbers at the front of the
 // buffer, in one number: the refusal alone; or 0 in the low 8 bits, and above what was found, how many items and the place after them.
-#[unsafe(no_mangle)]
-pub extern "C" fn khumsafil_raw_programme_items(
+pub fn khumsafil_raw_programme_items(
     payload: &[u8],
     at: usize,
     number: u8,
@@ -28,8 +26,7 @@ pub extern "C" fn khumsafil_raw_programme_items(
 }
 
 // The table's own loop from a place, in one number: the refusal alone, or 0 in the low 8 bits, and above count, place and length.
-#[unsafe(no_mangle)]
-pub extern "C" fn khumsafil_raw_programme_own(payload: &[u8], at: usize) -> u64
+pub fn khumsafil_raw_programme_own(payload: &[u8], at: usize) -> u64
     ensures { result ≡ own_code (own_of payload.now at) }
 {
     programme_answers::programme_own(payload, at)
@@ -37,8 +34,7 @@ pub extern "C" fn khumsafil_raw_programme_own(payload: &[u8], at: usize) -> u64
 
 // The text for staff of a shelf file, at the front of the output, in one number: the refusal alone, or 0 in the low 8 bits, and above
 // how many bytes it has.
-#[unsafe(no_mangle)]
-pub extern "C" fn khumsafil_raw_programme_list(file: &[u8], out: &mut [u8]) -> u64
+pub fn khumsafil_raw_programme_list(file: &[u8], out: &mut [u8]) -> u64
     ensures { out_of result out.new ≡ list_lent file.now out.old }
 {
     programme_listing::programmes_code(file, out)

@@ -4,16 +4,14 @@ ghost use Rattle.section.specs.Section.{read_of};
 ghost use Rattle.section.specs.Answer.{reading_code, key_code};
 
 // The section that the payload is, in one number: 0 in the low 8 bits and the fields above, or the refusal alone.
-#[unsafe(no_mangle)]
-pub extern "C" fn khumsafil_raw_section_read(payload: &[u8]) -> u64
+pub fn khumsafil_raw_section_read(payload: &[u8]) -> u64
     ensures { result ≡ reading_code (read_of payload.now) }
 {
     section::read_code(payload)
 }
 
 // The rest of the key of an NRT-IT, in one number: 0 in the low 8 bits and the two fields above, or the refusal alone.
-#[unsafe(no_mangle)]
-pub extern "C" fn khumsafil_raw_section_key(payload: &[u8]) -> u64
+pub fn khumsafil_raw_section_key(payload: &[u8]) -> u64
     ensures { result ≡ key_code (read_of payload.now) }
 {
     section::key_code(payload)

@@ -11,28 +11,21 @@ ghost use Rattle.shelf_load.specs.Answer.{load_lent};
 ghost use Rattle.key.specs.Key.{key_from};
 
 // Begins a fresh shelf: four free places and a zeroed store.
-#[unsafe(no_mangle)]
-pub extern "C" fn khumsafil_raw_shelf_begin(record: &mut [u16], store: &mut [u8]) -> u8
+pub fn khumsafil_raw_shelf_begin(record: &mut [u16], store: &mut [u8]) -> u8
     ensures { lent result «record».new store.new ≡ begin_lent «record».old store.old }
 {
     shelf_begin::begin_code(record, store)
 }
 
 // Offers a payload.
-#[unsafe(no_mangle)]
-pub extern "C" fn khumsafil_raw_shelf_offer(
-    record: &mut [u16],
-    store: &mut [u8],
-    payload: &[u8],
-) -> u16
+pub fn khumsafil_raw_shelf_offer(record: &mut [u16], store: &mut [u8], payload: &[u8]) -> u16
     ensures { lent result «record».new store.new ≡ offer_lent «record».old store.old payload.now }
 {
     shelf_offer::offer_code(record, store, payload)
 }
 
 // Whether a table is held and complete: the plain truth, for a lamp.
-#[unsafe(no_mangle)]
-pub extern "C" fn khumsafil_raw_shelf_is_complete(
+pub fn khumsafil_raw_shelf_is_complete(
     record: &[u16],
     store: &[u8],
     table: u8,
@@ -46,8 +39,7 @@ pub extern "C" fn khumsafil_raw_shelf_is_complete(
 }
 
 // Whether a table is complete, and why it cannot be told where it cannot.
-#[unsafe(no_mangle)]
-pub extern "C" fn khumsafil_raw_shelf_complete(
+pub fn khumsafil_raw_shelf_complete(
     record: &[u16],
     store: &[u8],
     table: u8,
@@ -61,8 +53,7 @@ pub extern "C" fn khumsafil_raw_shelf_complete(
 }
 
 // The lowest missing number of a table.
-#[unsafe(no_mangle)]
-pub extern "C" fn khumsafil_raw_shelf_lowest_missing(
+pub fn khumsafil_raw_shelf_lowest_missing(
     record: &[u16],
     store: &[u8],
     table: u8,
@@ -76,21 +67,14 @@ pub extern "C" fn khumsafil_raw_shelf_lowest_missing(
 }
 
 // Which table is in a place.
-#[unsafe(no_mangle)]
-pub extern "C" fn khumsafil_raw_shelf_table(
-    record: &[u16],
-    store: &[u8],
-    place: u8,
-    fields: &mut [u16],
-) -> u8
+pub fn khumsafil_raw_shelf_table(record: &[u16], store: &[u8], place: u8, fields: &mut [u16]) -> u8
     ensures { out_of result fields.new ≡ table_lent «record».now store.now place fields.old }
 {
     shelf_ask::table_code(record, store, place, fields)
 }
 
 // Copies a section out.
-#[unsafe(no_mangle)]
-pub extern "C" fn khumsafil_raw_shelf_copy_section(
+pub fn khumsafil_raw_shelf_copy_section(
     record: &[u16],
     store: &[u8],
     table: u8,
@@ -112,8 +96,7 @@ pub extern "C" fn khumsafil_raw_shelf_copy_section(
 }
 
 // Releases a table.
-#[unsafe(no_mangle)]
-pub extern "C" fn khumsafil_raw_shelf_release(
+pub fn khumsafil_raw_shelf_release(
     record: &mut [u16],
     store: &mut [u8],
     table: u8,
@@ -127,8 +110,7 @@ pub extern "C" fn khumsafil_raw_shelf_release(
 }
 
 // Saves a table as a file.
-#[unsafe(no_mangle)]
-pub extern "C" fn khumsafil_raw_shelf_save(
+pub fn khumsafil_raw_shelf_save(
     record: &[u16],
     store: &[u8],
     table: u8,
@@ -144,8 +126,7 @@ pub extern "C" fn khumsafil_raw_shelf_save(
 }
 
 // Loads a file.
-#[unsafe(no_mangle)]
-pub extern "C" fn khumsafil_raw_shelf_load(record: &mut [u16], store: &mut [u8], file: &[u8]) -> u8
+pub fn khumsafil_raw_shelf_load(record: &mut [u16], store: &mut [u8], file: &[u8]) -> u8
     ensures { lent result «record».new store.new ≡ load_lent «record».old store.old file.now }
 {
     shelf_load::load_code(record, store, file)

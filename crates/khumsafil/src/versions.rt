@@ -6,8 +6,7 @@ ghost use Rattle.khumsafil.specs.Version.{library_version};
 const VERSION: u32 = 1280;
 
 // The version, as the header that this library goes with has it.
-#[unsafe(no_mangle)]
-pub extern "C" fn khumsafil_raw_version() -> u32
+pub fn khumsafil_raw_version() -> u32
     ensures { result ≡ library_version }
 {
     VERSION

@@ -7,16 +7,14 @@ use writer::Label;
 
 // How many sections a body of so many bytes makes in a table with that id, in one number: the refusal alone, or 0 in the low 8 bits and
 // the count above.
-#[unsafe(no_mangle)]
-pub extern "C" fn khumsafil_raw_writer_count(table: u8, length: usize) -> u16
+pub fn khumsafil_raw_writer_count(table: u8, length: usize) -> u16
     ensures { result ≡ count_lent table length }
 {
     writer::count_code(table, length)
 }
 
 // Writes section k of the table that carries the body.
-#[unsafe(no_mangle)]
-pub extern "C" fn khumsafil_raw_writer_section(
+pub fn khumsafil_raw_writer_section(
     table: u8,
     extension: u16,
     version: u8,

@@ -43,7 +43,7 @@ fn declared_in_antt(line: &str) -> Option<String> {
 /// The names that a line of Rattle declares.
 fn declared_in_rattle(line: &str) -> Option<String> {
     let mut rest = line.trim_start();
-    for word in ["#[no_mangle]", "pub ", "extern \"C\" "] {
+    for word in ["#[unsafe(no_mangle)]", "pub ", "extern \"C\" "] {
         rest = rest.strip_prefix(word).unwrap_or(rest).trim_start();
     }
     for word in ["fn ", "struct ", "enum ", "const "] {
@@ -63,7 +63,7 @@ fn names(root: &Path) -> BTreeSet<String> {
     let mut names = BTreeSet::new();
     for line in fs::read_to_string(root.join("crates.txt")).unwrap().lines() {
         if let Some((name, _)) = line.split_once(':') {
-            names.insert(name.trim().to_string());
+            names.extend(name.split_whitespace().next().map(str::to_string));
         }
     }
     let mut files = Vec::new();

@@ -1,0 +1,28 @@
+// Exports `khumsafil::writers` to C. Each export passes its arguments on, under the same clauses.
+ghost use Rattle.std.specs.Prelude.{◌≡◌};
+ghost use Rattle.answers.specs.Answers.{out as out_of};
+ghost use Rattle.writer.specs.Answer.{label, count_lent, section_lent};
+
+// How many sections a body of so many bytes makes in a table with that id, in one number: the refusal alone, or 0 in the low 8 bits and
+// the count above.
+#[unsafe(no_mangle)]
+pub extern "C" fn khumsafil_raw_writer_count(table: u8, length: usize) -> u16
+    ensures { result ≡ count_lent table length }
+{
+    khumsafil::writers::khumsafil_raw_writer_count(table, length)
+}
+
+// Writes section k of the table that carries the body.
+#[unsafe(no_mangle)]
+pub extern "C" fn khumsafil_raw_writer_section(
+    table: u8,
+    extension: u16,
+    version: u8,
+    body: &[u8],
+    k: u8,
+    out: &mut [u8],
+) -> u32
+    ensures { out_of result out.new ≡ section_lent (label table extension version) body.now k out.old }
+{
+    khumsafil::writers::khumsafil_raw_writer_section(table, extension, version, body, k, out)
+}
