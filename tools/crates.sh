@@ -25,6 +25,14 @@ maker_of() { # NAME
     case $1 in khumsafil) echo khumsafil_c ;; *) echo "$1" ;; esac
 }
 
+# The folders that a crate and what it needs are made from.
+sources_of() { # NAME
+    local name part
+    for name in $(needed "$1"); do
+        for part in src specs proofs; do [ ! -d "crates/$name/$part" ] || echo "crates/$name/$part"; done
+    done
+}
+
 # Builds a crate anew where it is not built, or where its source changed since by the times of the files. Where the environment
 # variable KHUMSAFIL_NATIVE names a folder that has the file, that one is taken as it stands. Says in `built` which file it is.
 have() { # NAME FILE
@@ -32,8 +40,8 @@ have() { # NAME FILE
     built=${KHUMSAFIL_NATIVE:-}/$2
     [ -z "${KHUMSAFIL_NATIVE:-}" ] || [ ! -f "$built" ] || return 0
     built=$PWD/target/native/$2
-    if [ -f "$built" ] && [ -f "$stamp" ] && [ -z "$(find crates.txt tools/build tools/crates.sh $(needed "$(maker_of "$1")" | sed 's|^|crates/|') \
-        \( -name must-fail -o -name out \) -prune -o -newer "$stamp" -print -quit)" ]; then
+    if [ -f "$built" ] && [ -f "$stamp" ] && [ -z "$(find crates.txt tools/build tools/crates.sh $(sources_of "$(maker_of "$1")") \
+        -newer "$stamp" -print -quit)" ]; then
         return
     fi
     tools/build "$1" >&2

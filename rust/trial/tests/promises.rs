@@ -142,7 +142,7 @@ fn a_name_that_is_not_there_is_seen() {
     let root = root();
     let names = names(&root);
     assert!(known("section::read", &root, &names));
-    assert!(known("readOf", &root, &names));
+    assert!(known("read_of", &root, &names));
     assert!(known("crates/section/specs/Section.antt", &root, &names));
     assert!(!known("section::reads_everything", &root, &names));
     assert!(!known("crates/section/specs/Sections.antt", &root, &names));
