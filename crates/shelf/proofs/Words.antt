@@ -16,7 +16,7 @@ use Rattle.base.proofs.Cases.{by, same_or}
 use Rattle.shelf.proofs.Find.{place-has, place-first}
 use Rattle.base.specs.Below.{some, lowest}
 use Rattle.base.proofs.Below.{some-which, some-found, lowest-all, lowest-below}
-use Rattle.base.proofs.Tables.{words, itself, same, or-so, and_so, fails, denied}
+use Rattle.base.proofs.Tables.{words, itself, or-so, and_so, fails, denied}
 use Rattle.berth.specs.Berth.{places, sections, berth_size}
 use Rattle.key.specs.declared.Key.{Key}
 use Rattle.key.specs.Key.{same_key}

@@ -2,12 +2,12 @@
 --   behind-long, behind_more   a buffer in which so many lengths stand behind its first seven numbers
 --   put_all                    seven stores from the front and sixteen lengths behind them are the twenty-three numbers
 --   put-short, put-fits        both ways out of `put_table`
-use mathlib.Core.Path.{◌≡◌, refl, sym, ap, ◌∙◌}
+use mathlib.Core.Path.{◌≡◌, sym, ap, ◌∙◌}
 use mathlib.Core.List.{List, [], ◌∷◌, ◌++◌}
 use Prim.Native.Nat.{ℕ, ◌+◌, ◌<◌, ◌≤◌}
 use native.Mathlib.Numerals.{add-one}
 use native.Mathlib.Omega.{arith}
-use lib.ListN.{length, take, drop, get_or, set, length-set}
+use lib.ListN.{length, drop, get_or, set}
 use lib.Seq.{sets, sets-eq, length-sets, paste, paste-suc, length-paste, take_all, drop-drop}
 use Rattle.answers.specs.Answers.{out}
 use Rattle.answers.proofs.Puts.{puts-short, puts-values}

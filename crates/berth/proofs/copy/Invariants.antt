@@ -1,12 +1,9 @@
 -- `berth::copy` meets its promise: the first loop reads the bytes, the second writes them.
-use mathlib.Core.Path.{◌≡◌, refl, ◌∙◌}
+use mathlib.Core.Path.{◌≡◌}
 use mathlib.Core.List.{◌++◌}
 use Prim.Native.Nat.{◌-◌, ◌≤◌}
-use native.Mathlib.Omega.{arith}
-use lib.ListN.{length, take, drop, length-set}
-use borrow.Author.Rules.{rules}
+use lib.ListN.{length, take, drop}
 use Rattle.berth.specs.Berth.{berth_size}
-use Rattle.berth.proofs.Copying.{read_more, read-end, written-more, written-end}
 use Rattle.berth.proofs.copy.Given as goal
 
 abbrev pub invariant-loop-i : goal.invariant-loop-i

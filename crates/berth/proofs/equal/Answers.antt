@@ -1,6 +1,5 @@
 -- `berth::equal` meets its promise: by two pieces, or byte by byte.
 use Rattle.berth.proofs.Steps.{same-other}
-use borrow.Author.Rules.{rules}
 use Rattle.berth.proofs.equal.Goals as goal
 
 pub returns-then-a-b : goal.returns-then-a-b

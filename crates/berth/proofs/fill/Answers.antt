@@ -1,11 +1,5 @@
 -- `berth::fill` meets its promise: as many zeros as turns stand at the front, and the turns reach the end.
-use mathlib.Core.Path.{◌≡◌, ap, ◌∙◌}
-use mathlib.Core.List.{◌++◌}
-use Prim.Native.Nat.{◌≤◌, ◌-◌}
 use native.Mathlib.Omega.{arith}
-use lib.ListN.{length, drop, set, replicate}
-use borrow.Author.Rules.{rules}
-use borrow.Author.Fill.{fill_more}
 use Rattle.berth.proofs.Steps.{filled}
 use Rattle.berth.proofs.fill.Goals as goal
 

@@ -1,5 +1,4 @@
 -- `berth::is_berth` meets its promise: it is the definition's test.
-use borrow.Author.Rules.{rules}
 use Rattle.berth.specs.Calls.{is_berth}
 use Rattle.berth.proofs.is_berth.Goals as goal
 

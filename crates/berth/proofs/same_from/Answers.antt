@@ -1,13 +1,7 @@
 -- `berth::same_from` meets its promise: the answer is yes exactly while every byte passed is the same.
 use borrow.Author.Rules.{rules}
-use native.Mathlib.Omega.{arith}
-use mathlib.Core.Path.{◌≡◌, sym}
-use Prim.Native.Nat.{◌+◌, ◌-◌, ◌≤◌}
-use lib.Dec.{eqb}
-use Rattle.base.specs.Bytes.{byte}
-use Rattle.base.specs.Below.{every}
+use mathlib.Core.Path.{sym}
 use Rattle.base.proofs.Below.{every-none, every-next}
-use Rattle.berth.proofs.Pieces.{piece-end}
 use Rattle.berth.proofs.same_from.Goals as goal
 
 pub loop-i-init : goal.loop-i-init

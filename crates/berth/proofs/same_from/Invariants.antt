@@ -1,13 +1,9 @@
 -- `berth::same_from` meets its promise: the answer is yes exactly while every byte passed is the same.
-use borrow.Author.Rules.{rules}
-use native.Mathlib.Omega.{arith}
-use mathlib.Core.Path.{◌≡◌, sym}
+use mathlib.Core.Path.{◌≡◌}
 use Prim.Native.Nat.{◌+◌, ◌-◌, ◌≤◌}
 use lib.Dec.{eqb}
 use Rattle.base.specs.Bytes.{byte}
 use Rattle.base.specs.Below.{every}
-use Rattle.base.proofs.Below.{every-none, every-next}
-use Rattle.berth.proofs.Pieces.{piece-end}
 use Rattle.berth.proofs.same_from.Given as goal
 
 abbrev pub invariant-loop-i : goal.invariant-loop-i

@@ -1,6 +1,5 @@
 -- `berth::view` meets its promise.
 use Rattle.berth.proofs.Steps.{viewed}
-use borrow.Author.Rules.{rules}
 use Rattle.berth.proofs.view.Goals as goal
 
 pub returns : goal.returns

@@ -1,7 +1,6 @@
 -- `berth::wipe` meets its promise.
 use mathlib.Core.Path.{sym, ◌∙◌}
 use native.Mathlib.Omega.{arith}
-use borrow.Author.Rules.{rules}
 use Rattle.base.proofs.Tests.{told}
 use Rattle.berth.proofs.Steps.{has-berth, wiped-done, wiped-nowhere}
 use Rattle.berth.proofs.wipe.Goals as goal

@@ -1,14 +1,9 @@
 -- `berth::wipe_each` meets its promise: after each turn the berths passed are wiped where they were picked.
-use mathlib.Core.Path.{◌≡◌, ap, ◌∙◌}
-use mathlib.Core.Logic.{⊎_elim}
+use mathlib.Core.Path.{◌≡◌}
 use Prim.Native.Nat.{◌≤◌, ◌-◌}
-use native.Mathlib.Omega.{arith}
 use lib.ListN.{length}
-use borrow.Author.Rules.{rules}
-use borrow.Author.Tests.{eq-eqb, ne_eqb}
 use Rattle.base.specs.Bits.{bit}
 use Rattle.berth.specs.Berth.{sections, store_size, wiped_where}
-use Rattle.berth.proofs.Steps.{is-berth, wiped-none, wiped-one, wiped-skipped, wiped-end}
 use Rattle.berth.proofs.wipe_each.Given as goal
 
 abbrev pub invariant-loop-n : goal.invariant-loop-n

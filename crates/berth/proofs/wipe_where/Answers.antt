@@ -1,6 +1,5 @@
 -- `berth::wipe_where` meets its promise.
 use mathlib.Core.Path.{sym, ◌∙◌}
-use borrow.Author.Rules.{rules}
 use Rattle.base.proofs.Tests.{told}
 use Rattle.berth.proofs.Steps.{has-place, wiped-where, wiped-nothing, wiped-each}
 use Rattle.berth.proofs.wipe_where.Goals as goal
