@@ -7,7 +7,8 @@ use trial::top;
 
 /// A folder with one crate of this source and one round.
 fn folder(name: &str, source: &str, round: &str) -> PathBuf {
-    let folder = top("target/edits").join(name);
+    // The toolchain reads no source but that of the crates, so it lies outside of the tree.
+    let folder = std::env::temp_dir().join("khumsafil-edits").join(name);
     for part in ["crates/one/src", "crates/one/must-fail"] {
         fs::create_dir_all(folder.join(part)).expect("a folder");
     }
