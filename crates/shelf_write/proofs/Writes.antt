@@ -17,7 +17,6 @@ use borrow.Author.Tests.{eq-eqb, ne_eqb, le-ltb, lt-ltb}
 use Rattle.base.proofs.Cases.{same_or}
 use Rattle.shelf.specs.Record.{Place, free_place, empty_table, with_length, fresh, with_place}
 use Rattle.key.specs.declared.Key.{Key}
-use Rattle.key.specs.Key.{key_from}
 use Rattle.key.proofs.Keys.{Proper}
 use Rattle.base.specs.Bits.{bit}
 use Rattle.shelf.specs.Layout.{held_length, listed, lengths_in, key_at, table_in, taken_in, place_in, shelf_in}
