@@ -2,12 +2,8 @@
 use mathlib.Core.Path.{refl}
 use Rattle.clock_states.specs.States.{states_word}
 use Rattle.clock_record.specs.Words.{words_with, pairs}
-use Rattle.clock.proofs.Clock.fresh.Statement.{statement}
-use Rattle.clock.proofs.Clock.fresh.Tie as tie
+use Rattle.clock.proofs.Clock.fresh.Goals as goal
 
-returns : tie.Need-returns
+pub returns : goal.returns
 unfolding words_with pairs states_word
 returns c = refl
-
-pub fresh-spec : {M : Type 1} → statement M
-fresh-spec = tie.close (tie.spec returns)
