@@ -23,7 +23,7 @@ const BIT_24: u32 = 16777216;
 const BIT_26: u32 = 67108864;
 
 // An action on an application at a media time in milliseconds.
-#[derive(Drop)]
+#[derive(Clone, Copy)]
 pub struct Activation {
     pub application: u8,
     pub event: u16,
@@ -32,7 +32,7 @@ pub struct Activation {
 }
 
 // An activation that is held: it was applied, or it waits.
-#[derive(Drop)]
+#[derive(Clone, Copy)]
 pub struct Held {
     pub activation: Activation,
     pub applied: bool,

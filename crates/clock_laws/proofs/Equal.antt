@@ -32,7 +32,6 @@ use Rattle.clock_record.specs.Book.{Book, Same, fresh, spoiled}
 use Rattle.clock.specs.Record.{book_of, clock_of, offer_to, move_to}
 use Rattle.clock.specs.Offer.{faults, refused, applies, waits, offer_in}
 use Rattle.clock.specs.Move.{move_in}
-use Rattle.clock.specs.Move as Move
 use Rattle.clock.specs.Ask.{time_in, state_in}
 use Rattle.clock.proofs.Exits.{move-35, move-31, move-advances}
 use Rattle.clock_laws.specs.Distinct.{Distinct}

@@ -27,11 +27,13 @@ module _ {A : Type 0} where
 
   -- a member may stand in front
   to-front-of : (x : A) (l : List A) → Member x l → (r : List A) × Rearranged l (x ∷ r)
+  to-front-of x [] m = elim m [ ]
   to-front-of x (y ∷ l) (inl e) = (l, rw e (rearranged-refl (y ∷ l)))
   to-front-of x (y ∷ l) (inr m) = let w = to-front-of x l m in (y ∷ w.0, Rearranged.next (Rearranged.keep w.1) Rearranged.swap)
 
 member-held : (h : Held) (l : List Held) → Member h l → is_held h.activation l ≡ true
 unfolding any_of
+member-held h [] m = elim m [ ]
 member-held h (x ∷ l) (inl e) = rw (ap (λ (y : Held). alike h.activation y.activation) (sym e) ∙ alike_refl h.activation)
 member-held h (x ∷ l) (inr m) =
     let ih = member-held h l m in

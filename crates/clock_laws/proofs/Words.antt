@@ -13,7 +13,7 @@ use Rattle.base.proofs.Cases.{by, unlike}
 use Rattle.clock_rule.specs.Rule.{above}
 use Rattle.clock_activation.specs.declared.Activation.{Activation}
 use Rattle.clock_activation.specs.declared.Held.{Held}
-use Rattle.clock_activation.specs.Activation.{alike, past, nobody}
+use Rattle.clock_activation.specs.Activation.{alike, nobody}
 use Rattle.clock_activation.specs.Limits.{memory}
 use Rattle.clock_record.specs.Lists.{any_of}
 use Rattle.clock_record.specs.Held.{is_one, is_held, two_alike, wrong, spoiled_by}

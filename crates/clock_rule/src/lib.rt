@@ -9,7 +9,7 @@ ghost use Rattle.clock_rule.specs.Numbers.{row_of, column_of};
 // How many applications there are.
 pub const APPLICATIONS: usize = 8;
 
-#[derive(Drop)]
+#[derive(Clone, Copy)]
 pub enum State {
     Released,
     Ready,
@@ -17,7 +17,7 @@ pub enum State {
     Suspended,
 }
 
-#[derive(Drop)]
+#[derive(Clone, Copy)]
 pub enum Action {
     Prep,
     Exec,
@@ -26,7 +26,7 @@ pub enum Action {
 }
 
 // An application.
-#[derive(Drop)]
+#[derive(Clone, Copy)]
 pub struct App {
     pub state: State,
 }
