@@ -1,7 +1,7 @@
 // The text that the lister prints for a shelf file (document 01, "The lister"), as a function of the file's bytes.
 #![tactic(auto)]
 
-ghost use Rattle.std.specs.Prelude.{◌≡◌, [], ◌∷◌, ◌++◌, ◌+◌, ◌<◌, ◌≤◌, length};
+ghost use Rattle.std.specs.Prelude.{◌≡◌, [], ◌∷◌, ◌++◌, ◌+◌, ◌<◌, ◌≤◌, length, drop};
 ghost use Rattle.file_listing.specs.Words.{place as place_of, decimal, long_decimal, lines};
 ghost use Rattle.file_listing.specs.Growing.{room, empty, Grew};
 ghost use Rattle.file.specs.Scan.{found_at};
@@ -63,7 +63,7 @@ impl Text {
     {
         let mut bytes = self.bytes;
         let at = self.size;
-        bytes::copy(w, &mut bytes[at..]);
+        copy(w, &mut bytes[at..]);
         let size = at + w.len();
         Text { bytes, size }
     }
@@ -284,6 +284,14 @@ fn text_for(file: &[u8]) -> Text
     }
 }
 
+// Bytes at the front of a buffer that has room for them; those past them stay as they were.
+fn copy(from: &[u8], to: &mut [u8])
+    requires { length from.now ≤ length to.old }
+    ensures { to.new ≡ from.now ++ drop (length from.now) to.old }
+{
+    to[..from.len()].copy_from_slice(from);
+}
+
 // The listing of a file, at the front of the output; 15 where it does not fit.
 pub fn list_file(file: &[u8], out: &mut [u8]) -> Listed
     ensures { listing result out.new ≡ list_of file.now out.old }
@@ -294,7 +302,7 @@ pub fn list_file(file: &[u8], out: &mut [u8]) -> Listed
     if out.len() < size {
         return Listed::Refused(answers::OUTPUT_TOO_SMALL);
     }
-    bytes::copy(&bytes[..size], out);
+    copy(&bytes[..size], out);
     Listed::Bytes(size)
 }
 

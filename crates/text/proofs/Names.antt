@@ -1,17 +1,16 @@
 -- How a word and a name are written byte by byte.
 --   word-step, word_end, name-step, name-end     what is left of them after one byte more, and after the last
 --   as-it-is, in-digits                          a byte of a name
-use mathlib.Core.Path.{◌≡◌, sym, ap}
+use mathlib.Core.Path.{◌≡◌}
 use mathlib.Core.Bool.{true, false}
-use mathlib.Core.List.{List, [], ◌∷◌, ◌++◌}
-use Prim.Native.Nat.{ℕ, suc, ◌+◌, ◌/◌, ◌%◌, ◌<◌, ◌≤◌}
+use mathlib.Core.List.{List, [], ◌∷◌}
+use Prim.Native.Nat.{ℕ, ◌+◌, ◌/◌, ◌%◌, ◌<◌, ◌≤◌}
 use native.Mathlib.Numerals.{add-one}
-use native.Mathlib.Omega.{arith}
 use lib.ListN.{length, get_or, drop, drop_of_length-le}
 use lib.Seq.{drop-cons}
 use Rattle.text.specs.Words.{hex_digit, plain, shown, escaped}
 use Rattle.text.specs.Over.{Wrote}
-use Rattle.text.proofs.Writing.{Left, step, none_left, then}
+use Rattle.text.proofs.Writing.{Left, step, none_left}
 
 module _ {whole out now : List ℕ} {at here : ℕ} (w : List ℕ) (i : ℕ) where
   pub word-step : {now' : List ℕ} {here' : ℕ} → i < length w → Left whole out at (drop i w) now here → Wrote (get_or w i 0 ∷ []) now here now' here'

@@ -4,7 +4,7 @@
 --   decimal-one               a number below 10 is written in one
 --   escaped-short             a name has at most four bytes for each of its own
 use mathlib.Core.Path.{◌≡◌}
-use mathlib.Core.List.{List, [], ◌∷◌, ◌++◌}
+use mathlib.Core.List.{List, [], ◌∷◌}
 use Prim.Native.Nat.{ℕ, zero, suc, ◌+◌, ◌*◌, ◌^◌, ◌<◌, ◌≤◌}
 use native.Mathlib.Nat.{pow-le-pow_right, suc-add, zero-add, lt_of_lt_of_le}
 use native.Mathlib.Omega.{arith}

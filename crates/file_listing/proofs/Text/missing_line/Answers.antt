@@ -1,0 +1,8 @@
+-- `Text::missing_line` meets its promise.
+use Rattle.file_listing.specs.Listing.{missing_line}
+use Rattle.file_listing.proofs.Growing.{then}
+use Rattle.file_listing.proofs.Text.missing_line.Goals as goal
+
+pub returns : goal.returns
+unfolding missing_line
+returns c = then c.field-missing.ensures c.byte.ensures

@@ -1,0 +1,8 @@
+-- `Text::refused_line` meets its promise.
+use Rattle.file_listing.specs.Listing.{refused_line}
+use Rattle.file_listing.proofs.Growing.{then}
+use Rattle.file_listing.proofs.Text.refused_line.Goals as goal
+
+pub returns : goal.returns
+unfolding refused_line
+returns c = then (rw c.half.ensures.0 at c.field-refused.ensures) c.byte.ensures

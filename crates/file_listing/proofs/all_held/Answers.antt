@@ -1,0 +1,11 @@
+-- `file_listing::all_held` meets its promise: the loop keeps whether every number below is held.
+use mathlib.Core.Path.{sym}
+use native.Mathlib.Omega.{arith}
+use Rattle.base.proofs.Below.{every-none, every-next}
+use Rattle.file_listing.proofs.all_held.Goals as goal
+
+pub loop-number-init : goal.loop-number-init
+loop-number-init c = (omega arith, sym (every-none _))
+
+pub loop-number-preserved : goal.loop-number-preserved
+loop-number-preserved c = (omega arith, rw c.loop-number.invariant.1 (sym (every-next _ _)))
