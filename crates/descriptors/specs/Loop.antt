@@ -4,7 +4,6 @@ use Rattle.base.specs.Choice.{if◌then◌else◌}
 use Rattle.base.specs.Bytes.{byte, part}
 use Rattle.descriptors.specs.declared.Descriptor.{Descriptor}
 use Rattle.descriptors.specs.declared.Step.{Step}
-use Rattle.descriptors.specs.declared.Step.TheVariants
 
 -- the place is beyond the loop's end
 abbrev pub beyond : List ℕ → ℕ → Bool
