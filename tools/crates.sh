@@ -2,7 +2,7 @@
 
 # What stands after a crate's name in its line.
 deps_of() { # NAME
-    sed -n -e 's/#.*//' -e "s/^[[:space:]]*$1[[:space:]]*://p" crates.txt
+    sed -n -e "s/#.*//" -e "s/^[[:space:]]*$1\([[:space:]][^:]*\)*[[:space:]]*://p" crates.txt
 }
 
 # The crates of this tree that a crate needs, each after those that it needs, the crate itself last.
@@ -15,9 +15,22 @@ needed() { # NAME
             for (i = 1; i <= n; i++) visit(part[i])
             print name
         }
-        { sub(/#.*/, ""); i = index($0, ":"); name = substr($0, 1, i - 1); gsub(/[ \t]/, "", name) }
+        { sub(/#.*/, ""); i = index($0, ":"); name = substr($0, 1, i - 1); sub(/^[ \t]+/, "", name); sub(/[ \t].*/, "", name) }
         i { deps[name] = substr($0, i + 1) }
         END { visit(last) }' crates.txt
+}
+
+# What makes a crate: the boundary's archive is made of its exports.
+maker_of() { # NAME
+    case $1 in khumsafil) echo khumsafil_c ;; *) echo "$1" ;; esac
+}
+
+# The folders that a crate and what it needs are made from.
+sources_of() { # NAME
+    local name part
+    for name in $(needed "$1"); do
+        for part in src specs proofs; do [ ! -d "crates/$name/$part" ] || echo "crates/$name/$part"; done
+    done
 }
 
 # Builds a crate anew where it is not built, or where its source changed since by the times of the files. Where the environment
@@ -27,8 +40,8 @@ have() { # NAME FILE
     built=${KHUMSAFIL_NATIVE:-}/$2
     [ -z "${KHUMSAFIL_NATIVE:-}" ] || [ ! -f "$built" ] || return 0
     built=$PWD/target/native/$2
-    if [ -f "$built" ] && [ -f "$stamp" ] && [ -z "$(find crates.txt tools/build tools/crates.sh $(needed "$1" | sed 's|^|crates/|') \
-        -name must-fail -prune -o -newer "$stamp" -print -quit)" ]; then
+    if [ -f "$built" ] && [ -f "$stamp" ] && [ -z "$(find crates.txt tools/build tools/crates.sh $(sources_of "$(maker_of "$1")") \
+        -newer "$stamp" -print -quit)" ]; then
         return
     fi
     tools/build "$1" >&2

@@ -1,6 +1,6 @@
 -- What a call over numbers that a host lends leaves; its answer is a number whose low 8 bits are the refusal.
-use Rattle.std.specs.Prelude.{ℕ, ◌*◌, ◌/◌, ◌%◌, ◌^◌, ◌≡◌, List, [], ◌∷◌, ◌++◌, not, ◌↔◌, ltb, eqb, length, drop}
-use Rattle.base.specs.Choice.{if◌then◌else◌, ◌if◌, first}
+use Rattle.std.specs.Prelude.{ℕ, ◌*◌, ◌/◌, ◌%◌, ◌^◌, ◌≡◌, List, [], ◌∷◌, ◌++◌, not, ◌↔◌, ltb, eqb, length, drop, if◌then◌else◌}
+use Rattle.base.specs.Choice.{◌if◌, first}
 
 -- what a call that may change a shelf leaves: the answer, the record's numbers, the store
 pub record Lent : Type 0 where

@@ -1,11 +1,11 @@
 -- How a definition chooses: by a test, or by a table of refusals that is read from the top, its rows in document 01's order.
-use Rattle.std.specs.Prelude.{ℕ, List, [], ◌∷◌, Bool, true, false}
+use Rattle.std.specs.Prelude.{ℕ, List, [], ◌∷◌, Bool, true, false, if◌then◌else◌}
 
-infixr 5 if◌then◌else◌
--- the first answer where the test holds, else the second
-abbrev pub if◌then◌else◌ {ℓ} : {A : Type ℓ} → Bool → A → A → A
-if◌then◌else◌ true a b = a
-if◌then◌else◌ false a b = b
+infixr 5 If◌then◌else◌
+-- the first where the test holds, else the second: of statements, and of what holds them; of values it is the library's own if
+abbrev pub If◌then◌else◌ {ℓ} : {A : Type ℓ} → Bool → A → A → A
+If◌then◌else◌ true a b = a
+If◌then◌else◌ false a b = b
 
 -- a row of a table of refusals: the number, and when it is given
 pub record Row : Type 0 where

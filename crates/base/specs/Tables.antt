@@ -1,6 +1,6 @@
 -- A table of refusals in words. Its rows stand in the order of document 01; the tests of the same rows are a table of `Choice`.
 use Rattle.std.specs.Prelude.{ℕ, List, [], ◌∷◌, Bool, true, false, not, ◌&&◌, ◌||◌, ◌↔◌, ◌≡◌, eqb}
-use Rattle.base.specs.Choice.{Row, if◌then◌else◌}
+use Rattle.base.specs.Choice.{Row, If◌then◌else◌}
 
 -- a row: the number, and what is so when it is given
 pub record Rule : Type 1 where
@@ -19,12 +19,12 @@ None (w ∷ ws) = ¬ w.holds × None ws
 -- the rows above the one of that number; all, where none has it
 abbrev pub above : ℕ → List Rule → List Rule
 above n [] = []
-above n (w ∷ ws) = if eqb w.no n then [] else (w ∷ above n ws)
+above n (w ∷ ws) = If eqb w.no n then [] else (w ∷ above n ws)
 
 -- what the row of that number says; nothing is so of a number that no row has
 abbrev pub said : ℕ → List Rule → Type 0
 said n [] = ⊥
-said n (w ∷ ws) = if eqb w.no n then w.holds else said n ws
+said n (w ∷ ws) = If eqb w.no n then w.holds else said n ws
 
 -- a row has that number
 abbrev pub numbered : ℕ → List Row → Bool

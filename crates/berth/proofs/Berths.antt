@@ -10,6 +10,7 @@
 --   where-length, where-picked, where-spared, where-outside, where-same       after those berths that a test picks are zeroed
 -- `Elsewhere p n q m`: berth m of place q is another than berth n of place p. `Outside size p n at`: the byte at a place is none of that
 -- berth's. `Spared picks k p q m`: berth m of place q is none of those that are picked among the first k of place p.
+use Rattle.std.specs.Prelude.{if◌then◌else◌}
 use mathlib.Core.Path.{◌≡◌, refl, sym, ap, subst, ◌∙◌}
 use mathlib.Core.Bool.{Bool, true}
 use mathlib.Core.List.{List}
@@ -21,7 +22,6 @@ use lib.ListN.{length, take, drop, length-drop}
 use lib.Dec.{ltb}
 use lib.Seq.{length-take-le, take-take, take_all, take_at, drop_at, get_or-take, get_or-drop}
 use borrow.Author.Tests.{ltb-true, ltb-false}
-use Rattle.base.specs.Choice.{if◌then◌else◌}
 use Rattle.base.specs.Bytes.{byte, part, zeros}
 use Rattle.base.proofs.Cases.{by, unlike}
 use Rattle.berth.specs.Berth.{berth_size, sections, places, store_size, begins_at, laid, padded, put, wiped, wiped_where, standing}

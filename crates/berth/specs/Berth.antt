@@ -1,6 +1,5 @@
 -- Document 01, "The shelf": the store as berths. Where a berth begins and how it is filled is said over its size.
-use Rattle.std.specs.Prelude.{ℕ, zero, suc, ◌+◌, ◌-◌, ◌*◌, List, ◌++◌, Bool, length, take, drop}
-use Rattle.base.specs.Choice.{if◌then◌else◌}
+use Rattle.std.specs.Prelude.{ℕ, zero, suc, ◌+◌, ◌-◌, ◌*◌, List, ◌++◌, Bool, length, take, drop, if◌then◌else◌}
 use Rattle.base.specs.Bytes.{part, zeros}
 use Rattle.section.specs.Section.{largest_section, most_sections}
 

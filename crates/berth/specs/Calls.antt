@@ -1,6 +1,5 @@
 -- What this layer's calls do, on any store and any numbers: a call that names no berth of a whole store changes nothing.
-use Rattle.std.specs.Prelude.{ℕ, List, ◌++◌, Bool, ◌&&◌, ltb, leb, eqb, length, drop}
-use Rattle.base.specs.Choice.{if◌then◌else◌}
+use Rattle.std.specs.Prelude.{ℕ, List, ◌++◌, Bool, ◌&&◌, ltb, leb, eqb, length, drop, if◌then◌else◌}
 use Rattle.base.specs.Bytes.{same}
 use Rattle.berth.specs.Berth.{berth_size, places, sections, store_size, put, wiped, wiped_where, standing}
 

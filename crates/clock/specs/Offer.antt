@@ -1,6 +1,6 @@
 -- An activation is offered.
-use Rattle.std.specs.Prelude.{ℕ, Bool, true, false, List, [], ◌∷◌, ◌++◌, leb}
-use Rattle.base.specs.Choice.{if◌then◌else◌, Row, first}
+use Rattle.std.specs.Prelude.{ℕ, Bool, true, false, List, [], ◌∷◌, ◌++◌, leb, if◌then◌else◌}
+use Rattle.base.specs.Choice.{Row, first}
 use Rattle.clock_rule.specs.Rule.{applied}
 use Rattle.clock_activation.specs.declared.Activation.{Activation}
 use Rattle.clock_activation.specs.declared.Held.{Held}

@@ -1,6 +1,5 @@
 -- Two activations: when they are one, and which of them a move applies first.
-use Rattle.std.specs.Prelude.{ℕ, ◌-◌, Bool, true, false, ◌&&◌, ltb, eqb}
-use Rattle.base.specs.Choice.{if◌then◌else◌}
+use Rattle.std.specs.Prelude.{ℕ, ◌-◌, Bool, true, false, ◌&&◌, ltb, eqb, if◌then◌else◌}
 use Rattle.clock_rule.specs.declared.Action.{Action}
 use Rattle.clock_activation.specs.declared.Activation.{Activation}
 use Rattle.clock_activation.specs.declared.Held.{Held}
@@ -14,10 +13,10 @@ alike a b = (eqb a.application b.application && eqb a.event b.event) && eqb a.ti
 unfoldable pub before : Activation → Activation → Bool
 before a b =
     if ltb a.time b.time then true
-    else if ltb b.time a.time then false
-    else if ltb a.application b.application then true
-    else if ltb b.application a.application then false
-    else ltb a.event b.event
+    else (if ltb b.time a.time then false
+    else (if ltb a.application b.application then true
+    else (if ltb b.application a.application then false
+    else ltb a.event b.event)))
 
 -- a time more than 60,000 before the clock
 unfoldable pub past : ℕ → ℕ → Bool

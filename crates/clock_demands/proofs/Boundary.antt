@@ -1,6 +1,7 @@
 -- Laws of the exported functions.
 --   answered-code                                                     an answer is the number for the layer's answer
 --   fresh-laws, offer-laws, move-laws, time-laws, state-laws
+use Rattle.std.specs.Prelude.{if◌then◌else◌}
 use mathlib.Core.Path.{◌≡◌, refl, sym, ap, subst, ◌∙◌}
 use mathlib.Core.Bool.{true, false}
 use mathlib.Core.List.{List}
@@ -9,7 +10,7 @@ use native.Mathlib.Omega.{arith}
 use lib.Dec.{ltb, leb, eqb}
 use lib.ListN.{length}
 use borrow.Author.Tests.{lt-ltb, eq-eqb, ne_eqb, le-ltb, ltb-false, eqb-true, eqb-false, leb-true, leb-false, lt-leb}
-use Rattle.base.specs.Choice.{if◌then◌else◌, ◌if◌}
+use Rattle.base.specs.Choice.{◌if◌}
 use Rattle.base.proofs.Cases.{by}
 use Rattle.clock_rule.specs.declared.State.{State}
 use Rattle.clock_rule.specs.Rule.{state_of}

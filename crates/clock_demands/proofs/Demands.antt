@@ -1,5 +1,6 @@
 -- What is demanded of the clock, of the exported functions' own promises.
 --   demands   `ClockDemands`: the history, kept, never_35, accepted_33, time_told, move_told, state_told and offer-told
+use Rattle.std.specs.Prelude.{if◌then◌else◌}
 use mathlib.Core.Path.{◌≡◌, sym, ap, subst, ◌∙◌}
 use mathlib.Core.Bool.{false}
 use mathlib.Core.List.{List}
@@ -8,7 +9,6 @@ use native.Mathlib.Omega.{arith}
 use lib.Dec.{ltb, leb}
 use lib.ListN.{length, length-map}
 use borrow.Author.Tests.{eq-eqb, le-ltb, ltb-true, ltb-false}
-use Rattle.base.specs.Choice.{if◌then◌else◌}
 use Rattle.base.proofs.Cases.{by, unlike}
 use Rattle.clock_rule.specs.declared.App.{App}
 use Rattle.clock_rule.specs.Rule.{above, state_of}

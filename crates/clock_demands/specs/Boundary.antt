@@ -1,7 +1,6 @@
 -- Laws of the exported functions: a refused call leaves the words as they were, the low 8 bits of an answer are 0 exactly when the
 -- call is accepted, and each value comes back out of the answer.
-use Rattle.std.specs.Prelude.{ℕ, ◌/◌, ◌^◌, ◌<◌, ◌≤◌, ◌≡◌, ◌↔◌, List, leb, length}
-use Rattle.base.specs.Choice.{if◌then◌else◌}
+use Rattle.std.specs.Prelude.{ℕ, ◌/◌, ◌^◌, ◌<◌, ◌≤◌, ◌≡◌, ◌↔◌, List, leb, length, if◌then◌else◌}
 use Rattle.clock_rule.specs.Rule.{state_of}
 use Rattle.clock_rule.specs.Numbers.{column_of}
 use Rattle.clock_record.specs.Waiting.{due_of}

@@ -1,6 +1,6 @@
 -- What is demanded of the clock over any history of the host's calls, from 67 words that were made fresh.
-use Rattle.std.specs.Prelude.{ℕ, ◌+◌, ◌≤◌, ◌≡◌, List, [], ◌∷◌, ltb, leb, length}
-use Rattle.base.specs.Choice.{if◌then◌else◌, ◌if◌, first}
+use Rattle.std.specs.Prelude.{ℕ, ◌+◌, ◌≤◌, ◌≡◌, List, [], ◌∷◌, ltb, leb, length, if◌then◌else◌}
+use Rattle.base.specs.Choice.{◌if◌, first}
 use Rattle.clock_rule.specs.Rule.{above, state_of}
 use Rattle.clock_activation.specs.declared.Activation.{Activation}
 use Rattle.clock_activation.specs.Activation.{alike, past}

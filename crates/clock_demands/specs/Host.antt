@@ -1,7 +1,6 @@
 -- A history of the host's calls on a clock that it lends in words, each call lent the words that the last one left, and the host's
 -- own account of it, kept from the calls and the numbers that they answer.
-use Rattle.std.specs.Prelude.{ℕ, ◌*◌, ◌/◌, ◌^◌, ◌<◌, List, [], ◌∷◌, ◌++◌, ltb, eqb}
-use Rattle.base.specs.Choice.{if◌then◌else◌}
+use Rattle.std.specs.Prelude.{ℕ, ◌*◌, ◌/◌, ◌^◌, ◌<◌, List, [], ◌∷◌, ◌++◌, ltb, eqb, if◌then◌else◌}
 use Rattle.clock_record.specs.Book.{Book}
 use Rattle.clock.specs.declared.Heard.{Heard}
 use Rattle.clock.specs.declared.Moved.{Moved}
@@ -84,8 +83,8 @@ codes_by b (x ∷ h) = code_in b x ∷ codes_by (book_after b x) h
 abbrev pub noted : Account → HostCall → ℕ → Account
 noted k (HostCall.offer application event action time) n =
     if eqb n (1 * 2 ^ 8) then heard k (activation application event action time) Heard.Applied
-    else if eqb n (2 * 2 ^ 8) then heard k (activation application event action time) Heard.Waiting
-    else k
+    else (if eqb n (2 * 2 ^ 8) then heard k (activation application event action time) Heard.Waiting
+    else k)
 noted k (HostCall.move to) n = if eqb (refusal_of n) 0 then passed k to (Moved.Applied (n / 2 ^ 8)) else k
 noted k HostCall.ask_time n = k
 noted k (HostCall.ask_state m) n = k

@@ -3,6 +3,7 @@
 --   pairs-length                                   how many words places have
 --   place-put                                      the words of the place behind those that are held
 --   hold-full, hold-words                          one more is held, where there is room
+use Rattle.std.specs.Prelude.{if◌then◌else◌}
 use mathlib.Core.Path.{◌≡◌, refl, sym, ap, ◌∙◌}
 use mathlib.Core.Bool.{Bool, true, false}
 use mathlib.Core.List.{List, [], ◌∷◌, ◌++◌, append_assoc, append-nil}
@@ -13,7 +14,6 @@ use lib.Dec.{ltb}
 use lib.ListN.{length, take, get_or, set, length-take, length-set, length-append, get_or-eq_default}
 use lib.Seq.{take-suc-set, take_all, get_or-take, length-take-le}
 use borrow.Author.Tests.{ltb-true, ltb-false, le-leb, lt-leb}
-use Rattle.base.specs.Choice.{if◌then◌else◌}
 use Rattle.base.proofs.Cases.{by}
 use Rattle.clock_activation.specs.declared.Held.{Held}
 use Rattle.clock_activation.specs.Activation.{nobody}

@@ -1,6 +1,5 @@
 -- The words of a record with one more held behind the others. Where 32 are held they stay as they were.
-use Rattle.std.specs.Prelude.{ℕ, List, [], ◌∷◌, ◌++◌, leb}
-use Rattle.base.specs.Choice.{if◌then◌else◌}
+use Rattle.std.specs.Prelude.{ℕ, List, [], ◌∷◌, ◌++◌, leb, if◌then◌else◌}
 use Rattle.clock_activation.specs.declared.Held.{Held}
 use Rattle.clock_activation.specs.Limits.{most_held}
 use Rattle.clock_record.specs.Words.{word_at, book_in, words_with}

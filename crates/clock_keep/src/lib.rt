@@ -2,8 +2,7 @@
 
 #![tactic(auto)]
 
-ghost use Rattle.std.specs.Prelude.{◌≡◌};
-ghost use Rattle.base.specs.Choice.{if◌then◌else◌};
+ghost use Rattle.std.specs.Prelude.{◌≡◌, if◌then◌else◌};
 ghost use Rattle.clock_record.specs.Words.{book_in, words_with};
 ghost use Rattle.clock_keep.specs.Keep.{moved, forgotten, kept_of};
 ghost use Rattle.clock_keep.specs.Hold.{holding};

@@ -2,12 +2,12 @@
 --   heard-lossless, moved-lossless, time-lossless, state-lossless     two answers with one number are one answer
 --   values                                                            each value comes back out
 --   heard-fits, moved-fits, time-fits, state-fits                     a refusal is a number of the table
+use Rattle.std.specs.Prelude.{if◌then◌else◌}
 use mathlib.Core.Path.{◌≡◌, refl, ap}
 use mathlib.Core.List.{[], ◌∷◌}
 use Prim.Native.Nat.{ℕ, ◌%◌, ◌^◌, ◌<◌}
 use native.Mathlib.Omega.{arith}
 use lib.Dec.{leb}
-use Rattle.base.specs.Choice.{if◌then◌else◌}
 use Rattle.base.proofs.Cases.{either}
 use Rattle.base.proofs.Tables.{among}
 use Rattle.clock_rule.specs.declared.State.{State}

@@ -2,13 +2,14 @@
 --   same_refl, same-sym, same-trans                      it is an equality
 --   same-offer, same_move, same-time, same-state         equal records are answered alike, and what follows is equal
 --   one-offer, one-move, one-fresh, one_time, one_state  two answers that satisfy one promise are equal
+use Rattle.std.specs.Prelude.{if◌then◌else◌}
 use mathlib.Core.Path.{◌≡◌, refl, sym, ap, subst, ◌∙◌}
 use mathlib.Core.Bool.{Bool, true, false, not, ◌||◌}
 use mathlib.Core.List.{List, [], ◌∷◌}
 use Prim.Native.Nat.{ℕ}
 use lib.Dec.{ltb, leb}
 use borrow.Author.Tests.{ltb-true, ltb-false}
-use Rattle.base.specs.Choice.{if◌then◌else◌, first, Row}
+use Rattle.base.specs.Choice.{first, Row}
 use Rattle.base.proofs.Cases.{by, or_left, or_right}
 use Rattle.clock_rule.specs.declared.App.{App}
 use Rattle.clock_rule.specs.Rule.{applied}

@@ -1,6 +1,5 @@
 -- The activations that a clock holds, as a list.
-use Rattle.std.specs.Prelude.{ℕ, Bool, true, false, ◌||◌, not, List, [], ◌∷◌, ltb, leb}
-use Rattle.base.specs.Choice.{if◌then◌else◌}
+use Rattle.std.specs.Prelude.{ℕ, Bool, true, false, ◌||◌, not, List, [], ◌∷◌, ltb, leb, if◌then◌else◌}
 use Rattle.clock_activation.specs.declared.Activation.{Activation}
 use Rattle.clock_activation.specs.declared.Held.{Held}
 use Rattle.clock_activation.specs.Activation.{alike, past}
@@ -24,9 +23,9 @@ two_alike (h ∷ hs) = is_held h.activation hs || two_alike hs
 unfoldable pub wrong : ℕ → Held → Bool
 wrong now h =
     if above h.activation.application then true
-    else if not h.applied then leb h.activation.time now
-    else if ltb now h.activation.time then true
-    else past now h.activation.time
+    else (if not h.applied then leb h.activation.time now
+    else (if ltb now h.activation.time then true
+    else past now h.activation.time))
 
 -- 35: a record at that time which claims over 32, or which holds a wrong one or two alike
 unfoldable pub spoiled_by : Bool → ℕ → List Held → Bool

@@ -1,6 +1,5 @@
 -- Lists: tests over them, and when two differ in their order alone.
-use Rattle.std.specs.Prelude.{Bool, false, ◌||◌, List, [], ◌∷◌}
-use Rattle.base.specs.Choice.{if◌then◌else◌}
+use Rattle.std.specs.Prelude.{Bool, false, ◌||◌, List, [], ◌∷◌, if◌then◌else◌}
 
 module _ {A : Type 0} where
   -- one of the list passes

@@ -1,6 +1,5 @@
 -- Those of the held that wait.
-use Rattle.std.specs.Prelude.{ℕ, Bool, List, [], ◌∷◌, leb}
-use Rattle.base.specs.Choice.{if◌then◌else◌}
+use Rattle.std.specs.Prelude.{ℕ, Bool, List, [], ◌∷◌, leb, if◌then◌else◌}
 use Rattle.clock_activation.specs.declared.Activation.{Activation}
 use Rattle.clock_activation.specs.declared.Held.{Held}
 use Rattle.clock_record.specs.Lists.{only_of}

@@ -1,6 +1,5 @@
 -- The states of the applications in a word: application i has w / 4 ^ i % 4.
-use Rattle.std.specs.Prelude.{ℕ, ◌+◌, ◌*◌, ◌/◌, ◌%◌, ◌^◌, List, eqb}
-use Rattle.base.specs.Choice.{if◌then◌else◌}
+use Rattle.std.specs.Prelude.{ℕ, ◌+◌, ◌*◌, ◌/◌, ◌%◌, ◌^◌, List, eqb, if◌then◌else◌}
 use Rattle.clock_rule.specs.declared.App.{App}
 use Rattle.clock_rule.specs.declared.State.{State}
 use Rattle.clock_rule.specs.Rule.{state_of, applications}
@@ -9,7 +8,7 @@ use Rattle.clock_states.specs.UpTo.{up_to}
 
 -- states have their numbers in document 01's order
 abbrev pub state_no : ℕ → State
-state_no n = if eqb n 0 then State.Released else if eqb n 1 then State.Ready else if eqb n 2 then State.Active else State.Suspended
+state_no n = if eqb n 0 then State.Released else (if eqb n 1 then State.Ready else (if eqb n 2 then State.Active else State.Suspended))
 
 -- the applications that a word is
 abbrev pub app_at : ℕ → ℕ → App

@@ -1,12 +1,12 @@
 -- The buyer's third condition, proved of the functions that a host calls: the layer's laws, told of lent numbers.
 --   held-exactly, complete-exactly, lamp-exactly, more-reception, asked-exactly, released-exactly, never-17-18, handed_out
+use Rattle.std.specs.Prelude.{if◌then◌else◌}
 use mathlib.Core.Path.{◌≡◌, refl, sym, ap, subst, ◌∙◌}
 use mathlib.Core.Bool.{Bool, true, false}
 use mathlib.Core.Logic.{◌↔◌}
 use mathlib.Core.List.{List, [], ◌∷◌}
 use Prim.Native.Nat.{ℕ, ◌≤◌}
 use native.Mathlib.Omega.{arith}
-use Rattle.base.specs.Choice.{if◌then◌else◌}
 use Rattle.section.specs.Section.{section_number}
 use Rattle.key.specs.declared.Key.{Key}
 use Rattle.shelf_offer.specs.declared.Offered.{Offered}

@@ -13,8 +13,7 @@
 -- A `History` is any list of calls, refused ones too, after a beginning on whatever was lent, each call lent what the last one left
 -- (shelf_histories, specs/History). `log_after` is the log that its numbers tell; `held_by`, `since` and `last_since` (shelf_laws,
 -- specs/Log) read that log alone, and never the record. `Undisturbed` and `SectionOf` are in shelf_laws, specs/Reception.
-use Rattle.std.specs.Prelude.{ℕ, ◌≤◌, ◌≡◌, Bool, true, ◌↔◌, List, length}
-use Rattle.base.specs.Choice.{if◌then◌else◌}
+use Rattle.std.specs.Prelude.{ℕ, ◌≤◌, ◌≡◌, Bool, true, ◌↔◌, List, length, if◌then◌else◌}
 use Rattle.base.specs.Octets.{Octets}
 use Rattle.section.specs.Section.{section_number}
 use Rattle.answers.specs.Answers.{refusal_in, filled}

@@ -1,6 +1,5 @@
 -- Document 01, "Descriptors": a loop is a run of tag 8, length 8, then that many bytes, to the end of the lent part.
-use Rattle.std.specs.Prelude.{ℕ, ◌+◌, List, [], Bool, ◌||◌, length, ltb, eqb}
-use Rattle.base.specs.Choice.{if◌then◌else◌}
+use Rattle.std.specs.Prelude.{ℕ, ◌+◌, List, [], Bool, ◌||◌, length, ltb, eqb, if◌then◌else◌}
 use Rattle.base.specs.Bytes.{byte, part}
 use Rattle.descriptors.specs.declared.Descriptor.{Descriptor}
 use Rattle.descriptors.specs.declared.Step.{Step}
@@ -21,8 +20,8 @@ descriptor_at s at = record { tag = byte s at; start = at + 2; length = byte s (
 unfoldable pub step_of : List ℕ → ℕ → Step
 step_of s at =
     if eqb at (length s) then Step.Over
-    else if beyond s at || runs_past s at then Step.Refused 19
-    else Step.Descriptor (descriptor_at s at)
+    else (if beyond s at || runs_past s at then Step.Refused 19
+    else Step.Descriptor (descriptor_at s at))
 
 -- the bytes of an answer's content: none where there is no descriptor
 abbrev pub content_of : List ℕ → Step → List ℕ

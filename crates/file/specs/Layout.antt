@@ -1,7 +1,6 @@
 -- Document 01, "The shelf file": the layout. "The file: form number 1; count of sections; then, by rising section number, each
 -- section's byte length and its bytes. All sections share key, version and last number. Largest file: 16,418 bytes."
-use Rattle.std.specs.Prelude.{ℕ, zero, suc, ◌+◌, ◌*◌, ◌≤◌, ◌≡◌, Bool, true, ◌&&◌, List, [], ◌∷◌, ◌++◌, eqb, length}
-use Rattle.base.specs.Choice.{if◌then◌else◌}
+use Rattle.std.specs.Prelude.{ℕ, zero, suc, ◌+◌, ◌*◌, ◌≤◌, ◌≡◌, Bool, true, ◌&&◌, List, [], ◌∷◌, ◌++◌, eqb, length, if◌then◌else◌}
 use Rattle.key.specs.Key.{same_key}
 use Rattle.section.specs.Section.{read_of, header_of, header_size, largest_section, most_sections}
 use Rattle.section.specs.declared.Header.{Header}

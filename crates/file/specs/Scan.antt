@@ -1,8 +1,8 @@
 -- Document 01, "The shelf file": reading. "Loading reads left to right and the first fault from the left gives the answer. A fault
 -- inside a section gives that section's own number, 2 to 8. At each section the order is 11, its length and running past the file
 -- (12), its own number, then key, version, last and rising number (12)." Document 02, request 4: 46 is a section's own number as well.
-use Rattle.std.specs.Prelude.{ℕ, zero, suc, ◌+◌, List, [], ◌∷◌, Bool, true, false, not, ◌||◌, ltb, eqb, length, get_or, set, replicate}
-use Rattle.base.specs.Choice.{if◌then◌else◌, ◌if◌, first}
+use Rattle.std.specs.Prelude.{ℕ, zero, suc, ◌+◌, List, [], ◌∷◌, Bool, true, false, not, ◌||◌, ltb, eqb, length, get_or, set, replicate, if◌then◌else◌}
+use Rattle.base.specs.Choice.{◌if◌, first}
 use Rattle.base.specs.Bytes.{part}
 use Rattle.section.specs.Section.{read_of}
 use Rattle.section.specs.declared.Header.{Header}

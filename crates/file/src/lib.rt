@@ -2,8 +2,7 @@
 // sections lies. Nothing is copied, and the first fault from the left is the answer.
 #![tactic(auto)]
 
-ghost use Rattle.std.specs.Prelude.{◌≡◌};
-ghost use Rattle.base.specs.Choice.{if◌then◌else◌};
+ghost use Rattle.std.specs.Prelude.{◌≡◌, if◌then◌else◌};
 ghost use Rattle.file_number.specs.Number.{number_at};
 ghost use Rattle.file.specs.Layout.{same_table};
 ghost use Rattle.file.specs.Scan.{

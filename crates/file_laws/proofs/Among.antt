@@ -2,13 +2,13 @@
 --   mem-front, mem-last      in the front of two lists, and at the end of one
 --   mem-append               in one of two
 --   mem-chosen               among the numbers that are picked
+use Rattle.std.specs.Prelude.{if◌then◌else◌}
 use mathlib.Core.Path.{◌≡◌, refl}
 use mathlib.Core.Bool.{Bool, true, false}
 use mathlib.Core.Logic.{◌⊎◌, ⊎_elim, inl, inr}
 use mathlib.Core.List.Memᴰ
 use mathlib.Core.List.{List, [], ◌∷◌, ◌++◌, Memᴰ}
 use Prim.Native.Nat.{ℕ, zero, suc}
-use Rattle.base.specs.Choice.{if◌then◌else◌}
 use Rattle.file.specs.Layout.{chosen}
 
 module _ {x : List ℕ} where

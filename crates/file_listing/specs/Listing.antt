@@ -1,6 +1,6 @@
 -- Document 01, "The lister": what is printed for a file. Document 02, request 4: the first line of an NRT-IT tells its whole key.
-use Rattle.std.specs.Prelude.{ℕ, ◌+◌, List, [], ◌∷◌, ◌++◌, ltb, eqb, length, get_or, drop}
-use Rattle.base.specs.Choice.{if◌then◌else◌, ◌if◌, first}
+use Rattle.std.specs.Prelude.{ℕ, ◌+◌, List, [], ◌∷◌, ◌++◌, ltb, eqb, length, get_or, drop, if◌then◌else◌}
+use Rattle.base.specs.Choice.{◌if◌, first}
 use Rattle.base.specs.Below.{every}
 use Rattle.key.specs.Key.{nrt_it}
 use Rattle.key.specs.declared.Key.{Key}

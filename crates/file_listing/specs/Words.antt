@@ -1,9 +1,8 @@
 -- Text as bytes: words, and decimal numbers without leading zeros.
-use Rattle.std.specs.Prelude.{ℕ, zero, suc, ◌+◌, ◌/◌, ◌%◌, ◌^◌, List, [], ◌∷◌, ◌++◌, leb}
+use Rattle.std.specs.Prelude.{ℕ, zero, suc, ◌+◌, ◌/◌, ◌%◌, ◌^◌, List, [], ◌∷◌, ◌++◌, leb, if◌then◌else◌}
 use Prim.Native.Char.{code}
 use Prim.Native.String as string
 use Prim.Native.String.{String}
-use Rattle.base.specs.Choice.{if◌then◌else◌}
 
 -- a word's letters, as ASCII has them
 abbrev pub ascii : String → List ℕ

@@ -1,6 +1,5 @@
 -- The number and the values of the answers to reading and writing a number.
-use Rattle.std.specs.Prelude.{ℕ, ◌+◌, ◌*◌, ◌/◌, ◌%◌, ◌≡◌, List, [], ◌∷◌, eqb}
-use Rattle.base.specs.Choice.{if◌then◌else◌}
+use Rattle.std.specs.Prelude.{ℕ, ◌+◌, ◌*◌, ◌/◌, ◌%◌, ◌≡◌, List, [], ◌∷◌, eqb, if◌then◌else◌}
 use Rattle.answers.specs.Answers.{Told, told}
 use Rattle.file_number.specs.Number.{number_at, Bytes}
 use Rattle.file_number.specs.declared.Number.{Number}

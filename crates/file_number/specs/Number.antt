@@ -1,7 +1,7 @@
 -- Document 01, "The shelf file": the numbers of a file. "Groups of seven bits, lowest group first, top bit set on every group but
 -- the last, shortest form, at most 65,535", and number 11.
-use Rattle.std.specs.Prelude.{ℕ, zero, suc, ◌+◌, ◌*◌, ◌/◌, ◌%◌, ◌<◌, List, [], ◌∷◌, ◌++◌, Bool, true, false, ◌||◌, ◌&&◌, length, get_or, drop, ltb, eqb}
-use Rattle.base.specs.Choice.{if◌then◌else◌, Row, ◌if◌, first}
+use Rattle.std.specs.Prelude.{ℕ, zero, suc, ◌+◌, ◌*◌, ◌/◌, ◌%◌, ◌<◌, List, [], ◌∷◌, ◌++◌, Bool, true, false, ◌||◌, ◌&&◌, length, get_or, drop, ltb, eqb, if◌then◌else◌}
+use Rattle.base.specs.Choice.{Row, ◌if◌, first}
 use Rattle.file_number.specs.declared.Number.{Number}
 use Rattle.file_number.specs.declared.Written.{Written}
 

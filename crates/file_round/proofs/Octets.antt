@@ -1,5 +1,6 @@
 -- What is saved from a store of bytes is of bytes.
 --   octets-saved
+use Rattle.std.specs.Prelude.{if◌then◌else◌}
 use mathlib.Core.Bool.{Bool}
 use mathlib.Core.List.{List, [], ◌∷◌, ◌++◌}
 use Prim.Native.Nat.{ℕ, zero, suc, ◌+◌, ◌/◌, ◌%◌, ◌<◌, ◌≤◌}
@@ -8,7 +9,6 @@ use lib.Dec.{ltb}
 use lib.ListN.{length, length-append, length-take, length-drop}
 use borrow.Author.Tests.{ltb-true, ltb-false}
 use Rattle.base.specs.Octets.{Octets}
-use Rattle.base.specs.Choice.{if◌then◌else◌}
 use Rattle.base.proofs.Bytes.{octets-part}
 use Rattle.base.proofs.Cases.{by}
 use Rattle.berth.specs.Berth.{berth_size, begins_at, sections, places, standing}

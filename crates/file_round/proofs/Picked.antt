@@ -2,6 +2,7 @@
 --   picked-length   they are at most as many
 --   picked-in, picked-from    what is picked is in the list, and what is in the list is picked
 --   picked-match    two lists that are one pick the same
+use Rattle.std.specs.Prelude.{if◌then◌else◌}
 use mathlib.Core.Path.{◌≡◌, refl, sym, ap, subst, ◌∙◌}
 use mathlib.Core.Bool.{Bool, true}
 use mathlib.Core.List.Memᴰ
@@ -11,7 +12,6 @@ use Prim.Native.Nat.{ℕ, zero, suc, ◌<◌, ◌≤◌}
 use native.Mathlib.Nat.{eq-or-lt_of_le, le_of_suc-le-suc, not-suc-le-zero}
 use native.Mathlib.Omega.{arith}
 use lib.ListN.{length, length-append}
-use Rattle.base.specs.Choice.{if◌then◌else◌}
 use Rattle.base.proofs.Cases.{by, unlike}
 use Rattle.file.specs.Layout.{chosen}
 

@@ -3,13 +3,14 @@
 --   restores           what was saved from a store as it was left, loaded on a shelf with room and without that key, restores the table
 --   restores-always    .. so it is after any two histories, of a table that the one holds and the other does not, unless it is full
 --   answers-alike      a restored table answers every question as the one that was saved
+use Rattle.std.specs.Prelude.{if◌then◌else◌}
 use mathlib.Core.Path.{◌≡◌, refl, sym, ap, subst, fun_ext, ◌∙◌}
 use mathlib.Core.List.{List, ◌++◌}
 use Prim.Native.Nat.{ℕ, ◌<◌, ◌≤◌}
 use native.Mathlib.Omega.{arith}
 use lib.ListN.{length, take, drop}
 use borrow.Author.Tests.{eq-eqb, ne_eqb}
-use Rattle.base.specs.Choice.{if◌then◌else◌, first}
+use Rattle.base.specs.Choice.{first}
 use Rattle.berth.specs.Berth.{sections, places, store_size}
 use Rattle.shelf.specs.Record.{place_at, length_at, holds, place_of, free_of}
 use Rattle.key.specs.declared.Key.{Key}

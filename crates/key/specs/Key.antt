@@ -1,8 +1,7 @@
 -- Document 01, "The shelf": "A table's key is its table id with its table id extension." Document 02, request 4: that of an NRT-IT takes in every
 -- field that Table 6.5 of source document 004 and its text name as identifying. The text on NRT_IT_version_number names service_id,
 -- table_id_extension and time_span_start, that on section_number table_id as well. Other ids keep the old key.
-use Rattle.std.specs.Prelude.{ℕ, Bool, ◌&&◌, eqb}
-use Rattle.base.specs.Choice.{if◌then◌else◌}
+use Rattle.std.specs.Prelude.{ℕ, Bool, ◌&&◌, eqb, if◌then◌else◌}
 use Rattle.key.specs.declared.Key.{Key}
 
 -- the table id of an NRT-IT

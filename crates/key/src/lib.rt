@@ -5,7 +5,7 @@ ghost use Rattle.std.specs.Prelude.{◌≡◌, ◌+◌, ◌*◌, ◌/◌, ◌%�
 ghost use Rattle.key.specs.Key.{key_from, same_key};
 
 // Of an NRT-IT service is its service_id and start its time_span_start; of every other table both are 0.
-#[derive(Drop)]
+#[derive(Clone, Copy)]
 pub struct Key {
     pub table: u8,
     pub extension: u16,

@@ -1,7 +1,6 @@
 -- Source document 004, Table 6.5: how a field stands in bytes.
-use Rattle.std.specs.Prelude.{ℕ, zero, suc, ◌+◌, ◌*◌, ◌%◌, ◌^◌, Bool, true, false, List, ltb, length}
+use Rattle.std.specs.Prelude.{ℕ, zero, suc, ◌+◌, ◌*◌, ◌%◌, ◌^◌, Bool, true, false, List, ltb, length, if◌then◌else◌}
 use Rattle.base.specs.Bytes.{byte}
-use Rattle.base.specs.Choice.{if◌then◌else◌}
 
 -- the n bytes from a place as one number, high byte first (uimsbf)
 unfoldable pub number : List ℕ → ℕ → ℕ → ℕ

@@ -1,8 +1,8 @@
 -- Document 02, request 3: an NRT-IT section read by Table 6.5 of source document 004, and its refusals. "43 a field or loop passes
 -- the end, 44 bytes left over, 45 table id not the NRT-IT's; the section's 1 to 8 come first, then 45, the others from the left."
 -- Request 4: 46, which the section's reading gives, comes after its 8 and before 45.
-use Rattle.std.specs.Prelude.{ℕ, ◌-◌, Bool, not, List, [], ◌∷◌, ltb, leb, eqb, length}
-use Rattle.base.specs.Choice.{if◌then◌else◌, Row, ◌if◌, first}
+use Rattle.std.specs.Prelude.{ℕ, ◌-◌, Bool, not, List, [], ◌∷◌, ltb, leb, eqb, length, if◌then◌else◌}
+use Rattle.base.specs.Choice.{Row, ◌if◌, first}
 use Rattle.section.specs.Section as section
 use Rattle.section.specs.declared.Reading as reading
 use Rattle.programme.specs.Table.{nrt_it, service_id_end, time_span_start_end, time_span_length_end, first_item_at}

@@ -1,7 +1,6 @@
 -- How the boundary answers about an NRT-IT section: a number of refusal in the low 8 bits, and values in the bits above them or in a lent
 -- buffer.
-use Rattle.std.specs.Prelude.{ℕ, zero, suc, ◌+◌, ◌*◌, ◌/◌, ◌%◌, ◌^◌, ◌<◌, ◌≤◌, ◌≡◌, List, [], ◌∷◌, ◌++◌, ◌↔◌, eqb, length, get_or, drop}
-use Rattle.base.specs.Choice.{if◌then◌else◌}
+use Rattle.std.specs.Prelude.{ℕ, zero, suc, ◌+◌, ◌*◌, ◌/◌, ◌%◌, ◌^◌, ◌<◌, ◌≤◌, ◌≡◌, List, [], ◌∷◌, ◌++◌, ◌↔◌, eqb, length, get_or, drop, if◌then◌else◌}
 use Rattle.base.specs.Octets.{Octets}
 use Rattle.answers.specs.Answers.{Out, out, puts}
 use Rattle.programme.specs.Reading.{read_of, step_of, own_of}

@@ -1,6 +1,5 @@
 -- How the code goes about an item: first where its parts lie, and whether one of them passes the end; then its numbers.
-use Rattle.std.specs.Prelude.{ℕ, zero, suc, ◌+◌, ◌-◌, ◌*◌, ◌/◌, ◌%◌, ◌^◌, ◌<◌, ◌≤◌, List, [], ◌∷◌, ◌++◌, ltb, leb, eqb, length, get_or, drop}
-use Rattle.base.specs.Choice.{if◌then◌else◌}
+use Rattle.std.specs.Prelude.{ℕ, zero, suc, ◌+◌, ◌-◌, ◌*◌, ◌/◌, ◌%◌, ◌^◌, ◌<◌, ◌≤◌, List, [], ◌∷◌, ◌++◌, ltb, leb, eqb, length, get_or, drop, if◌then◌else◌}
 use Rattle.answers.specs.Answers.{Out, out}
 use Rattle.programme.specs.Field.{only, low}
 use Rattle.programme.specs.Table.{content_linkage, flags, content_name_length_at, content_name_at, num_content_descriptors_at, num_content_descriptors, content_descriptors_at}

@@ -1,7 +1,6 @@
 -- The text for staff: its lines. Each ends with a newline, and numbers are decimal without leading zeros.
-use Rattle.std.specs.Prelude.{ℕ, ◌/◌, ◌%◌, ◌^◌, List, [], ◌++◌}
+use Rattle.std.specs.Prelude.{ℕ, ◌/◌, ◌%◌, ◌^◌, List, [], ◌++◌, if◌then◌else◌}
 use Rattle.base.specs.Bits.{bit}
-use Rattle.base.specs.Choice.{if◌then◌else◌}
 use Rattle.file_listing.specs.Words.{ascii, newline}
 use Rattle.text.specs.Words.{field, escaped}
 use Rattle.programme.specs.declared.Programme.{Programme}

@@ -1,8 +1,7 @@
 // The lines of the text for staff: of a section of a programme list and of its items. Each is written as the crate text writes.
 #![tactic(auto)]
 
-ghost use Rattle.std.specs.Prelude.{[], ◌++◌};
-ghost use Rattle.base.specs.Choice.{if◌then◌else◌};
+ghost use Rattle.std.specs.Prelude.{[], ◌++◌, if◌then◌else◌};
 ghost use Rattle.file_listing.specs.Words.{newline};
 ghost use Rattle.file_listing.specs.Listing.{added_words, head_line};
 ghost use Rattle.text.specs.Words.{decimal};

@@ -1,6 +1,6 @@
 -- The text for staff: what a programme list holds.
-use Rattle.std.specs.Prelude.{ℕ, ◌+◌, Bool, true, false, ◌&&◌, List, [], ◌∷◌, ◌++◌, ltb, eqb, length, get_or, drop}
-use Rattle.base.specs.Choice.{if◌then◌else◌, ◌if◌, first}
+use Rattle.std.specs.Prelude.{ℕ, ◌+◌, Bool, true, false, ◌&&◌, List, [], ◌∷◌, ◌++◌, ltb, eqb, length, get_or, drop, if◌then◌else◌}
+use Rattle.base.specs.Choice.{◌if◌, first}
 use Rattle.base.specs.Below.{every}
 use Rattle.base.specs.Bytes.{part}
 use Rattle.section.specs.declared.Header.{Header}

@@ -1,6 +1,5 @@
 -- The text for staff: what one section of a programme list holds.
-use Rattle.std.specs.Prelude.{ℕ, zero, suc, ◌+◌, Bool, true, false, List, [], ◌++◌, eqb}
-use Rattle.base.specs.Choice.{if◌then◌else◌}
+use Rattle.std.specs.Prelude.{ℕ, zero, suc, ◌+◌, Bool, true, false, List, [], ◌++◌, eqb, if◌then◌else◌}
 use Rattle.base.specs.Bytes.{part}
 use Rattle.section.specs.Section.{header_size}
 use Rattle.programme.specs.Table.{first_item_at}

@@ -4,14 +4,12 @@
 --   holds-header, holds_key   so it has the bytes that are read
 --   read-built       as the code builds it
 use mathlib.Core.Path.{◌≡◌, refl, sym, ap, ◌∙◌}
-use mathlib.Core.Bool.{true, false}
 use mathlib.Core.List.{List, [], ◌∷◌}
 use Prim.Native.Nat.{ℕ, ◌-◌, ◌≤◌}
 use native.Mathlib.Omega.{arith}
-use lib.Dec.{eqb}
 use lib.ListN.{length}
 use Rattle.base.specs.Choice.{Row, first}
-use Rattle.base.proofs.Cases.{by, unlike}
+use Rattle.base.proofs.Cases.{by}
 use Rattle.key.specs.declared.Key.{Key}
 use Rattle.key.specs.Key.{nrt_it}
 use Rattle.section.specs.Section.{header_size, table_id, version, section_number, last_section_number, key_in, faults, fault_of, header_of, read_of}

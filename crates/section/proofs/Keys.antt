@@ -4,22 +4,19 @@
 --   key-id, key-further     the table id and the extension of every key
 --   key_fits                of bytes, the numbers of a key fit their bits
 --   lists_told_apart, others_told_apart   which sections are of one table
-use mathlib.Core.Path.{◌≡◌, refl, sym, ap, ◌∙◌}
+use mathlib.Core.Path.{◌≡◌, sym, ap, ◌∙◌}
 use mathlib.Core.List.{List}
-use mathlib.Core.Logic.{◌↔◌}
-use Prim.Native.Nat.{ℕ, ◌+◌, ◌*◌, ◌^◌, ◌<◌, ◌≤◌}
+use Prim.Native.Nat.{ℕ, ◌<◌}
 use native.Mathlib.Omega.{arith}
-use mathlib.Core.Bool.{false, ◌&&◌}
-use lib.Dec.{ltb, eqb}
-use borrow.Author.Tests.{eq-eqb, ne_eqb, eqb-true, eqb-false, ltb-false}
+use lib.Dec.{eqb}
+use borrow.Author.Tests.{eq-eqb, ne_eqb, eqb-true, eqb-false}
 use Rattle.base.specs.Bytes.{word}
 use Rattle.base.specs.Octets.{Octets}
 use Rattle.base.proofs.Bytes.{word_fits}
 use Rattle.base.proofs.Cases.{by}
 use Rattle.key.specs.Key.{nrt_it, key_from}
-use Rattle.key.specs.declared.Key.{Key}
 use Rattle.key.proofs.Keys.{key-other, key-list, begins_with, others_by_extension, lists_by_all}
-use Rattle.section.specs.Section.{table_id, table_id_extension, service_id, time_span_start, key_size, of_list, key_in}
+use Rattle.section.specs.Section.{table_id, table_id_extension, service_id, time_span_start, of_list, key_in}
 use Rattle.section.specs.Theorems.{FitsKey, ListsToldApart, OthersToldApart}
 
 pub of_other : (n table : ℕ) → ¬ (table ≡ nrt_it) → 0 ≡ of_list table n

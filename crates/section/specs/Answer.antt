@@ -1,7 +1,6 @@
 -- The number and the values of a reading, in the two numbers of 64 bits that cross the boundary, and what is so of them. The second is for the rest
 -- of an NRT-IT's key; of every other table it is 0.
-use Rattle.std.specs.Prelude.{ℕ, ◌+◌, ◌-◌, ◌*◌, ◌/◌, ◌%◌, ◌^◌, ◌≡◌, List, ◌↔◌, length, eqb}
-use Rattle.base.specs.Choice.{if◌then◌else◌}
+use Rattle.std.specs.Prelude.{ℕ, ◌+◌, ◌-◌, ◌*◌, ◌/◌, ◌%◌, ◌^◌, ◌≡◌, List, ◌↔◌, length, eqb, if◌then◌else◌}
 use Rattle.key.specs.Key.{nrt_it}
 use Rattle.section.specs.Section.{read_of, number_of}
 use Rattle.section.specs.declared.Header.{Header}

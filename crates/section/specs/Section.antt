@@ -1,7 +1,7 @@
 -- Document 01, "A section": the layout of the eight header bytes, high bit first, and the numbers 1 to 8. Document 02, request 4: the key, and 46.
-use Rattle.std.specs.Prelude.{ℕ, ◌+◌, ◌-◌, ◌/◌, ◌%◌, ◌*◌, List, [], ◌∷◌, ◌||◌, ◌&&◌, length, ltb, eqb}
+use Rattle.std.specs.Prelude.{ℕ, ◌+◌, ◌-◌, ◌/◌, ◌%◌, ◌*◌, List, [], ◌∷◌, ◌||◌, ◌&&◌, length, ltb, eqb, if◌then◌else◌}
 use Rattle.base.specs.Bytes.{byte, word}
-use Rattle.base.specs.Choice.{if◌then◌else◌, Row, ◌if◌, first}
+use Rattle.base.specs.Choice.{Row, ◌if◌, first}
 use Rattle.key.specs.Key.{nrt_it, key_from}
 use Rattle.key.specs.declared.Key.{Key}
 use Rattle.section.specs.declared.Header.{Header}

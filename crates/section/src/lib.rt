@@ -11,7 +11,7 @@ ghost use Rattle.section.specs.Answer.{reading_code, key_code, sound_code, added
 use key::Key;
 
 // What the header says, and where the body lies in the payload.
-#[derive(Drop)]
+#[derive(Clone, Copy)]
 pub struct Header {
     pub key: Key,
     pub version: u8,

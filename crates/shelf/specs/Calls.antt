@@ -1,7 +1,6 @@
 -- What this layer's calls find, on any numbers: what is no record has no place, and what is asked of no place is 0. (`shelf_at` reads what is no
 -- record as a spoiled one, and no call of document 01 gets past 18 there.) What stands in a free place is read as in a taken one, and means nothing.
-use Rattle.std.specs.Prelude.{ℕ, List, Bool, ◌&&◌, eqb, ltb, length, get_or}
-use Rattle.base.specs.Choice.{if◌then◌else◌}
+use Rattle.std.specs.Prelude.{ℕ, List, Bool, ◌&&◌, eqb, ltb, length, get_or, if◌then◌else◌}
 use Rattle.berth.specs.Berth.{sections, places}
 use Rattle.key.specs.declared.Key.{Key}
 use Rattle.shelf.specs.Record.{no_key, place_of, free_of}

@@ -2,8 +2,7 @@
 -- four numbers, that of place p at 64 + 4p: 256 + table id where the place is taken, extension, version, last; four masks, that of
 -- place p at 80 + p: in a taken place bit n is 1 where section n is held; and the rest of four keys, that of place p at 84 + 3p: service_id, and
 -- time_span_start as its higher and its lower 16 bits, which are looked at where the table is an NRT-IT and mean nothing of any other.
-use Rattle.std.specs.Prelude.{ℕ, zero, suc, ◌+◌, ◌*◌, ◌/◌, ◌%◌, List, [], ◌∷◌, Bool, true, not, eqb, length, get_or}
-use Rattle.base.specs.Choice.{if◌then◌else◌}
+use Rattle.std.specs.Prelude.{ℕ, zero, suc, ◌+◌, ◌*◌, ◌/◌, ◌%◌, List, [], ◌∷◌, Bool, true, not, eqb, length, get_or, if◌then◌else◌}
 use Rattle.base.specs.Bits.{bit}
 use Rattle.berth.specs.Berth.{sections, places}
 use Rattle.key.specs.declared.Key.{Key}

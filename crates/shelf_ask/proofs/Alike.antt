@@ -2,11 +2,12 @@
 --   by-holding                           a proof by the two answers of `holding_of`
 --   holding-same, asked-same             where the table is held, and what is held of it
 --   copy-same, whole_same, missing-same  the answers
+use Rattle.std.specs.Prelude.{if◌then◌else◌}
 use mathlib.Core.Path.{◌≡◌, refl, sym, ap, ◌∙◌}
 use mathlib.Core.List.{List}
 use Prim.Native.Nat.{ℕ}
 use lib.ListN.{length}
-use Rattle.base.specs.Choice.{if◌then◌else◌, first}
+use Rattle.base.specs.Choice.{first}
 use Rattle.shelf.specs.Record.{Same, place_at}
 use Rattle.key.specs.declared.Key.{Key}
 use Rattle.shelf.specs.Record.{Shelf}

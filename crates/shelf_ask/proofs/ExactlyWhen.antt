@@ -8,6 +8,7 @@
 --   answered-complete                    complete exactly when every number from 0 to the last is held
 --   answered-missing                     a number is the lowest missing one exactly when it is missing and all below it are held
 --   nothing-complete                     none is missing exactly when the table is complete
+use Rattle.std.specs.Prelude.{if◌then◌else◌}
 use mathlib.Core.Path.{◌≡◌, refl, sym, ap, subst, ◌∙◌}
 use mathlib.Core.Bool.{Bool, true, false}
 use mathlib.Core.List.{List, [], ◌∷◌, ◌++◌}
@@ -16,7 +17,6 @@ use mathlib.Core.Logic.{◌↔◌}
 use Prim.Native.Nat.{ℕ, ◌<◌, ◌≤◌}
 use lib.ListN.{length}
 use native.Mathlib.Omega.{arith}
-use Rattle.base.specs.Choice.{if◌then◌else◌}
 use Rattle.base.specs.Tables.{Rule, ◌says◌, None, above, said, Agree}
 use Rattle.base.proofs.Cases.{by}
 use Rattle.base.proofs.Tables.{given, passed, silent, among, words}

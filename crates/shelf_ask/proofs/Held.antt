@@ -4,6 +4,7 @@
 --   in-17, in-18, in-14, in_place_lem    the answer of `holding_of`, by what was tested
 --   held                             what is so of a table that is held in place p (`In`)
 --   copy-refused, copy-held          the answer of `copy_of`, by that of `holding_of`; so for `whole_of` and `missing_of`
+use Rattle.std.specs.Prelude.{if◌then◌else◌}
 use mathlib.Core.Path.{◌≡◌, refl, sym, ap, subst, ◌∙◌}
 use mathlib.Core.Bool.{true, false, not}
 use mathlib.Core.List.{List, [], ◌∷◌, ◌++◌}
@@ -13,7 +14,7 @@ use native.Mathlib.Omega.{arith}
 use lib.Dec.{ltb, eqb}
 use lib.ListN.{length}
 use borrow.Author.Tests.{lt-ltb, le-ltb, le-leb, eq-eqb, ne_eqb, ltb-true, ltb-false}
-use Rattle.base.specs.Choice.{if◌then◌else◌, Row, ◌if◌, first}
+use Rattle.base.specs.Choice.{Row, ◌if◌, first}
 use Rattle.base.proofs.Cases.{by, same_or}
 use Rattle.berth.specs.Berth.{places, sections, berth_size, store_size}
 use Rattle.berth.specs.Calls.{goes_in, copied_in}

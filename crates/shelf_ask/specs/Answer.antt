@@ -1,6 +1,5 @@
 -- The numbers and the values of the answers to the shelf's questions, in the numbers or the plain yes or no that cross the boundary.
-use Rattle.std.specs.Prelude.{ℕ, ◌+◌, ◌*◌, ◌/◌, ◌%◌, List, Bool, true, false, eqb, length}
-use Rattle.base.specs.Choice.{if◌then◌else◌}
+use Rattle.std.specs.Prelude.{ℕ, ◌+◌, ◌*◌, ◌/◌, ◌%◌, List, Bool, true, false, eqb, length, if◌then◌else◌}
 use Rattle.answers.specs.Answers.{Out, out, size_code, size_or, puts}
 use Rattle.key.specs.declared.Key.{Key}
 use Rattle.shelf.specs.Layout.{shelf_at}
@@ -35,13 +34,13 @@ copied_code (Copied.Refused n) = n
 
 -- what a host takes out of them
 abbrev pub whole_back : ℕ → Whole
-whole_back code = if eqb code 256 then Whole.Complete else if eqb code 512 then Whole.Incomplete else Whole.Refused code
+whole_back code = if eqb code 256 then Whole.Complete else (if eqb code 512 then Whole.Incomplete else Whole.Refused code)
 
 abbrev pub missing_back : ℕ → Missing
 missing_back code =
     if eqb code 256 then Missing.Nothing
-    else if eqb (code % 65536) 512 then Missing.Number (code / 65536)
-    else Missing.Refused code
+    else (if eqb (code % 65536) 512 then Missing.Number (code / 65536)
+    else Missing.Refused code)
 
 abbrev pub copied_in : ℕ → Copied
 copied_in = size_or Copied.Bytes Copied.Refused

@@ -1,6 +1,6 @@
 -- Document 01, "The shelf": what one may ask. Order of refusal: 17, 18, 14, 16, 15.
-use Rattle.std.specs.Prelude.{ℕ, ◌+◌, List, [], ◌∷◌, ◌++◌, Bool, not, ltb, eqb, length, drop}
-use Rattle.base.specs.Choice.{if◌then◌else◌, Row, ◌if◌, first}
+use Rattle.std.specs.Prelude.{ℕ, ◌+◌, List, [], ◌∷◌, ◌++◌, Bool, not, ltb, eqb, length, drop, if◌then◌else◌}
+use Rattle.base.specs.Choice.{Row, ◌if◌, first}
 use Rattle.base.specs.Below.{every, lowest}
 use Rattle.berth.specs.Berth.{places, store_size, standing}
 use Rattle.shelf.specs.Record.{place_at, length_at, holds, spoiled_of, place_of}

@@ -1,12 +1,11 @@
 -- The quick pass is a first look at the numbers, whether a place is taken or not; at the rest of the keys only where two heads begin alike. Where it says yes, FineColumns, FineMasks and Apart hold, and the
 -- three together are enough for a record that is not spoiled; where it does not, 18 is asked in its own words.
-use Rattle.std.specs.Prelude.{ℕ, ◌+◌, ◌*◌, ◌/◌, ◌%◌, ◌^◌, ◌<◌, ◌≤◌, ◌≡◌, Bool, false, List, [], ◌∷◌, get_or, eqb}
+use Rattle.std.specs.Prelude.{ℕ, ◌+◌, ◌*◌, ◌/◌, ◌%◌, ◌^◌, ◌<◌, ◌≤◌, ◌≡◌, Bool, false, List, [], ◌∷◌, get_or, eqb, if◌then◌else◌}
 use Rattle.base.specs.Below.{some}
 use Rattle.berth.specs.Berth.{berth_size, places, sections}
 use Rattle.shelf.specs.Record.{alike}
 use Rattle.shelf.specs.Layout.{heads, at_length, at_table, at_last, at_mask, key_number, rest_number, place_in}
 use Rattle.key.specs.Key.{nrt_it}
-use Rattle.base.specs.Choice.{if◌then◌else◌}
 
 -- the most that each number of the heads may be
 abbrev pub head_bounds : List ℕ

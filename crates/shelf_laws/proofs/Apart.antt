@@ -1,11 +1,12 @@
 -- Offers of other tables' sections leave every answer about a table as it was.
 --   reply-apart      what the log says of a table does not change by a payload of another key
 --   others-stay      so of a history and offers after it
+use Rattle.std.specs.Prelude.{if◌then◌else◌}
 use mathlib.Core.Path.{◌≡◌, refl, sym, ap, fun_ext, ◌∙◌}
 use mathlib.Core.Bool.{Bool, false, not}
 use mathlib.Core.List.{List, [], ◌∷◌, ◌++◌, append_assoc, append-nil}
 use Prim.Native.Nat.{ℕ, ◌+◌}
-use Rattle.base.specs.Choice.{if◌then◌else◌, ◌if◌, first}
+use Rattle.base.specs.Choice.{◌if◌, first}
 use Rattle.base.specs.Below.{every, lowest}
 use Rattle.base.proofs.Cases.{by}
 use Rattle.key.specs.declared.Key.{Key}

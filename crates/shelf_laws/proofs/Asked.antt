@@ -8,6 +8,7 @@
 --   unheld-copied, unheld-whole      of a table that is not held nothing is answered but 14
 --   refused-14, unheld-reply         so of every question
 --   held-answer                      what a question about a held table is answered
+use Rattle.std.specs.Prelude.{if◌then◌else◌}
 use mathlib.Core.Path.{◌≡◌, refl, ap, ◌∙◌}
 use mathlib.Core.Bool.{true, false, not}
 use mathlib.Core.List.{List, ◌++◌}
@@ -16,7 +17,7 @@ use native.Mathlib.Omega.{arith}
 use lib.Dec.{eqb, ltb}
 use lib.ListN.{length, drop, get_or-eq_default}
 use borrow.Author.Tests.{eq-eqb, ne_eqb, le-ltb, lt-ltb, ltb-true, ltb-false}
-use Rattle.base.specs.Choice.{if◌then◌else◌, ◌if◌, first}
+use Rattle.base.specs.Choice.{◌if◌, first}
 use Rattle.base.specs.Below.{every, lowest}
 use Rattle.base.proofs.Cases.{by}
 use Rattle.base.proofs.Tables.{among}

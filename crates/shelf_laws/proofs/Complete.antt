@@ -1,10 +1,10 @@
 -- A held table is called complete exactly when every section from 0 to its last was accepted or loaded since it last began.
+use Rattle.std.specs.Prelude.{if◌then◌else◌}
 use mathlib.Core.Path.{◌≡◌, refl, sym, ◌∙◌}
 use mathlib.Core.Bool.{Bool, true, false}
 use mathlib.Core.List.{List}
 use Prim.Native.Nat.{ℕ, ◌+◌}
 use native.Mathlib.Omega.{arith}
-use Rattle.base.specs.Choice.{if◌then◌else◌}
 use Rattle.base.specs.Below.{every}
 use Rattle.base.proofs.Below.{every-all, every-each}
 use Rattle.key.specs.declared.Key.{Key}

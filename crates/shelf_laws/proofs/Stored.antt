@@ -3,6 +3,7 @@
 --   begun-good, begun_kept         where the section begins its table
 --   added-good, added-kept         where it is added
 --   repeat-kept                    where it is held already, with the same bytes
+use Rattle.std.specs.Prelude.{if◌then◌else◌}
 use mathlib.Core.Path.{◌≡◌, refl, sym, ap, ◌∙◌}
 use mathlib.Core.Bool.{true, false, not, ◌||◌}
 use mathlib.Core.List.{List}
@@ -12,7 +13,6 @@ use lib.Dec.{eqb}
 use lib.ListN.{length, replicate, length-set, length-replicate, get_or-replicate}
 use lib.Seq.{get_or-set_same, get_or-set_other}
 use borrow.Author.Tests.{eqb-true, eqb-false, ne_eqb}
-use Rattle.base.specs.Choice.{if◌then◌else◌}
 use Rattle.base.proofs.Cases.{by, unlike}
 use Rattle.section.specs.Section.{header_of, version, section_number, last_section_number}
 use Rattle.section.proofs.Laws.{SoundFacts}

@@ -2,6 +2,7 @@
 --   held-told, told-held      a held table is told by a place as the log tells it, and a place tells no other
 --   told-once                 no table is told twice
 --   load_told                 a load gives a place the table that the file's own question tells
+use Rattle.std.specs.Prelude.{if◌then◌else◌}
 use mathlib.Core.Path.{◌≡◌, refl, sym, ap, ◌∙◌}
 use mathlib.Core.Bool.{Bool, true, false, not}
 use mathlib.Core.List.{List, [], ◌∷◌}
@@ -11,7 +12,6 @@ use native.Mathlib.Omega.{arith}
 use lib.Dec.{eqb, ltb}
 use lib.ListN.{length, get_or-eq_default}
 use borrow.Author.Tests.{eqb-true, ltb-true, ltb-false}
-use Rattle.base.specs.Choice.{if◌then◌else◌}
 use Rattle.base.proofs.Cases.{by, unlike}
 use Rattle.answers.specs.Answers.{told}
 use Rattle.tables.specs.Numbers.{table_numbers}

@@ -1,6 +1,5 @@
 -- The words of the laws that other pages cite; each is proved in the file of proofs/ that is named beside it.
-use Rattle.std.specs.Prelude.{ℕ, ◌<◌, ◌≤◌, ◌≡◌, Bool, true, false, ◌↔◌, List, [], ◌++◌, length, drop}
-use Rattle.base.specs.Choice.{if◌then◌else◌}
+use Rattle.std.specs.Prelude.{ℕ, ◌<◌, ◌≤◌, ◌≡◌, Bool, true, false, ◌↔◌, List, [], ◌++◌, length, drop, if◌then◌else◌}
 use Rattle.section.specs.Section.{section_number}
 use Rattle.berth.specs.Berth.{sections, store_size, berth_size, standing}
 use Rattle.shelf.specs.Record.{fresh}

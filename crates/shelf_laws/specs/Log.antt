@@ -1,6 +1,5 @@
 -- What a log says of the table with a key, by the calls and their answers alone. A log has its latest entry first.
-use Rattle.std.specs.Prelude.{ℕ, ◌<◌, ◌≡◌, List, [], ◌∷◌, Bool, true, false, ◌&&◌, ◌||◌, eqb}
-use Rattle.base.specs.Choice.{if◌then◌else◌}
+use Rattle.std.specs.Prelude.{ℕ, ◌<◌, ◌≡◌, List, [], ◌∷◌, Bool, true, false, ◌&&◌, ◌||◌, eqb, if◌then◌else◌}
 use Rattle.section.specs.Section.{version, section_number, last_section_number}
 use Rattle.berth.specs.Berth.{places}
 use Rattle.key.specs.Key.{same_key}

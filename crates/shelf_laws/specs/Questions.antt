@@ -1,7 +1,7 @@
 -- Document 01, "The shelf" and "The shelf file", by the log alone: what a question is answered. The refusals in their order: 14; of a copy
 -- 16 and 15; of a save 15.
-use Rattle.std.specs.Prelude.{ℕ, ◌+◌, List, [], ◌∷◌, ◌++◌, Bool, not, ◌&&◌, ltb, length, drop}
-use Rattle.base.specs.Choice.{if◌then◌else◌, Row, ◌if◌, first}
+use Rattle.std.specs.Prelude.{ℕ, ◌+◌, List, [], ◌∷◌, ◌++◌, Bool, not, ◌&&◌, ltb, length, drop, if◌then◌else◌}
+use Rattle.base.specs.Choice.{Row, ◌if◌, first}
 use Rattle.base.specs.Below.{every, lowest}
 use Rattle.berth.specs.Berth.{sections}
 use Rattle.key.specs.declared.Key.{Key}

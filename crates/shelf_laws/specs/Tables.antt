@@ -1,6 +1,5 @@
 -- Which tables are held after a history, by the log alone, and which table a load brings; the theorems are in proofs/Tables.
-use Rattle.std.specs.Prelude.{ℕ, ◌/◌, ◌%◌, ◌<◌, ◌≡◌, true, List, [], ◌∷◌, ◌⊎◌, length}
-use Rattle.base.specs.Choice.{if◌then◌else◌}
+use Rattle.std.specs.Prelude.{ℕ, ◌/◌, ◌%◌, ◌<◌, ◌≡◌, true, List, [], ◌∷◌, ◌⊎◌, length, if◌then◌else◌}
 use Rattle.answers.specs.Answers.{Told, told}
 use Rattle.berth.specs.Berth.{sections, places}
 use Rattle.key.specs.declared.Key.{Key}

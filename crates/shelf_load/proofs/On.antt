@@ -1,6 +1,7 @@
 -- A load on lent numbers is the load on the record that they are.
 --   below-lent, loaded-lent                    the record after a table's head and lengths are written
 --   load_said, load-shelf, load_store          the load
+use Rattle.std.specs.Prelude.{if◌then◌else◌}
 use mathlib.Core.Path.{◌≡◌, refl, sym, ap, ◌∙◌}
 use mathlib.Core.Bool.{true, false, not}
 use mathlib.Core.List.{List}
@@ -12,7 +13,6 @@ use lib.ListN.{length, get_or, set, replicate, length-set}
 use lib.Seq.{ext_get_or, get_or-set_same, get_or-set_other, set-get_or}
 use borrow.Author.Tests.{eqb-true, eqb-false, lt-ltb, le-ltb, ltb-true, ltb-false}
 use Rattle.base.specs.Octets.{Octets}
-use Rattle.base.specs.Choice.{if◌then◌else◌}
 use Rattle.base.specs.Bytes.{part}
 use Rattle.base.proofs.Bytes.{octets-part}
 use Rattle.base.proofs.Cases.{by, same_or, and_left}

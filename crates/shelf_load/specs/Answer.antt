@@ -1,6 +1,5 @@
 -- The number of the answer to a load, as it crosses the boundary: 0 where it is done.
-use Rattle.std.specs.Prelude.{ℕ, List, eqb}
-use Rattle.base.specs.Choice.{if◌then◌else◌}
+use Rattle.std.specs.Prelude.{ℕ, List, eqb, if◌then◌else◌}
 use Rattle.answers.specs.Answers.{Lent, lent}
 use Rattle.shelf_load.specs.declared.Loaded.{Loaded}
 use Rattle.shelf_load.specs.On.{Leaving, load_on}

@@ -1,6 +1,6 @@
 -- Document 01, "The shelf file": loading. Order of refusal: 17, 18, the file's faults, 13, 9.
-use Rattle.std.specs.Prelude.{ℕ, zero, suc, List, [], ◌∷◌, true, not, eqb, length, get_or}
-use Rattle.base.specs.Choice.{if◌then◌else◌, ◌if◌, first}
+use Rattle.std.specs.Prelude.{ℕ, zero, suc, List, [], ◌∷◌, true, not, eqb, length, get_or, if◌then◌else◌}
+use Rattle.base.specs.Choice.{◌if◌, first}
 use Rattle.base.specs.Bytes.{part}
 use Rattle.section.specs.declared.Header.{Header}
 use Rattle.berth.specs.Berth.{sections, places, store_size, put}

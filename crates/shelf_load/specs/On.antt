@@ -1,6 +1,5 @@
 -- A load on lent numbers: the answer and the store are those of the load on the record that the numbers are.
-use Rattle.std.specs.Prelude.{ℕ, zero, suc, List, eqb, get_or}
-use Rattle.base.specs.Choice.{if◌then◌else◌}
+use Rattle.std.specs.Prelude.{ℕ, zero, suc, List, eqb, get_or, if◌then◌else◌}
 use Rattle.section.specs.declared.Header.{Header}
 use Rattle.berth.specs.Berth.{sections}
 use Rattle.shelf.specs.Record.{key_of, free_of}

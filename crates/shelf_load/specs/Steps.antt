@@ -1,6 +1,5 @@
 -- The steps of loading: storing sections from wherever they are said to start, and what an accepted file says of that.
-use Rattle.std.specs.Prelude.{ℕ, zero, suc, ◌+◌, ◌<◌, ◌≤◌, ◌≡◌, ◌⊎◌, Bool, not, ◌&&◌, List, eqb, ltb, leb, length, get_or}
-use Rattle.base.specs.Choice.{if◌then◌else◌}
+use Rattle.std.specs.Prelude.{ℕ, zero, suc, ◌+◌, ◌<◌, ◌≤◌, ◌≡◌, ◌⊎◌, Bool, not, ◌&&◌, List, eqb, ltb, leb, length, get_or, if◌then◌else◌}
 use Rattle.base.specs.Bytes.{part}
 use Rattle.berth.specs.Berth.{berth_size, sections}
 use Rattle.berth.specs.Calls.{put_in}

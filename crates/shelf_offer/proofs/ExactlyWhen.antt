@@ -5,6 +5,7 @@
 --   exactly                   so of every number
 --   accepted                  no number is given exactly when none is so
 -- They are one law of tables (`Tables` of base); `offer-number` says that an offer's number is the table's.
+use Rattle.std.specs.Prelude.{if◌then◌else◌}
 use mathlib.Core.Path.{◌≡◌, refl, sym, ap, ◌∙◌}
 use mathlib.Core.List.{List, [], ◌∷◌, ◌++◌}
 use mathlib.Core.Bool.{false, not, ◌&&◌, ◌||◌}
@@ -14,7 +15,7 @@ use Prim.Native.Nat.{ℕ, ◌<◌}
 use native.Mathlib.Omega.{arith}
 use lib.Dec.{eqb}
 use lib.ListN.{length}
-use Rattle.base.specs.Choice.{Row, ◌if◌, first, if◌then◌else◌}
+use Rattle.base.specs.Choice.{Row, ◌if◌, first}
 use Rattle.base.specs.Bytes.{same}
 use Rattle.base.specs.Tables.{Rule, ◌says◌, None, above, said, Agree, Decides}
 use Rattle.base.proofs.Cases.{by}

@@ -1,6 +1,5 @@
 -- The number of the answer to an offer, as it crosses the boundary: a case or a refusal, and no other values.
-use Rattle.std.specs.Prelude.{ℕ, List, eqb}
-use Rattle.base.specs.Choice.{if◌then◌else◌}
+use Rattle.std.specs.Prelude.{ℕ, List, eqb, if◌then◌else◌}
 use Rattle.answers.specs.Answers.{Lent, lent}
 use Rattle.shelf_offer.specs.declared.Offered.{Offered}
 use Rattle.shelf_offer.specs.On.{Leaving, offer_on}
@@ -17,10 +16,10 @@ offered_code (Offered.Refused n) = n
 abbrev pub offered_in : ℕ → Offered
 offered_in code =
     if eqb code 256 then Offered.Began
-    else if eqb code 512 then Offered.BeganAgain
-    else if eqb code 768 then Offered.Added
-    else if eqb code 1024 then Offered.Repeat
-    else Offered.Refused code
+    else (if eqb code 512 then Offered.BeganAgain
+    else (if eqb code 768 then Offered.Added
+    else (if eqb code 1024 then Offered.Repeat
+    else Offered.Refused code)))
 
 -- what an offer leaves
 abbrev pub offer_out : Leaving → Lent

@@ -1,6 +1,5 @@
 -- Document 01, "Offering a sound section": the answer, the next record and the store, for every record of four places, store and payload.
-use Rattle.std.specs.Prelude.{ℕ, List, not, eqb, length}
-use Rattle.base.specs.Choice.{if◌then◌else◌}
+use Rattle.std.specs.Prelude.{ℕ, List, not, eqb, length, if◌then◌else◌}
 use Rattle.base.specs.Bytes.{same}
 use Rattle.section.specs.Section.{read_of}
 use Rattle.section.specs.declared.Header.{Header}
@@ -61,19 +60,19 @@ module _ (shelf : Shelf) (store payload : List ℕ) where
         store = put (wiped_where (holds (place_at shelf p)) sections store p) p h.number payload;
       }
       -- same version with another last number, also where the berth has the payload's bytes, which in a store lent back as left it has not
-      else if not (eqb (place_at shelf p).last h.last) then no 10
+      else (if not (eqb (place_at shelf p).last h.last) then no 10
       -- number not held: it is added
-      else if not (holds (place_at shelf p) h.number) then
+      else (if not (holds (place_at shelf p) h.number) then
       record {
         said = Offered.Added;
         shelf = with_place shelf p (added_place (place_at shelf p) h (length payload));
         store = put store p h.number payload;
       }
       -- same bytes throughout: a repeat, nothing changes
-      else if same (standing store p h.number (length_at (place_at shelf p) h.number)) payload then
+      else (if same (standing store p h.number (length_at (place_at shelf p) h.number)) payload then
       record { said = Offered.Repeat; shelf = shelf; store = store }
       -- other bytes at a held number
-      else no 10
+      else no 10)))
 
   unfoldable pub sound_of : Header → After
   sound_of h = if eqb (place_of shelf (key_of h)) places then new_of h else held_of (place_of shelf (key_of h)) h
@@ -86,4 +85,4 @@ module _ (shelf : Shelf) (store payload : List ℕ) where
   -- order: 17, 18, 1 to 8, 46, 9, 10
   unfoldable pub offer_of : After
   offer_of =
-      if not (eqb (length store) store_size) then no 17 else if spoiled_of shelf then no 18 else reading_of (read_of payload)
+      if not (eqb (length store) store_size) then no 17 else (if spoiled_of shelf then no 18 else reading_of (read_of payload))

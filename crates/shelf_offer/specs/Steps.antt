@@ -1,7 +1,6 @@
 -- Offering in two parts, as the code goes about it: the step that an offer comes to, and what is then done. `Offer` and `On` have the whole, and
 -- it is proved that the two parts are it (`step-done`, `decided`). Last, a step that writes, as numbers that one function hands to another.
-use Rattle.std.specs.Prelude.{ℕ, ◌+◌, ◌*◌, List, not, eqb, length}
-use Rattle.base.specs.Choice.{if◌then◌else◌}
+use Rattle.std.specs.Prelude.{ℕ, ◌+◌, ◌*◌, List, not, eqb, length, if◌then◌else◌}
 use Rattle.base.specs.Bytes.{same}
 use Rattle.section.specs.Section.{read_of, header_of}
 use Rattle.section.specs.declared.Header.{Header}
@@ -24,9 +23,9 @@ use Rattle.shelf_offer.specs.On.{begun_words}
 unfoldable pub held_step : Place → List ℕ → List ℕ → ℕ → Header → Step
 held_step place store payload p h =
     if not (eqb place.version h.version) then BeginsAgain p
-    else if not (eqb place.last h.last) then Refuse 10
-    else if not (holds place h.number) then Adds p
-    else if same (standing store p h.number (length_at place h.number)) payload then Repeats else Refuse 10
+    else (if not (eqb place.last h.last) then Refuse 10
+    else (if not (holds place h.number) then Adds p
+    else (if same (standing store p h.number (length_at place h.number)) payload then Repeats else Refuse 10)))
 
 module _ (shelf : Shelf) (store payload : List ℕ) where
   -- key not held
@@ -45,7 +44,7 @@ module _ (shelf : Shelf) (store payload : List ℕ) where
   unfoldable pub step_of : Step
   step_of =
       if not (eqb (length store) store_size) then Refuse 17
-      else if spoiled_of shelf then Refuse 18 else reading_step (read_of payload)
+      else (if spoiled_of shelf then Refuse 18 else reading_step (read_of payload))
 
   -- what is done at each step, with the header that the payload has
   unfoldable pub done : Step → After
@@ -105,7 +104,7 @@ what_by (Adds p) number = 768 + 2 * number
 -- the step that writes, by the kind of its answer, which is what_by / 256: 3 adds, 2 begins again, 1 begins. Any other number is read as 1, and
 -- nothing follows from it: what writes nothing comes here no more
 unfoldable pub step_by : ℕ → ℕ → Step
-step_by kind p = if eqb kind 3 then Adds p else if eqb kind 2 then BeginsAgain p else Begins p
+step_by kind p = if eqb kind 3 then Adds p else (if eqb kind 2 then BeginsAgain p else Begins p)
 
 -- of a table that begins, by that kind: the held sections that give way, as bits, and the answer
 unfoldable pub going_by : List ℕ → ℕ → ℕ → ℕ

@@ -1,6 +1,5 @@
 -- The number of the answer to a release, as it crosses the boundary: 0 where it is done.
-use Rattle.std.specs.Prelude.{ℕ, List, eqb}
-use Rattle.base.specs.Choice.{if◌then◌else◌}
+use Rattle.std.specs.Prelude.{ℕ, List, eqb, if◌then◌else◌}
 use Rattle.answers.specs.Answers.{Lent, lent}
 use Rattle.key.specs.declared.Key.{Key}
 use Rattle.shelf_release.specs.declared.Released.{Released}

@@ -1,6 +1,5 @@
 -- What the steps of saving come to: one section, and how many bytes a table takes in its file, from the held lengths alone.
-use Rattle.std.specs.Prelude.{ℕ, zero, suc, ◌+◌, ◌<◌, ◌≤◌, not, List, [], ◌∷◌, eqb, length, get_or}
-use Rattle.base.specs.Choice.{if◌then◌else◌}
+use Rattle.std.specs.Prelude.{ℕ, zero, suc, ◌+◌, ◌<◌, ◌≤◌, not, List, [], ◌∷◌, eqb, length, get_or, if◌then◌else◌}
 use Rattle.berth.specs.Berth.{berth_size, sections, standing}
 use Rattle.file_number.specs.Number.{spelt}
 

@@ -1,6 +1,5 @@
 -- What this layer's calls write, on any numbers: nothing where they are no record, or have no such place or section.
-use Rattle.std.specs.Prelude.{ℕ, List, eqb, length}
-use Rattle.base.specs.Choice.{if◌then◌else◌}
+use Rattle.std.specs.Prelude.{ℕ, List, eqb, length, if◌then◌else◌}
 use Rattle.key.specs.declared.Key.{Key}
 use Rattle.shelf.specs.Layout.{count}
 use Rattle.shelf.specs.Calls.{has_place, has_section}

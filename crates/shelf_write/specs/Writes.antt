@@ -1,7 +1,6 @@
 -- What the shelf's calls write into a record's numbers.
-use Rattle.std.specs.Prelude.{ℕ, ◌+◌, ◌-◌, ◌/◌, ◌%◌, ◌^◌, List, eqb, ltb, get_or, set}
+use Rattle.std.specs.Prelude.{ℕ, ◌+◌, ◌-◌, ◌/◌, ◌%◌, ◌^◌, List, eqb, ltb, get_or, set, if◌then◌else◌}
 use Rattle.std.specs.Int.Bits.{bit_or}
-use Rattle.base.specs.Choice.{if◌then◌else◌}
 use Rattle.key.specs.declared.Key.{Key}
 use Rattle.shelf.specs.Layout.{heads, masks, rests, count, at_length, at_table, at_extension, at_version, at_last, at_mask, at_service, at_high, at_low, listed}
 
@@ -30,7 +29,7 @@ head_in words p key version last = rest_in (row_in words p (256 + key.table) key
 
 -- number k of a fresh record: each length is 8, the head of place p is p, 0, 0, 0, each mask is 1 and the rest of each key 0
 abbrev pub fresh_number : ℕ → ℕ
-fresh_number k = if ltb k heads then 8 else if ltb k masks then (if eqb (k % 4) 0 then (k - heads) / 4 else 0) else if ltb k rests then 1 else 0
+fresh_number k = if ltb k heads then 8 else (if ltb k masks then (if eqb (k % 4) 0 then (k - heads) / 4 else 0) else (if ltb k rests then 1 else 0))
 
 unfoldable pub fresh_words : List ℕ
 fresh_words = listed count fresh_number

@@ -1,6 +1,5 @@
 -- How text is written: over an output that may be too short for it, from a place on.
-use Rattle.std.specs.Prelude.{ℕ, ◌+◌, ◌-◌, ◌^◌, ◌≡◌, List, [], ◌∷◌, ltb, set}
-use Rattle.base.specs.Choice.{if◌then◌else◌}
+use Rattle.std.specs.Prelude.{ℕ, ◌+◌, ◌-◌, ◌^◌, ◌≡◌, List, [], ◌∷◌, ltb, set, if◌then◌else◌}
 
 -- the place behind a byte. Places are numbers of 64 bits, so behind the highest there is none, and it stays
 unfoldable pub next_place : ℕ → ℕ

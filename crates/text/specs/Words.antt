@@ -1,7 +1,6 @@
 -- Text as bytes, as the lister has it, with numbers of up to thirteen digits and with names whose bytes may be any.
-use Rattle.std.specs.Prelude.{ℕ, ◌+◌, ◌/◌, ◌%◌, Bool, not, ◌&&◌, List, [], ◌∷◌, ◌++◌, ltb, leb, eqb}
+use Rattle.std.specs.Prelude.{ℕ, ◌+◌, ◌/◌, ◌%◌, Bool, not, ◌&&◌, List, [], ◌∷◌, ◌++◌, ltb, leb, eqb, if◌then◌else◌}
 use Prim.Native.String.{String}
-use Rattle.base.specs.Choice.{if◌then◌else◌}
 use Rattle.file_listing.specs.Words.{ascii, digits}
 
 -- a number up to 9,999,999,999,999, without leading zeros

@@ -1,6 +1,5 @@
 -- The number and the values of a trigger's reading: a number of refusal, and the eleven numbers that cross the boundary.
-use Rattle.std.specs.Prelude.{ℕ, ◌≡◌, List, [], ◌∷◌, ◌++◌, eqb, get_or}
-use Rattle.base.specs.Choice.{if◌then◌else◌}
+use Rattle.std.specs.Prelude.{ℕ, ◌≡◌, List, [], ◌∷◌, ◌++◌, eqb, get_or, if◌then◌else◌}
 use Rattle.answers.specs.Answers.{Told, told}
 use Rattle.trigger.specs.Trigger.{extent, read_of}
 use Rattle.trigger.specs.declared.Module.{Module}
@@ -34,12 +33,12 @@ trigger_told (Answer.Refused n) = told n []
 abbrev pub target_back : ℕ → ℕ → ℕ → ℕ → ℕ → Target
 target_back kind of a b c =
     if eqb kind 0 then Target.None
-    else if eqb kind 1 then Target.Module (record { download = a; group = b; number = c })
-    else if eqb kind 2 then Target.Tap a
-    else if eqb kind 3 then Target.AbsoluteUri (extent a b)
-    else if eqb kind 4 then Target.LidUri (extent a b)
-    else if eqb kind 5 then Target.HttpUri (extent a b)
-    else Target.Reserved (record { kind = of; bytes = extent a b })
+    else (if eqb kind 1 then Target.Module (record { download = a; group = b; number = c })
+    else (if eqb kind 2 then Target.Tap a
+    else (if eqb kind 3 then Target.AbsoluteUri (extent a b)
+    else (if eqb kind 4 then Target.LidUri (extent a b)
+    else (if eqb kind 5 then Target.HttpUri (extent a b)
+    else Target.Reserved (record { kind = of; bytes = extent a b }))))))
 
 abbrev pub trigger_back : List ℕ → Trigger
 trigger_back l =

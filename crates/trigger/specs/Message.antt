@@ -1,6 +1,5 @@
 -- What a payload says, read as a trigger: the message whose bytes it is to be.
-use Rattle.std.specs.Prelude.{ℕ, ◌+◌, List, length, drop, eqb}
-use Rattle.base.specs.Choice.{if◌then◌else◌}
+use Rattle.std.specs.Prelude.{ℕ, ◌+◌, List, length, drop, eqb, if◌then◌else◌}
 use Rattle.base.specs.Bytes.{byte, word, part}
 use Rattle.trigger_faults.specs.Fields.{id_length, target_at, user_at}
 use Rattle.trigger.specs.Layout.{Application, Aim, Message}
@@ -13,12 +12,12 @@ name_from c = if eqb (length c) 0 then Application.all else Application.named (w
 unfoldable pub aim_from : ℕ → List ℕ → Aim
 aim_from type b =
     if eqb (length b) 0 then Aim.nothing type
-    else if eqb type 1 then Aim.modular (word b 0) (word b 2) (word b 4)
-    else if eqb type 2 then Aim.tap (word b 0)
-    else if eqb type 3 then Aim.absolute b
-    else if eqb type 4 then Aim.lid b
-    else if eqb type 5 then Aim.http b
-    else Aim.reserved type b
+    else (if eqb type 1 then Aim.modular (word b 0) (word b 2) (word b 4)
+    else (if eqb type 2 then Aim.tap (word b 0)
+    else (if eqb type 3 then Aim.absolute b
+    else (if eqb type 4 then Aim.lid b
+    else (if eqb type 5 then Aim.http b
+    else Aim.reserved type b)))))
 
 -- the bytes of the three lists of a payload
 abbrev pub name_in : List ℕ → List ℕ

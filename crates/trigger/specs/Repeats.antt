@@ -1,6 +1,5 @@
 -- A table of refusals in which a number may stand more than once.
-use Rattle.std.specs.Prelude.{ℕ, List, [], ◌∷◌, Bool, true, not, ◌&&◌, ◌⊎◌, eqb}
-use Rattle.base.specs.Choice.{if◌then◌else◌}
+use Rattle.std.specs.Prelude.{ℕ, List, [], ◌∷◌, Bool, true, not, ◌&&◌, ◌⊎◌, eqb, if◌then◌else◌}
 use Rattle.base.specs.Tables.{Rule}
 
 -- a row of that number holds, and no row above it does

@@ -1,6 +1,6 @@
 -- Document 01, "A trigger" (A/93, clause 6): what a payload says, read as a trigger.
-use Rattle.std.specs.Prelude.{ℕ, ◌+◌, ◌-◌, List, eqb}
-use Rattle.base.specs.Choice.{first, if◌then◌else◌}
+use Rattle.std.specs.Prelude.{ℕ, ◌+◌, ◌-◌, List, eqb, if◌then◌else◌}
+use Rattle.base.specs.Choice.{first}
 use Rattle.base.specs.Bytes.{byte, word}
 use Rattle.trigger_faults.specs.Fields.{id_length, target_at, user_at, faults}
 use Rattle.trigger.specs.declared.Extent.{Extent}
@@ -29,12 +29,12 @@ module_of s at = record { download = word s at; group = word s (at + 2); number 
 abbrev pub kind_of : List ℕ → ℕ → ℕ → ℕ → Target
 kind_of s type at n =
     if eqb n 0 then Target.None
-    else if eqb type 1 then Target.Module (module_of s at)
-    else if eqb type 2 then Target.Tap (word s at)
-    else if eqb type 3 then Target.AbsoluteUri (extent at n)
-    else if eqb type 4 then Target.LidUri (extent at n)
-    else if eqb type 5 then Target.HttpUri (extent at n)
-    else Target.Reserved (record { kind = type; bytes = extent at n })
+    else (if eqb type 1 then Target.Module (module_of s at)
+    else (if eqb type 2 then Target.Tap (word s at)
+    else (if eqb type 3 then Target.AbsoluteUri (extent at n)
+    else (if eqb type 4 then Target.LidUri (extent at n)
+    else (if eqb type 5 then Target.HttpUri (extent at n)
+    else Target.Reserved (record { kind = type; bytes = extent at n }))))))
 
 -- the target whose type stands at a place
 unfoldable pub target_of : List ℕ → ℕ → Target

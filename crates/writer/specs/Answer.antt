@@ -1,6 +1,5 @@
 -- The number and the values of the writer's answers, in the numbers that cross the boundary, and what is so of them.
-use Rattle.std.specs.Prelude.{ℕ, ◌+◌, ◌*◌, ◌/◌, ◌^◌, ◌≡◌, List, ◌↔◌, eqb}
-use Rattle.base.specs.Choice.{if◌then◌else◌}
+use Rattle.std.specs.Prelude.{ℕ, ◌+◌, ◌*◌, ◌/◌, ◌^◌, ◌≡◌, List, ◌↔◌, eqb, if◌then◌else◌}
 use Rattle.answers.specs.Answers.{Out, out, refusal_in, size_code, size_or, Fills}
 use Rattle.writer.specs.Writer.{last_of, written, count_of, Write, write_of}
 use Rattle.writer.specs.declared.Counted.{Counted}

@@ -1,7 +1,7 @@
 -- Document 02, request 1: the sections of a body, and the refusals 59, 40, 41, 42 and 15. 59 is request 4's: an NRT-IT is
 -- not written, since a label does not say all of its key.
-use Rattle.std.specs.Prelude.{ℕ, ◌+◌, ◌-◌, ◌*◌, ◌/◌, ◌%◌, List, [], ◌∷◌, ◌++◌, ltb, eqb, length, drop}
-use Rattle.base.specs.Choice.{Row, ◌if◌, first, if◌then◌else◌}
+use Rattle.std.specs.Prelude.{ℕ, ◌+◌, ◌-◌, ◌*◌, ◌/◌, ◌%◌, List, [], ◌∷◌, ◌++◌, ltb, eqb, length, drop, if◌then◌else◌}
+use Rattle.base.specs.Choice.{Row, ◌if◌, first}
 use Rattle.base.specs.Bytes.{part}
 use Rattle.key.specs.Key.{nrt_it}
 use Rattle.section.specs.Section.{header_size, largest_section, most_sections}

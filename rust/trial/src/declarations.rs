@@ -55,8 +55,8 @@ pub fn in_rattle(text: &str) -> Vec<Function> {
         let ahead: Vec<_> = before.split_whitespace().rev().take(2).collect();
         assert_eq!(
             ahead,
-            ["pub", "#[no_mangle]"],
-            "an exported function is #[no_mangle] pub: {piece}"
+            ["pub", "#[unsafe(no_mangle)]"],
+            "an exported function is #[unsafe(no_mangle)] pub: {piece}"
         );
         before = piece.to_string();
         let (name, parameters, rest) = signature(piece);
@@ -316,8 +316,8 @@ mod tests {
     const RUST: &str =
         "// fn no();\nextern \"C\" {\n    pub fn f(a: *const u8, a_length: usize, b: *mut u32, \
         b_length: usize, c: *mut u16, d: u8) -> u16;\n    pub fn g();\n}\n";
-    const RATTLE: &str = "// fn\npub const WIDTH: usize = 16;\n#[no_mangle]\npub extern \"C\" fn f(a: &[u8], b: &mut [u32], \
-        c: &mut [u16; 4], d: u8) -> u16\n    ensures { λ r. ⌜ r ≡ 0 ⌝ }\n{\n    0\n}\n#[no_mangle]\npub extern \"C\" fn g() {\n}\n";
+    const RATTLE: &str = "// fn\npub const WIDTH: usize = 16;\n#[unsafe(no_mangle)]\npub extern \"C\" fn f(a: &[u8], b: &mut [u32], \
+        c: &mut [u16; 4], d: u8) -> u16\n    ensures { result ≡ 0 }\n{\n    0\n}\n#[unsafe(no_mangle)]\npub extern \"C\" fn g() {\n}\n";
 
     #[test]
     fn three_languages_agree() {

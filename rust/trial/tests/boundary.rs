@@ -38,7 +38,7 @@ fn sorted(mut functions: Vec<Function>) -> Vec<Function> {
 fn declarations_agree() {
     let header = sorted(in_header(&text(top("include/khumsafil_raw.h"))));
     let rust = sorted(in_rust(&text(top("rust/khumsafil/src/boundary.rs"))));
-    let sources = files(&top("crates/khumsafil/src"), ".rt");
+    let sources = files(&top("crates/khumsafil_c/src"), ".rt");
     let rattle = sorted(
         sources
             .iter()
@@ -95,12 +95,64 @@ fn the_inline_functions_reach_all() {
 /// A caller that is not Rattle is held to nothing, so no exported function may ask anything of it.
 #[test]
 fn no_exported_function_asks() {
-    for file in files(&top("crates/khumsafil/src"), ".rt") {
+    for file in files(&top("crates/khumsafil_c/src"), ".rt") {
         for exported in text(&file).split("extern \"C\" fn ").skip(1) {
             let (contract, _) = exported.split_once("\n{").expect("a body");
             assert!(!contract.contains("requires"), "{contract}");
         }
     }
+}
+
+/// The functions of a file of Rattle that begin so: each one's name, its head with its clauses in one line, and its body.
+fn promises(text: &str, start: &str) -> BTreeMap<String, (String, String)> {
+    let one_line = |text: &str| text.split_whitespace().collect::<Vec<_>>().join(" ");
+    let mut found = BTreeMap::new();
+    for piece in format!("\n{text}").split(&format!("\n{start}")).skip(1) {
+        let (name, _) = piece.split_once('(').expect("the parameters");
+        let (head, rest) = piece.split_once("\n{\n").expect("a body");
+        let (body, _) = rest.split_once("\n}").expect("the body's end");
+        // Whether the parameters stand in a line or in one each is the layout's to choose.
+        let head = one_line(head).replace("( ", "(").replace(", )", ")");
+        found.insert(
+            name.to_string(),
+            (head, one_line(body).replace("( ", "(").replace(", )", ")")),
+        );
+    }
+    found
+}
+
+/// What C links has the clauses of the function that the theorems speak of, word for word, and passes its arguments on as they came.
+#[test]
+fn exports_promise_what_they_pass_on() {
+    let mut count = 0;
+    for file in files(&top("crates/khumsafil_c/src"), ".rt") {
+        let layer = file
+            .file_stem()
+            .expect("a name")
+            .to_string_lossy()
+            .to_string();
+        if layer == "lib" {
+            continue;
+        }
+        let inner = text(top("crates/khumsafil/src").join(format!("{layer}.rt")));
+        let inner = promises(&inner, "pub fn ");
+        let outer = promises(&text(&file), "pub extern \"C\" fn ");
+        let names: Vec<_> = outer.keys().collect();
+        assert_eq!(names, inner.keys().collect::<Vec<_>>(), "{layer}");
+        for (name, (head, body)) in &outer {
+            assert_eq!(head, &inner[name].0);
+            let (parameters, _) = head.split_once(')').expect("the parameters' end");
+            let (_, parameters) = parameters.split_once('(').expect("the parameters");
+            let passed = parameters
+                .split(", ")
+                .filter_map(|p| Some(p.split_once(':')?.0));
+            let passed = passed.collect::<Vec<_>>().join(", ");
+            assert_eq!(body, &format!("khumsafil::{layer}::{name}({passed})"));
+            count += 1;
+        }
+    }
+    assert!(count > 0);
+    println!("{count} exports");
 }
 
 /// The boundary's crate and all that it reaches. A crate beside them may have a name of theirs for a number of its own.

@@ -256,23 +256,22 @@ const RT: &str = r#"#!/bin/sh
 kit=$(dirname "$0")/..
 case $1 in
 version) cat "$kit/home/KIT-ID" ;;
-doc) echo "$kit/home/docs/guide" ;;
-check)
-    echo "began $2" >>"$kit/calls"
+doc) echo "$kit/home/guide" ;;
+lib | run)
+    name=${PWD##*/}
+    echo "began $name" >>"$kit/calls"
     [ ! -f "$kit/slow" ] || sleep 0.3
-    mkdir -p target/stamp target/bin
-    echo 'rt: base proved (unchanged since it was last proved)'
+    printf 'rt: chose --jobs 2 for base\nlogic=proved functions=1\nrt: chose --jobs 2 for file\n'
     [ ! -f "$kit/fails" ] || {
-        printf 'crates/file/src/lib.rt:1: error: it does not hold\n  and why\nrt: file NOT PROVED (exit 1, 2 s)\n'
-        echo "ended $2" >>"$kit/calls"
+        printf 'src/lib.rt:1: error: it does not hold\n  and why\nlogic=not-proved\n'
+        echo "ended $name" >>"$kit/calls"
         exit 1
     }
-    echo 'rt: file proved (2 s)'
-    echo 'rt: lister proved (1 s)'
-    cat crates/*/src/* | sha256sum >target/stamp/lister
-    { echo '#!/bin/sh'; sed 's/^/echo /' crates/lister/src/main.rt; } >target/bin/lister
-    chmod +x target/bin/lister
-    echo "ended $2" >>"$kit/calls"
+    printf 'logic=proved functions=2\nrt: chose --jobs 2 for lister\nlogic=proved functions=1\n'
+    mkdir -p out
+    { echo '#!/bin/sh'; sed 's/^/echo /' src/main.rt; } >out/lister
+    chmod +x out/lister
+    echo "ended $name" >>"$kit/calls"
     ;;
 *) exit 98 ;;
 esac
@@ -323,9 +322,8 @@ impl Tree {
             fs::read(top("tools/kit")).expect("the kit"),
         );
         write_program(&outside, "kit/bin/rt", RT);
-        let own = format!("kit/home/on/{}", machine());
-        write_program(&outside, &format!("{own}/bin/rattle"), RATTLE);
-        write_program(&outside, &format!("{own}/toolchain/bin/clang"), CLANG);
+        write_program(&outside, "kit/home/bin/rattle", RATTLE);
+        write_program(&outside, "kit/home/toolchain/bin/clang", CLANG);
         Tree { outside }
     }
 
@@ -358,8 +356,9 @@ fn what_changed_is_built_anew() {
     let tree = Tree::new("anew");
     let first = tree.listed("refused 1\n");
     let expected = "tools/build: crates to be proved for lister: 3\n\
-                    tools/build: file is proved (2 s), 1 left\n\
-                    tools/build: lister is proved (1 s), 0 left\n\
+                    tools/build: base is proved, 2 left\n\
+                    tools/build: file is proved, 1 left\n\
+                    tools/build: lister is proved, 0 left\n\
                     tools/build: built lister for ";
     assert_eq!(first, format!("{expected}{}\n", machine()));
     // Nothing changed: nothing is built, and that is quick.
@@ -410,10 +409,10 @@ fn what_is_not_proved_is_told_whole() {
     let done = ended(tree.command("list", &[]));
     said(&done, "", 2);
     let told = text(&done.stderr);
-    let whole = "rt: base proved (unchanged since it was last proved)\n\
-                 crates/file/src/lib.rt:1: error: it does not hold\n  and why\n\
-                 rt: file NOT PROVED (exit 1, 2 s)\n\
-                 tools/build: failed: rt check lister\n";
+    let whole = "rt: chose --jobs 2 for file\n\
+                 src/lib.rt:1: error: it does not hold\n  and why\n\
+                 logic=not-proved\n\
+                 tools/build: failed: rt run in crates/lister\n";
     assert!(told.ends_with(whole), "{told}");
     assert_eq!(
         ended(tree.command("build", &["lister"])).status.code(),
@@ -481,17 +480,16 @@ fn the_names_of_what_is_proved_go_by() {
     };
     build();
     assert_eq!(build(), "");
-    fs::remove_file(top("target/stamp/base")).expect("rt's mark of a proved crate");
+    for mark in ["target/stamp/base", "crates/base/out/rlib/stamp"] {
+        fs::remove_file(top(mark)).expect("the mark of a proved crate");
+    }
     let told = build();
     let lines: Vec<_> = told.lines().collect();
     let [first, second] = lines[..] else {
         panic!("{told}");
     };
     assert_eq!(first, "tools/build: crates to be proved for lister: 1");
-    assert!(
-        second.starts_with("tools/build: base is proved (") && second.ends_with(" s), 0 left"),
-        "{told}"
-    );
+    assert_eq!(second, "tools/build: base is proved, 0 left");
 }
 
 /// Whose instructions the members of an archive are.

@@ -43,7 +43,7 @@ fn declared_in_antt(line: &str) -> Option<String> {
 /// The names that a line of Rattle declares.
 fn declared_in_rattle(line: &str) -> Option<String> {
     let mut rest = line.trim_start();
-    for word in ["#[no_mangle]", "pub ", "extern \"C\" "] {
+    for word in ["#[unsafe(no_mangle)]", "pub ", "extern \"C\" "] {
         rest = rest.strip_prefix(word).unwrap_or(rest).trim_start();
     }
     for word in ["fn ", "struct ", "enum ", "const "] {
@@ -63,7 +63,7 @@ fn names(root: &Path) -> BTreeSet<String> {
     let mut names = BTreeSet::new();
     for line in fs::read_to_string(root.join("crates.txt")).unwrap().lines() {
         if let Some((name, _)) = line.split_once(':') {
-            names.insert(name.trim().to_string());
+            names.extend(name.split_whitespace().next().map(str::to_string));
         }
     }
     let mut files = Vec::new();
@@ -142,7 +142,7 @@ fn a_name_that_is_not_there_is_seen() {
     let root = root();
     let names = names(&root);
     assert!(known("section::read", &root, &names));
-    assert!(known("readOf", &root, &names));
+    assert!(known("read_of", &root, &names));
     assert!(known("crates/section/specs/Section.antt", &root, &names));
     assert!(!known("section::reads_everything", &root, &names));
     assert!(!known("crates/section/specs/Sections.antt", &root, &names));

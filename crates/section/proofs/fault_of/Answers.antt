@@ -1,9 +1,7 @@
 -- `section::fault_of` meets its promise: at each `return` the tests that led there say which row of the table holds. A byte fits a
 -- wider number, since the rule for the slice gives each element its bound.
-use native.Mathlib.Omega.{arith}
 use Rattle.base.proofs.Tests.{tests}
 use Rattle.section.specs.Section.{fault_of}
-use borrow.Author.Rules.{rules}
 use Rattle.section.proofs.fault_of.Goals as goal
 
 pub returns-then-payload-lt-HEADER : goal.returns-then-payload-lt-HEADER

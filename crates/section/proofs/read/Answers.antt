@@ -1,5 +1,4 @@
 -- `section::read` meets its promise: the first number that applies refuses, and else the bytes that are read are there.
-use borrow.Author.Rules.{rules}
 use native.Mathlib.Omega.{arith}
 use Rattle.section.proofs.Keys.{key-built}
 use Rattle.section.proofs.Faults.{read_refused, read_none, holds-header, holds_key, read-built}

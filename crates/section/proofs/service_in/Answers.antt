@@ -1,5 +1,4 @@
 -- `section::service_in` meets its promise: the body is read only where the table is an NRT-IT, which is then long enough.
-use native.Mathlib.Omega.{arith}
 use Rattle.section.specs.Section.{service_id}
 use Rattle.section.proofs.Keys.{of_other, of-list}
 use Rattle.section.proofs.service_in.Goals as goal

@@ -1,9 +1,7 @@
 -- `section::start_in` meets its promise: the body is read only where the table is an NRT-IT, which is then long enough.
-use native.Mathlib.Omega.{arith}
 use mathlib.Core.Path.{◌∙◌}
 use Rattle.section.specs.Section.{time_span_start}
 use Rattle.section.proofs.Keys.{of_other, of-list}
-use borrow.Author.Rules.{rules}
 use Rattle.section.proofs.start_in.Goals as goal
 
 pub returns-then-table-ne-NRT_IT : goal.returns-then-table-ne-NRT_IT
