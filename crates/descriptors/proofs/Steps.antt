@@ -14,7 +14,6 @@ use Rattle.base.specs.Bytes.{byte}
 use Rattle.base.proofs.Cases.{by, either, or_right, unlike}
 use Rattle.descriptors.specs.declared.Descriptor.{Descriptor}
 use Rattle.descriptors.specs.declared.Step.{Step}
-use Rattle.descriptors.specs.declared.Step.TheVariants
 use Rattle.descriptors.specs.Loop.{step_of, view_of, descriptor_at, beyond, runs_past}
 use Rattle.descriptors.specs.Theorems.{Stands}
 

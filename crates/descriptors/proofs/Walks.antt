@@ -13,7 +13,6 @@ use native.Mathlib.Omega.{arith}
 use lib.ListN.{length, drop, take-append-drop}
 use lib.Seq.{drop-cons, drop-drop, drop-length}
 use Rattle.base.specs.Bytes.{byte, part}
-use Rattle.descriptors.specs.declared.Descriptor.{Descriptor}
 use Rattle.descriptors.specs.declared.Step.{Step}
 use Rattle.descriptors.specs.Loop.{step_of, descriptor_at}
 use Rattle.descriptors.specs.Walk.{onward, walk, Unrefused, tiles}

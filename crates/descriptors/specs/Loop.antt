@@ -3,7 +3,6 @@ use Rattle.std.specs.Prelude.{ℕ, ◌+◌, List, [], Bool, ◌||◌, length, lt
 use Rattle.base.specs.Bytes.{byte, part}
 use Rattle.descriptors.specs.declared.Descriptor.{Descriptor}
 use Rattle.descriptors.specs.declared.Step.{Step}
-use Rattle.descriptors.specs.declared.Step.TheVariants
 
 -- the place is beyond the loop's end
 abbrev pub beyond : List ℕ → ℕ → Bool

@@ -5,7 +5,6 @@ use Rattle.std.specs.Prelude.{ℕ, ◌+◌, List, [], ◌∷◌, Bool, false, �
 use Rattle.base.specs.Bytes.{byte}
 use Rattle.base.specs.Below.{every}
 use Rattle.descriptors.specs.declared.Step.{Step}
-use Rattle.descriptors.specs.declared.Step.TheVariants
 use Rattle.descriptors.specs.Loop.{step_of}
 use Rattle.descriptors.specs.Letter.{matches}
 

@@ -1,6 +1,5 @@
 -- Document 01, "Descriptors": the walk of a loop, step after step.
 use Rattle.std.specs.Prelude.{ℕ, zero, suc, ◌+◌, ◌/◌, ◌%◌, ◌^◌, ◌≡◌, List, [], ◌∷◌, ◌++◌, length}
-use Rattle.descriptors.specs.declared.Descriptor.{Descriptor}
 use Rattle.descriptors.specs.declared.Step.{Step}
 use Rattle.descriptors.specs.Loop.{step_of, content_of}
 use Rattle.descriptors.specs.Answer.{step_code}

@@ -13,7 +13,6 @@ use Rattle.base.specs.Bytes.{byte}
 use Rattle.programme.specs.Table.{flags_at, playback_length_at, playback_delay_at, expiration_at, content_size_at, content_name_length_at, content_name_at}
 use Rattle.programme.specs.Table.{num_content_descriptors_at, content_descriptors_at}
 use Rattle.programme.specs.Table.{content_linkage, flags, playback_length, playback_delay, expiration, content_size, content_name_length, num_content_descriptors}
-use Rattle.programme.specs.Run.{passes}
 use Rattle.programme.specs.Reading.{cut, early, read_of, item_run, own_run, item_faults, item_of, item_at, step_of, own_at, own_of}
 use Rattle.programme.specs.declared.Run.{Run}
 use Rattle.programme.specs.declared.Programme.{Programme}

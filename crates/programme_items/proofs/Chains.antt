@@ -6,7 +6,7 @@ use mathlib.Core.Path.{◌≡◌, refl, sym, ap, ◌∙◌}
 use mathlib.Core.List.{List, [], ◌∷◌, ◌++◌}
 use Prim.Native.Nat.{ℕ, zero, suc, ◌+◌, ◌-◌, ◌*◌, ◌<◌, ◌≤◌}
 use native.Mathlib.Omega.{arith}
-use lib.ListN.{length, length-append, drop, set}
+use lib.ListN.{length, drop, set}
 use lib.Seq.{sets, sets-eq, length-sets}
 use Rattle.answers.specs.Answers.{Out, out}
 use Rattle.programme.specs.Table.{content_descriptors_at}

@@ -4,14 +4,12 @@
 --   told_none, told-one                      what one item's room tells
 --   walk_refused, walk-over, walk-short, walk_none, walk-handed     each way out of a call
 use mathlib.Core.Path.{◌≡◌, refl, sym, ap, subst, ◌∙◌}
-use mathlib.Core.Bool.{true, false}
 use mathlib.Core.List.{List, [], ◌∷◌, ◌++◌}
 use mathlib.Core.Logic.{◌⊎◌, ⊎_elim, inl, inr}
-use Prim.Native.Nat.{ℕ, zero, suc, ◌+◌, ◌-◌, ◌*◌, ◌/◌, ◌%◌, ◌^◌, ◌<◌, ◌≤◌, min}
+use Prim.Native.Nat.{ℕ, zero, suc, ◌+◌, ◌-◌, ◌*◌, ◌/◌, ◌<◌, ◌≤◌, min}
 use native.Mathlib.Omega.{arith}
 use lib.Dec.{ltb, leb}
-use lib.ListN.{length, length-append, get_or, drop}
-use lib.Seq.{get_or-append-add}
+use lib.ListN.{length, get_or, drop}
 use borrow.Author.Tests.{lt-ltb, le-ltb, ltb-true, ltb-false, le-leb, lt-leb, leb-true, leb-false}
 use Rattle.base.specs.Octets.{Octets}
 use Rattle.base.proofs.Cases.{by}
@@ -30,8 +28,7 @@ use Rattle.programme_items.specs.declared.Lies.{Lies}
 use Rattle.programme_items.specs.declared.Walk.{Walk}
 use Rattle.programme.proofs.Items.{item_to, item-early, step-item}
 use Rattle.programme_items.proofs.Places.{lies-item, lies-none}
-use Rattle.programme_items.proofs.Chains.{chain-none, chain_next, chain-zero, chain-short, all-long}
-use Rattle.programme.proofs.Within.{Stands, item-stands}
+use Rattle.programme_items.proofs.Chains.{chain-none, chain_next, chain-zero, chain-short}
 use Rattle.programme_items.proofs.Narrows.{narrow, back}
 
 -- how many are left, by how many there are

@@ -1,13 +1,11 @@
 -- An item's ten numbers are as narrow as its fields, and tell it.
 --   narrow     of the item at a place
 --   back       it comes back out of them
-use mathlib.Core.Path.{◌≡◌, refl, sym, ap, ◌∙◌}
+use mathlib.Core.Path.{◌≡◌, sym}
 use mathlib.Core.Bool.{Bool, true, false}
-use mathlib.Core.List.{List, [], ◌∷◌, ◌++◌}
-use Prim.Native.Nat.{ℕ, zero, suc, ◌+◌, ◌-◌, ◌*◌, ◌/◌, ◌%◌, ◌^◌, ◌<◌, ◌≤◌}
+use mathlib.Core.List.{List, ◌++◌}
+use Prim.Native.Nat.{ℕ, ◌+◌, ◌-◌, ◌^◌, ◌<◌, ◌≤◌}
 use native.Mathlib.Omega.{arith}
-use lib.ListN.{length, length-append, get_or}
-use Rattle.base.specs.Bytes.{byte}
 use Rattle.base.specs.Octets.{Octets}
 use Rattle.programme.specs.Field.{number, only, low}
 use Rattle.programme.specs.Table.{flags, playback_length_at, playback_delay_at, expiration_at, content_name_length, content_name_at, content_descriptors_at, num_content_descriptors_at}
@@ -19,7 +17,7 @@ use Rattle.programme.specs.declared.Item.{Item}
 use Rattle.programme.specs.declared.Step.{Step}
 use Rattle.programme.proofs.Numbers.{two_is, four_is}
 use Rattle.programme.proofs.Items.{item_to}
-use Rattle.programme.proofs.Within.{Stands, item-stands}
+use Rattle.programme.proofs.Within.{item-stands}
 
 only_below : (b : Bool) (n m : ℕ) → n < m → only b n < m
 only_below true n m h = h

@@ -1,7 +1,7 @@
 -- Stores from a place of the lent numbers on are a list of numbers put there.
 --   four-sets, included-made     the four fields that flags may include
 --   item-made                    an item's ten numbers
-use mathlib.Core.Path.{◌≡◌, ◌∙◌, ap}
+use mathlib.Core.Path.{◌≡◌}
 use mathlib.Core.List.{List, [], ◌∷◌}
 use Prim.Native.Nat.{ℕ, suc, ◌+◌, ◌/◌, ◌%◌}
 use native.Mathlib.Omega.{arith}

@@ -4,7 +4,6 @@ use Rattle.base.specs.Choice.{◌if◌, first}
 use Rattle.programme.specs.Reading.{step_of}
 use Rattle.programme.specs.declared.Item.{Item}
 use Rattle.programme.specs.declared.Step.{Step}
-use Rattle.programme_items.specs.declared.Passed.{Passed}
 use Rattle.programme_items.specs.declared.Walk.{Walk}
 
 -- an item's ten numbers: its fixed fields and those that its flags include, else 0; where its name begins; how many descriptors it has

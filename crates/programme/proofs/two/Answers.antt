@@ -1,0 +1,9 @@
+-- `programme::two` meets its contract.
+use Rattle.programme.proofs.Numbers.{in-short, two_made}
+use Rattle.programme.proofs.two.Goals as goal
+
+pub returns-then-field-lt2 : goal.returns-then-field-lt2
+returns-then-field-lt2 c = in-short _ _ c.if-field-lt2.true
+
+pub returns : goal.returns
+returns c = two_made _ c.if-field-lt2.false c.half.ensures.0 c.half-2.ensures.0
