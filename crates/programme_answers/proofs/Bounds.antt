@@ -20,13 +20,13 @@ use Rattle.programme.specs.declared.Reading.{Reading}
 use Rattle.programme.specs.declared.Item.{Item}
 use Rattle.programme.specs.declared.Step.{Step}
 use Rattle.programme.proofs.Readings.{listed}
-use Rattle.programme.proofs.Items.{item_to, step-refused, step_over, step-item}
-use Rattle.programme.proofs.Within.{Stands, item-stands}
+use Rattle.programme.proofs.Items.{step-refused, step_over, step-item}
+use Rattle.programme.proofs.Within.{item-stands}
 use Rattle.programme_items.specs.Items.{items_from, place_after, walked, walk_of, Walked}
 use Rattle.programme_items.specs.Parts.{chain}
 use Rattle.programme_items.specs.declared.Passed.{Passed}
 use Rattle.programme_items.specs.declared.Walk.{Walk}
-use Rattle.programme_items.proofs.Chains.{chain-none, chain_next, chain-zero, chain-short}
+use Rattle.programme_items.proofs.Chains.{chain-none, chain_next, chain-zero}
 use Rattle.programme_items.proofs.Handed.{either-there, counted, walk_refused, walk-over, walk-short, walk-there}
 
 -- the list that has an item

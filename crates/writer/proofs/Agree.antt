@@ -1,7 +1,7 @@
 -- Sections written and read agree.
 --   reads_back    a written section is read as its label, its number, the last number and its part of the body
 --   writes_back   a sound section whose reserved bits are 1 is laid out as its own fields are
-use mathlib.Core.Path.{◌≡◌, sym, ap, ◌∙◌}
+use mathlib.Core.Path.{◌≡◌, ap, ◌∙◌}
 use mathlib.Core.List.{List, ◌∷◌}
 use mathlib.Core.Logic.{inl, inr, ⊎_elim}
 use Prim.Native.Nat.{ℕ, ◌+◌, ◌-◌, ◌*◌, ◌/◌, ◌%◌, ◌≤◌}

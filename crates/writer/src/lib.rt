@@ -2,7 +2,7 @@
 // number and written into a lent buffer. It writes no NRT-IT (request 4), since a label does not say all of its key.
 #![tactic(auto)]
 
-ghost use Rattle.std.specs.Prelude.{◌≡◌, ◌+◌, ◌≤◌, length};
+ghost use Rattle.std.specs.Prelude.{◌≡◌, ◌++◌, ◌+◌, ◌≤◌, length, drop};
 ghost use Rattle.answers.specs.Answers.{out as out_of};
 ghost use Rattle.writer.specs.Writer.{last_of, end_of, count_of, header_of, section_of, write_of, write};
 ghost use Rattle.writer.specs.Answer.{count_lent, section_lent};
@@ -23,7 +23,7 @@ pub enum Written {
 }
 
 // What a bench gives to every section of its table.
-#[derive(Drop)]
+#[derive(Clone, Copy)]
 pub struct Label {
     pub table: u8,
     pub extension: u16,
@@ -100,14 +100,22 @@ fn header(label: Label, k: u8, last: u8, length: usize) -> [u8; 8]
     [label.table, high, low, upper, lower, current, k, last]
 }
 
+// Bytes at the front of a buffer that has room for them; those past them stay as they were.
+fn copy(from: &[u8], to: &mut [u8])
+    requires { length from.now ≤ length to.old }
+    ensures { to.new ≡ from.now ++ drop (length from.now) to.old }
+{
+    to[..from.len()].copy_from_slice(from);
+}
+
 // Section k with these bytes as its body, into a buffer of just its size.
 fn fill(label: Label, k: u8, last: u8, body: &[u8], out: &mut [u8])
     requires { (length body.now ≤ 1016) × (label.version ≤ 31) × (length out.old ≡ 8 + length body.now) }
     ensures { out.new ≡ section_of label k last body.now }
 {
     let head = header(label, k, last, body.len());
-    bytes::copy(&head, &mut out[..section::HEADER]);
-    bytes::copy(body, &mut out[section::HEADER..]);
+    copy(&head, &mut out[..section::HEADER]);
+    copy(body, &mut out[section::HEADER..]);
 }
 
 // Section k of the table that carries the body, written at the front of the output; bytes past it stay as they were.
