@@ -1,7 +1,7 @@
 -- Each refusal is given exactly when document 01's table says so, in its order.
 --   offering, moving                                        every answer has its reason
 --   offer-when, move-when, time-when, state-when            each number is given exactly when its words hold
-use Rattle.std.specs.Prelude.{if◌then◌else◌}
+use Rattle.base.specs.Choice.{If◌then◌else◌}
 use mathlib.Core.Path.{◌≡◌, refl, sym, ap, subst, ◌∙◌}
 use mathlib.Core.Bool.{false}
 use Prim.Native.Nat.{ℕ, ◌+◌, ◌*◌, ◌%◌, ◌^◌, ◌<◌, ◌≤◌}
@@ -86,12 +86,12 @@ module _ (b : Book) (a : Activation) where
   -- what each number says
   abbrev Says : ℕ → Type 0
   Says n =
-      if eqb n 35 then Spoiled b
-      else (if eqb n 30 then ¬ Spoiled b × (7 < a.application)
-      else (if eqb n 32 then ¬ Spoiled b × (a.application ≤ 7) × (a.time + memory < b.now)
-      else (if eqb n 33 then ¬ Spoiled b × (a.application ≤ 7) × (b.now ≤ a.time + memory) × Holds b a
-      else (if eqb n 34 then ¬ Spoiled b × (a.application ≤ 7) × (b.now ≤ a.time + memory) × (¬ Holds b a) × (most_held ≤ length b.held)
-      else (if eqb n 0 then NoneOffered b a
+      If eqb n 35 then Spoiled b
+      else (If eqb n 30 then ¬ Spoiled b × (7 < a.application)
+      else (If eqb n 32 then ¬ Spoiled b × (a.application ≤ 7) × (a.time + memory < b.now)
+      else (If eqb n 33 then ¬ Spoiled b × (a.application ≤ 7) × (b.now ≤ a.time + memory) × Holds b a
+      else (If eqb n 34 then ¬ Spoiled b × (a.application ≤ 7) × (b.now ≤ a.time + memory) × (¬ Holds b a) × (most_held ≤ length b.held)
+      else (If eqb n 0 then NoneOffered b a
       else Unit {0})))))
 
   says : (x : Answered Heard) → Offering b a x → Says (refusal_of (heard_code x.answer))
@@ -155,7 +155,7 @@ module _ (b : Book) (to : ℕ) where
   moved n h e = ap (λ (x : Answered Moved). refusal_of (moved_code x.answer)) e ∙ h
 
   abbrev Told : ℕ → Type 0
-  Told n = if eqb n 35 then Spoiled b else (if eqb n 31 then ¬ Spoiled b × (to < b.now) else (if eqb n 0 then ¬ Spoiled b × (b.now ≤ to) else Unit {0}))
+  Told n = If eqb n 35 then Spoiled b else (If eqb n 31 then ¬ Spoiled b × (to < b.now) else (If eqb n 0 then ¬ Spoiled b × (b.now ≤ to) else Unit {0}))
 
   told : (x : Answered Moved) → Moving b to x → Told (refusal_of (moved_code x.answer))
   told x (Moving.spoiled s) = s

@@ -1,6 +1,7 @@
 -- Document 01, "Offering a sound section", by the log alone: what a log says of a table and a sound section of it exactly when the
 -- section is answered so.
-use Rattle.std.specs.Prelude.{ℕ, ◌≡◌, true, false, ◌⊎◌, List, eqb, if◌then◌else◌}
+use Rattle.base.specs.Choice.{If◌then◌else◌}
+use Rattle.std.specs.Prelude.{ℕ, ◌≡◌, true, false, ◌⊎◌, List, eqb}
 use Rattle.section.specs.Section.{version, section_number, last_section_number}
 use Rattle.key.specs.declared.Key.{Key}
 use Rattle.shelf_offer.specs.declared.Offered.{Offered}
@@ -31,4 +32,4 @@ module _ (key : Key) (payload : List ℕ) (log : List Entry) where
   Says Offered.BeganAgain = (held_by key log ≡ true) × ¬ (version_since key log ≡ version payload)
   Says Offered.Added = Joins × (since key log (section_number payload) ≡ false)
   Says Offered.Repeat = Joins × (since key log (section_number payload) ≡ true) × (bytes_since key log (section_number payload) ≡ payload)
-  Says (Offered.Refused n) = if eqb n 9 then NoPlace else (if eqb n 10 then Differs else ⊥)
+  Says (Offered.Refused n) = If eqb n 9 then NoPlace else (If eqb n 10 then Differs else ⊥)
