@@ -1,10 +1,10 @@
-// Reads the standard input into a buffer, for the programs.
+// Reads an input, as the standard one, into a buffer, for the programs.
 #![tactic(auto)]
 
 ghost use Rattle.std.specs.Prelude.{length};
 ghost use Rattle.input.specs.Within.{Within};
 
-use libc::STDIN_FILENO;
+use std::io::Read;
 
 #[derive(Drop)]
 pub enum Input {
@@ -14,16 +14,15 @@ pub enum Input {
 }
 
 // Reads until the input ends or the buffer is full. A read that fails is not the end of the input.
-pub fn read_input(buffer: &mut [u8]) -> Input
+pub fn read_input<R: Read>(reader: &mut R, buffer: &mut [u8]) -> Input
     ensures { Within (length buffer.new) result }
 {
     let mut n = 0;
     while n < buffer.len() {
-        let got = libc::read(STDIN_FILENO, &mut buffer[n..]);
-        if got < 0 {
-            return Input::Failed;
-        }
-        let more = io::count(got, &buffer[n..]);
+        let more = match reader.read(&mut buffer[n..]) {
+            Ok(got) => got,
+            Err(_) => return Input::Failed,
+        };
         if more == 0 {
             return Input::Bytes(n);
         }

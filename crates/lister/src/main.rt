@@ -10,15 +10,15 @@ ghost use Rattle.input.specs.Within.{Within};
 
 use file_listing::Listed;
 use input::Input;
-use libc::{STDERR_FILENO, STDOUT_FILENO};
+use std::io::{self, Read};
 
 // Reads the input into a buffer that has room for one byte more than the largest file: what was cut off at its end is too long for a
 // file.
-fn read_whole(buffer: &mut [u8]) -> Input
+fn read_whole<R: Read>(reader: &mut R, buffer: &mut [u8]) -> Input
     requires { length buffer.old ≡ largest_file + 1 }
     ensures { Within (length buffer.new) result }
 {
-    input::read_input(buffer)
+    input::read_input(reader, buffer)
 }
 
 // One byte more than the largest file, so 16,419: an input that fills the buffer is no file, and is refused as one that has
@@ -33,23 +33,25 @@ fn list_whole(file: &[u8], text: &mut [u8]) -> Listed
     file_listing::list_file(file, text)
 }
 
-fn main() {
+fn main(rt: HostRuntime) -> io::Result<()> {
+    let mut reader = rt.stdin();
     let mut buffer = [0u8; BUFFER];
-    let input = read_whole(&mut buffer);
+    let input = read_whole(&mut reader, &mut buffer);
     match input {
         Input::Failed => {
-            io::write_all(STDERR_FILENO, b"lister: read failed\n");
+            eprintln!(rt; "lister: read failed")?;
         }
         Input::Bytes(n) => {
             let mut text = [0u8; file_listing::LARGEST];
             let listed = list_whole(&buffer[..n], &mut text);
             match listed {
                 Listed::Bytes(size) => {
-                    io::write_all(STDOUT_FILENO, &text[..size]);
+                    rt.write_all(&text[..size])?;
                 }
                 // No listing is longer than the text's room.
                 Listed::Refused(_) => {}
             }
         }
     }
+    Ok(())
 }

@@ -28,7 +28,7 @@ use Rattle.programme_laws.proofs.From.{From, long, after, next, first_byte}
 use Rattle.programme_laws.proofs.Digits.{field-says, field-after, field-reads, number_fits}
 use Rattle.programme_laws.proofs.Loops.{run-written, Written, run-reads}
 use Rattle.programme_laws.proofs.Optionals.{opt-after, opt-says, optional_from, opt-fits, opt-reads, opt-flag}
-use Rattle.programme_laws.proofs.Flags.{included-bit, ten, ninth, eighth, seventh, sixth, fifth, fourth, third, second, first, zeroth, gathered}
+use Rattle.programme_laws.proofs.Flags.{included-bit, ninth, eighth, seventh, sixth, fifth, fourth, third, second, first, zeroth, gathered}
 
 module _ (c : Content) (r : List ℕ) where
   pub front-split : front_bytes c r ≡ front_bytes c [] ++ r

@@ -3,7 +3,7 @@
 --   field-reads                 bytes are what their number is written as
 --   number_fits                 which fits
 use mathlib.Core.Path.{◌≡◌, refl, ap, ◌∙◌}
-use mathlib.Core.List.{List, ◌∷◌, ◌++◌, append_assoc}
+use mathlib.Core.List.{List, [], ◌∷◌, ◌++◌, append_assoc}
 use Prim.Native.Nat.{ℕ, zero, suc, ◌+◌, ◌*◌, ◌/◌, ◌%◌, ◌<◌, ◌≤◌}
 use native.Mathlib.Nat.{zero-add, add-suc}
 use native.Mathlib.Omega.{arith}
@@ -36,7 +36,9 @@ digits-say zero v r h = omega arith
 digits-say (suc n) v r h =
     let high : number (digits n (v / 256) ++ (v % 256 ∷ r)) 0 n ≡ v / 256 = digits-say n (v / 256) (v % 256 ∷ r) (omega arith) in
     let low : byte (digits n (v / 256) ++ (v % 256 ∷ r)) n ≡ v % 256 = behind-them (digits n (v / 256)) n (v % 256) r (digits_long n (v / 256)) in
-    rw (append_assoc, zero-add, high, low) (omega arith)
+    let e : digits (suc n) v ++ r ≡ digits n (v / 256) ++ (v % 256 ∷ r) = append_assoc (digits n (v / 256)) (v % 256 ∷ []) r in
+    let g : number (digits n (v / 256) ++ (v % 256 ∷ r)) 0 (suc n) ≡ v = rw (zero-add, high, low) (omega arith) in
+    ap (λ l. number l 0 (suc n)) e ∙ g
 
 module _ (n v : ℕ) {s : List ℕ} {at : ℕ} (r : List ℕ) (f : From s at (digits n v ++ r)) where
   pub field-says : v < span n → number s at n ≡ v

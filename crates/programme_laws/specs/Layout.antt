@@ -1,6 +1,6 @@
 -- Source document 004, Table 6.5: the bytes of a section's body from what it says, in the table's order. Reserved bits are fields here, so
 -- that every body that is read is some list's; no answer shows them.
-use Rattle.std.specs.Prelude.{ℕ, zero, suc, ◌+◌, ◌-◌, ◌*◌, ◌/◌, ◌%◌, ◌^◌, ◌<◌, List, [], ◌∷◌, ◌++◌, length}
+use Rattle.std.specs.Prelude.{ℕ, zero, suc, ◌+◌, ◌*◌, ◌/◌, ◌%◌, ◌^◌, ◌<◌, List, [], ◌∷◌, ◌++◌, length}
 use Rattle.base.specs.Octets.{Octets}
 use Rattle.programme.specs.Table.{first_item_at}
 use Rattle.programme.specs.declared.Programme.{Programme}

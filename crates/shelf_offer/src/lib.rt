@@ -36,7 +36,7 @@ pub const NO_FREE_PLACE: u8 = 9;
 pub const DIFFERS: u8 = 10;
 
 // What an offer of a sound section comes to where the record is not spoiled, and in which place.
-#[derive(Drop)]
+#[derive(Clone, Copy)]
 enum Step {
     Refuse(u8),
     Repeats,

@@ -6,7 +6,7 @@ use mathlib.Core.List.{List}
 use Prim.Native.Nat.{ℕ}
 use native.Mathlib.Omega.{arith}
 use lib.ListN.{length}
-use Rattle.base.specs.Tables.{said, Agree}
+use Rattle.base.specs.Tables.{Agree}
 use Rattle.base.proofs.Tables.{words, given, number-first, silent}
 use Rattle.answers.proofs.Fills.{zero-exactly}
 use Rattle.writer.specs.declared.Label.{Label}
