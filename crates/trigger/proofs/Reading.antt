@@ -13,7 +13,6 @@ use Rattle.base.specs.Bytes.{byte, word}
 use Rattle.base.specs.Octets.{Octets}
 use Rattle.base.proofs.Bytes.{length_part, octets-part}
 use Rattle.trigger.specs.declared.Answer.{Answer}
-use Rattle.trigger.specs.declared.Trigger.{Trigger}
 use Rattle.trigger_faults.specs.Fields.{wrong_length, is_uri, id_length, target_at, user_at}
 use Rattle.trigger.specs.Trigger.{target_of, trigger_of, read_of}
 use Rattle.trigger.specs.Layout.{Application, Message, Fit, name_bytes, aim_type, aim_bytes, laid, bytes_of, answer_of}

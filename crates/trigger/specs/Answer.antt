@@ -2,8 +2,6 @@
 use Rattle.std.specs.Prelude.{ℕ, ◌≡◌, List, [], ◌∷◌, ◌++◌, eqb, get_or, if◌then◌else◌}
 use Rattle.answers.specs.Answers.{Told, told}
 use Rattle.trigger.specs.Trigger.{extent, read_of}
-use Rattle.trigger.specs.declared.Module.{Module}
-use Rattle.trigger.specs.declared.Reserved.{Reserved}
 use Rattle.trigger.specs.declared.Target.{Target}
 use Rattle.trigger.specs.declared.Trigger.{Trigger}
 use Rattle.trigger.specs.declared.Answer.{Answer}

@@ -5,8 +5,6 @@ use Rattle.base.specs.Octets.{Octets}
 use Rattle.base.specs.Bytes.{byte}
 use Rattle.trigger.specs.Trigger.{extent}
 use Rattle.trigger.specs.declared.Extent.{Extent}
-use Rattle.trigger.specs.declared.Module.{Module}
-use Rattle.trigger.specs.declared.Reserved.{Reserved}
 use Rattle.trigger.specs.declared.Target.{Target}
 use Rattle.trigger.specs.declared.Trigger.{Trigger}
 

@@ -5,7 +5,6 @@ use Rattle.base.specs.Bytes.{byte, word}
 use Rattle.trigger_faults.specs.Fields.{id_length, target_at, user_at, faults}
 use Rattle.trigger.specs.declared.Extent.{Extent}
 use Rattle.trigger.specs.declared.Module.{Module}
-use Rattle.trigger.specs.declared.Reserved.{Reserved}
 use Rattle.trigger.specs.declared.Target.{Target}
 use Rattle.trigger.specs.declared.Trigger.{Trigger}
 use Rattle.trigger.specs.declared.Answer.{Answer}

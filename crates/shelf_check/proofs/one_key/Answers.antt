@@ -15,7 +15,7 @@ returns-then-key_number c = heads-differ _ _ _ (c.key_number.ensures ∙ among-k
 
 pub returns : goal.returns
 returns c = keys-alike _ _ _ (c.key_number.ensures ∙ among-key _ _ (search rules) (search rules)) (c.key_number-2.ensures ∙ among-key _ _ (search rules) (search rules)) c.if-words-p-ne1.false
-    (omega (arith, c.shared_slice_known-2-1.given (64 + 4 * c.args.p)))
-    (omega (arith, c.shared_slice_known-2-1.given (64 + 4 * c.args.q)))
+    (omega (arith, c.type_inv.words (64 + 4 * c.args.p)))
+    (omega (arith, c.type_inv.words (64 + 4 * c.args.q)))
     c.if-key_number.false c.same.ensures
     (c.key_in.ensures ∙ found-key _ _ (search rules) (search rules)) (c.key_in-2.ensures ∙ found-key _ _ (search rules) (search rules))

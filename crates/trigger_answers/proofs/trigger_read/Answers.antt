@@ -1,0 +1,24 @@
+-- `trigger_read` meets its promise: in each arm the answer is the one that `trigger::read_trigger` promises.
+use native.Mathlib.Omega.{arith}
+use mathlib.Core.Path.{sym}
+use Rattle.trigger_answers.proofs.Places.{narrow}
+use Rattle.trigger_answers.proofs.Laws.{lent-refused, lent-short, lent-put}
+use Rattle.trigger_answers.proofs.trigger_read.Goals as goal
+
+pub returns-then-fields-lt-NUMBERS : goal.returns-then-fields-lt-NUMBERS
+returns-then-fields-lt-NUMBERS c = lent-short _ _ _ (sym c.in-Trigger.ensures) c.if-fields-lt-NUMBERS.true
+
+pub put-requires : goal.put-requires
+put-requires c = (
+  narrow c.args.payload.now (λ k. omega (arith, c.type_inv.payload k)) _
+      (sym c.in-Trigger.ensures),
+  c.if-fields-lt-NUMBERS.false,
+)
+
+pub returns-in-Refused : goal.returns-in-Refused
+returns-in-Refused c = lent-refused _ _ _ (sym c.in-Refused.ensures)
+
+pub returns-else-fields-lt-NUMBERS : goal.returns-else-fields-lt-NUMBERS
+returns-else-fields-lt-NUMBERS c = lent-put _ _ _ (sym c.in-Trigger.ensures)
+    c.if-fields-lt-NUMBERS.false
+    c.put.ensures
