@@ -18,7 +18,7 @@ use file_number::Number;
 use key::Key;
 use section::{Header, Reading};
 
-#[derive(Drop)]
+#[derive(Clone, Copy)]
 pub enum Scan {
     // The header of the file's first section, with which all share key, version and last number.
     Table(Header),

@@ -12,7 +12,7 @@ use mathlib.Core.Bool.{false, not}
 use mathlib.Core.List.{List, [], ◌∷◌}
 use mathlib.Core.Logic.Iff
 use mathlib.Core.Logic.{◌↔◌, ⊎_elim, true-and}
-use Prim.Native.Nat.{ℕ, ◌<◌, ◌≤◌}
+use Prim.Native.Nat.{ℕ, ◌<◌}
 use native.Mathlib.Omega.{arith}
 use lib.Dec.{eqb}
 use lib.ListN.{length}
@@ -23,9 +23,8 @@ use Rattle.base.proofs.Cases.{by}
 use Rattle.base.proofs.Tables.{words, given, passed, silent, among}
 use Rattle.section.specs.declared.Header.{Header}
 use Rattle.berth.specs.Berth.{sections, places, store_size}
-use Rattle.shelf.specs.Record.{place_at, with_place, spoiled_of, has_key, place_of, free_of}
+use Rattle.shelf.specs.Record.{place_at, with_place, spoiled_of, place_of, free_of}
 use Rattle.key.specs.declared.Key.{Key}
-use Rattle.shelf.specs.Record.{Place}
 use Rattle.shelf.specs.Record.{Shelf}
 use Rattle.shelf.proofs.Find.{place-le, place-has}
 use Rattle.shelf.proofs.Words.{Some, HasKey, has-key, Spoiled, decided, not-held, none_free}
