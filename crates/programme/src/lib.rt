@@ -31,7 +31,7 @@ const MINUTES: usize = 14;
 const ITEMS: usize = 16;
 
 // What the fields before the items say: the service, when the time span begins and how many minutes it has, how many items.
-#[derive(Drop)]
+#[derive(Clone, Copy)]
 pub struct Programme {
     pub service: u16,
     pub start: u32,
@@ -53,7 +53,7 @@ pub enum Count {
 }
 
 // A loop of so many descriptors, by place and length.
-#[derive(Drop)]
+#[derive(Clone, Copy)]
 pub struct Loop {
     pub count: u8,
     pub place: usize,
@@ -61,7 +61,7 @@ pub struct Loop {
 }
 
 // A content item. The flags are ten bits, the first highest; a field that its flag does not include is 0.
-#[derive(Drop)]
+#[derive(Clone, Copy)]
 pub struct Item {
     pub linkage: u32,
     pub flags: u16,
