@@ -1,14 +1,13 @@
 -- How long the lines are, with thirteen digits for every number but a flag.
 --   refused-short, programme-short, list-short     of a section
 --   item-short                                     of an item: 160 bytes, 4 for each byte of its name, and 20 for each byte of the fields included
-use mathlib.Core.Bool.{true, false}
-use mathlib.Core.List.{List, [], ◌++◌}
-use Prim.Native.Nat.{ℕ, ◌+◌, ◌*◌, ◌/◌, ◌%◌, ◌^◌, ◌<◌, ◌≤◌}
+use mathlib.Core.List.{List}
+use Prim.Native.Nat.{ℕ, ◌+◌, ◌*◌, ◌/◌, ◌%◌, ◌≤◌}
 use native.Mathlib.Omega.{arith}
 use lib.ListN.{length, length-append}
 use Rattle.base.specs.Bits.{bit}
 use Rattle.base.proofs.Cases.{by}
-use Rattle.text.specs.Words.{decimal, escaped}
+use Rattle.text.specs.Words.{decimal}
 use Rattle.text.proofs.Short.{decimal-most, decimal-one, escaped-short}
 use Rattle.programme.specs.Field.{only}
 use Rattle.programme.specs.declared.Programme.{Programme}

@@ -2,17 +2,17 @@
 --   one_listing, list_comes_back, list_fills
 --   list-told        what listing promised, told in this number
 use mathlib.Core.Path.{◌≡◌, refl, sym, ap, ◌∙◌}
-use mathlib.Core.List.{List, [], ◌∷◌, ◌++◌}
-use Prim.Native.Nat.{ℕ, ◌*◌, ◌/◌, ◌%◌, ◌^◌, ◌<◌, ◌≤◌}
+use mathlib.Core.List.{List}
+use Prim.Native.Nat.{ℕ, ◌*◌, ◌%◌, ◌^◌, ◌<◌, ◌≤◌}
 use native.Mathlib.Omega.{arith}
 use lib.Dec.{ltb}
-use lib.ListN.{length, drop}
+use lib.ListN.{length}
 use borrow.Author.Tests.{ltb-true, ltb-false, eq-eqb}
 use Rattle.base.proofs.Cases.{by}
 use Rattle.answers.specs.Answers.{out, size_or}
-use Rattle.programme_listing.specs.Listing.{text_of, Listing, listing, list_of}
+use Rattle.programme_listing.specs.Listing.{text_of, listing, list_of}
 use Rattle.programme_listing.specs.Answer.{long_code, listed_code, list_out, list_lent}
-use Rattle.programme_listing.specs.Theorems.{Filled, OneListing, ListComesBack, ListFills}
+use Rattle.programme_listing.specs.Theorems.{OneListing, ListComesBack, ListFills}
 use Rattle.programme_listing.specs.declared.Listed.{Listed}
 
 pub long-back : {A : Type 0} (bytes refused : ℕ → A) (n : ℕ) → size_or bytes refused (long_code n) ≡ bytes n

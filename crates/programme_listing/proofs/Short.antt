@@ -5,7 +5,7 @@ use mathlib.Core.Path.{◌≡◌, refl, ap}
 use mathlib.Core.Bool.{Bool, true, false}
 use mathlib.Core.List.{List, ◌++◌}
 use mathlib.Core.Logic.{⊎_elim}
-use Prim.Native.Nat.{ℕ, zero, suc, ◌+◌, ◌*◌, ◌<◌, ◌≤◌}
+use Prim.Native.Nat.{ℕ, zero, suc, ◌+◌, ◌*◌, ◌≤◌}
 use native.Mathlib.Omega.{arith}
 use lib.Dec.{ltb, eqb}
 use lib.ListN.{length, get_or, drop, length-append}
@@ -14,7 +14,7 @@ use Rattle.base.specs.Below.{every}
 use Rattle.base.proofs.Bytes.{length_part}
 use Rattle.base.proofs.Cases.{by}
 use Rattle.section.specs.declared.Header.{Header}
-use Rattle.file.specs.Scan.{scan_of, found_at}
+use Rattle.file.specs.Scan.{scan_of}
 use Rattle.file.specs.declared.Scan.{Scan}
 use Rattle.file.proofs.Held.{held}
 use Rattle.file_listing.specs.Words.{lines}

@@ -2,10 +2,10 @@
 --   left-over        where bytes are left over, num_descriptors stands in the section
 --   item-facts       an item that was read lies in the section
 --   name-fits        and so does its name
-use mathlib.Core.Path.{◌≡◌, refl, sym, ap, ◌∙◌}
-use mathlib.Core.Bool.{true, false}
+use mathlib.Core.Path.{◌≡◌, refl, ap, ◌∙◌}
+use mathlib.Core.Bool.{false}
 use mathlib.Core.List.{List}
-use Prim.Native.Nat.{ℕ, ◌+◌, ◌<◌, ◌≤◌, ◌^◌}
+use Prim.Native.Nat.{ℕ, ◌+◌, ◌<◌, ◌≤◌}
 use native.Mathlib.Omega.{arith}
 use lib.Dec.{ltb, leb, eqb}
 use lib.ListN.{length}
@@ -15,7 +15,7 @@ use Rattle.base.proofs.Tables.{among}
 use Rattle.section.specs.Section as section
 use Rattle.section.specs.declared.Reading as reading
 use Rattle.programme.specs.Table.{content_name_at, content_name_length, content_descriptors_at}
-use Rattle.programme.specs.Reading.{faults, programme_of, read_by, read_of, item_at, step_by, step_of, own_at, own_of}
+use Rattle.programme.specs.Reading.{faults, programme_of, read_by, read_of, step_of, own_at, own_of}
 use Rattle.programme.specs.declared.Programme.{Programme}
 use Rattle.programme.specs.declared.Reading.{Reading}
 use Rattle.programme.specs.declared.Item.{Item}

@@ -3,7 +3,7 @@
 --   goes_on, ends-refused, ends-over, ends-own      by the step at its place
 --   own-whole, own-refused, own-left     the table's own loop
 --   section-refused, section-items       a section, by how it reads
-use mathlib.Core.Path.{◌≡◌, refl, sym, ap, ◌∙◌}
+use mathlib.Core.Path.{◌≡◌, refl, sym, ◌∙◌}
 use mathlib.Core.Bool.{Bool, true, false}
 use mathlib.Core.List.{List, [], ◌++◌}
 use Prim.Native.Nat.{ℕ, zero, suc, ◌+◌, ◌-◌, ◌<◌, ◌≤◌}

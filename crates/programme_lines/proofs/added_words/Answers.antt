@@ -11,8 +11,7 @@ use Rattle.text.specs.Words.{field}
 use Rattle.text.specs.Over.{Wrote}
 use Rattle.text.proofs.Short.{same-decimal, same-long}
 use Rattle.text.proofs.Writing.{nothing}
-use Rattle.programme_lines.proofs.added_words.Statement.{statement}
-use Rattle.programme_lines.proofs.added_words.Tie as tie
+use Rattle.programme_lines.proofs.added_words.Goals as goal
 
 module _ (key : Key) {out : List ℕ} {at : ℕ} where
   not-added : ¬ (key.table ≡ nrt_it) → Wrote (added_words key) out at out at
@@ -24,42 +23,8 @@ module _ (key : Key) {out : List ℕ} {at : ℕ} where
   unfolding added_words
   are-added e s t w = rw (eq-eqb key.table nrt_it e, ← same-decimal key.service s, ← same-long key.start t) w
 
-returns : tie.Need-returns
-returns c = not-added _ c.if1.true
+pub returns-then-key-ne-NRT_IT : goal.returns-then-key-ne-NRT_IT
+returns-then-key-ne-NRT_IT c = not-added _ c.if-key-ne-NRT_IT.true
 
-slice-aggregate-pair : tie.Need-slice-aggregate-pair
-slice-aggregate-pair c = search rules
-
-cast-pair : tie.Need-overflow-cast-pair
-cast-pair c = search rules
-
-slice-aggregate-pair-2 : tie.Need-slice-aggregate-pair-2
-slice-aggregate-pair-2 c = search rules
-
-cast-pair-2 : tie.Need-overflow-cast-pair-2
-cast-pair-2 c = search rules
-
-pair-requires : tie.Need-pair-requires
-pair-requires c κs = search rules
-
-same_length : tie.Need-same-length
-same_length c = search rules
-
-returns-2 : tie.Need-returns-2
-returns-2 c =
-    let at_pair = c.before.before in
-    let at-if1 = at_pair.before.before.before.before.before.before in
-    are-added _ at-if1.if1.false (search rules) (search rules) at_pair.pair.ensures
-
-pub added-words-spec : {M : Type 1} → statement M
-added-words-spec =
-    tie.close
-    (tie.spec
-    returns
-    slice-aggregate-pair
-    cast-pair
-    slice-aggregate-pair-2
-    cast-pair-2
-    pair-requires
-    same_length
-    returns-2)
+pub returns : goal.returns
+returns c = are-added _ c.if-key-ne-NRT_IT.false (search rules) (search rules) c.pair.ensures

@@ -1,0 +1,7 @@
+-- `programme_lines::item_line` meets its promise.
+use Rattle.programme_lines.specs.Lines.{item_line}
+use Rattle.programme_lines.proofs.item_line.Goals as goal
+
+pub returns : goal.returns
+unfolding item_line
+returns c = c.pair_line.ensures

@@ -1,0 +1,8 @@
+-- `programme_lines::optional_lines` meets its promise: the lines follow each other.
+use Rattle.text.proofs.Writing.{then}
+use Rattle.programme_lines.specs.Lines.{playback_line, delay_line, expires_line, size_line}
+use Rattle.programme_lines.proofs.optional_lines.Goals as goal
+
+pub returns : goal.returns
+unfolding playback_line delay_line expires_line size_line
+returns c = then c.line_where-playback.ensures (then c.line_where-delay.ensures (then c.line_where-expires.ensures c.line_where.ensures))

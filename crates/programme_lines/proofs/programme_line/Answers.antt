@@ -1,0 +1,10 @@
+-- `programme_lines::programme_line` meets its promise: the fields follow each other.
+use Rattle.text.proofs.Writing.{then, then-two}
+use Rattle.text.specs.Words.{field}
+use Rattle.programme_lines.specs.Lines.{programme_line}
+use Rattle.programme_lines.proofs.programme_line.Goals as goal
+
+pub returns : goal.returns
+unfolding programme_line
+returns c = let p = c.args.p in
+    then c.field-told.ensures (then-two (field " service " p.service) (field " start " p.start) c.pair-start.ensures c.pair_line.ensures)

@@ -1,0 +1,8 @@
+-- `programme_lines::refused_at` meets its promise: the fields follow each other.
+use Rattle.text.proofs.Writing.{then}
+use Rattle.programme_lines.specs.Lines.{refused_at}
+use Rattle.programme_lines.proofs.refused_at.Goals as goal
+
+pub returns : goal.returns
+unfolding refused_at
+returns c = then c.field-told.ensures c.pair_line.ensures

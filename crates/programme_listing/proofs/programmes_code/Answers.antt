@@ -1,0 +1,18 @@
+-- `programme_listing::programmes_code` meets its promise in each arm.
+use mathlib.Core.Path.{sym, ap, ◌∙◌}
+use borrow.Author.Rules.{rules}
+use Rattle.programme_listing.proofs.Answers.{list-told}
+use Rattle.programme_listing.proofs.Short.{listed-within}
+use Rattle.programme_listing.specs.Answer.{listed_code}
+use Rattle.programme_listing.specs.Listing.{listing}
+use Rattle.programme_listing.proofs.programmes_code.Goals as goal
+
+pub overflow_mul-result : goal.overflow_mul-result
+overflow_mul-result c = let within = listed-within _ _ _ _ (sym (ap (λ r. listing r c.list_programmes-listed.new.out) c.in-Bytes.is) ∙ c.list_programmes-listed.ensures) in
+    search rules
+
+pub returns-in-Bytes : goal.returns-in-Bytes
+returns-in-Bytes c = list-told _ _ _ _ _ c.list_programmes-listed.ensures (sym (ap listed_code c.in-Bytes.is))
+
+pub returns-in-Refused : goal.returns-in-Refused
+returns-in-Refused c = list-told _ _ _ _ _ c.list_programmes-listed.ensures (sym (ap listed_code c.in-Refused.is))
