@@ -1,5 +1,5 @@
 -- `programme_lines::head_line` meets its promise: the fields follow each other, each number as the lister writes it.
-use borrow.Author.Rules.{rules}
+use native.Mathlib.Omega.{arith}
 use Rattle.file_listing.specs.Listing.{head_line}
 use Rattle.text.proofs.Short.{same-decimal}
 use Rattle.text.proofs.Writing.{then, then-two}
@@ -9,12 +9,11 @@ use Rattle.programme_lines.proofs.head_line.Goals as goal
 pub returns : goal.returns
 unfolding head_line
 returns c = let h = c.args.h in
-    let known = c.struct_known-4-1.given in
     rw (
-      ← same-decimal h.key.table (search rules),
-      ← same-decimal h.key.extension (search rules),
-      ← same-decimal h.version (search rules),
-      ← same-decimal h.last (search rules),
+      ← same-decimal h.key.table (omega arith),
+      ← same-decimal h.key.extension (omega arith),
+      ← same-decimal h.version (omega arith),
+      ← same-decimal h.last (omega arith),
     )
     (then-two (field "table " h.key.table) (field " key " h.key.extension) c.pair-told.ensures
     (then c.added_words-added.ensures c.pair_line.ensures))
