@@ -150,11 +150,11 @@ fn a_function_that_is_not_refused_by_itself_is_seen() {
         ("scope", "`returns`: `x` is not in scope"),
         ("field", "`returns`: record `Loop` has no field `n`"),
     ] {
-        // It shows nothing by itself, and takes nothing from a fact that fails.
         let misfit = format!("./proofs/Clock/f/Answers.antt:5:9: error: {misfit}\n");
-        let line = "fn one::Clock::f: not proved\n";
-        assert!(!seen(name, &format!("{misfit}{line}")));
-        assert!(seen(name, &format!("{misfit}{own}{line}")));
+        assert!(!seen(
+            name,
+            &format!("{own}{misfit}fn one::Clock::f: not proved\n")
+        ));
     }
     let hint = "  `n` is not in scope here, so what is shown does not paste back\n";
     assert!(seen(
