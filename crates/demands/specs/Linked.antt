@@ -1,4 +1,4 @@
--- What the theorems of this crate and of clock_demands speak of is what a host links. `Learnt` is the promise of an exported function as the checker
+-- What the theorems of this crate and of clock_demands speak of is the boundary, each function of which `khumsafil_c` exports to C under the same promise. `Learnt` is the promise of such a function as the checker
 -- holds it, of its arguments `a`, its answer `z` and its arguments at exit `e`; each says the definition that the histories are made of, or that
 -- a theorem asks after one: the lamp's question, a place's and a file's change nothing, and are not among a history's calls. None of these functions asks anything of its host beyond its types. What it is lent to read only stays as it was, since nothing is written through such a loan.
 -- The theorems are in proofs/Linked: each promise is its own proof.
