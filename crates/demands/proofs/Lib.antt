@@ -1,5 +1,6 @@
 pub mod Shelf
 pub mod Offers
+pub mod OtherKeys
 pub mod Services
 pub mod Files
 pub mod Tables

@@ -2,15 +2,13 @@
 --   others-stay, services-apart, service-begins
 use mathlib.Core.Path.{◌≡◌, refl, sym, ap, subst, ◌∙◌}
 use mathlib.Core.Bool.{true, false}
-use mathlib.Core.List.{List, [], ◌∷◌}
-use mathlib.Core.Logic.{⊎_elim}
+use mathlib.Core.List.{List}
 use Prim.Native.Nat.{ℕ}
 use Rattle.base.proofs.Cases.{by, unlike}
 use Rattle.key.specs.Key.{nrt_it}
 use Rattle.section.specs.Section.{table_id, key_in}
-use Rattle.section.proofs.Keys.{lists_told_apart}
 use Rattle.answers.specs.Answers.{refusal_in}
-use Rattle.shelf_laws.specs.History.{Question, about, reply, after_all, whole}
+use Rattle.shelf_laws.specs.History.{reply, after_all, whole}
 use Rattle.shelf_laws.specs.Log.{held_by}
 use Rattle.shelf_laws.specs.Apart.{Others}
 use Rattle.shelf_laws.proofs.Apart as apart
@@ -20,22 +18,13 @@ use Rattle.shelf_histories.proofs.After.{reply-after}
 use Rattle.demands.specs.Services.{OthersStay, ThenOffers, OtherLists, ServicesApart, ServiceBegins}
 use Rattle.demands.proofs.Shelf.{held-exactly}
 use Rattle.demands.proofs.Offers.{began-exactly}
+use Rattle.demands.proofs.OtherKeys.{other_keys}
 
 pub others-stay : OthersStay
 others-stay first second payloads then q o =
     reply-after second q
     ∙ ap replied (ap (λ cs. reply (after_all cs) q) then ∙ apart.others-stay first.calls payloads q o)
     ∙ sym (reply-after first q)
-
--- such lists have other keys
-other_keys : (one : List ℕ) → table_id one ≡ nrt_it → (payloads : List (List ℕ)) → OtherLists one payloads → Others (key_in one) payloads
-other_keys one i [] o = tt
-other_keys one i (p ∷ ps) o = (
-  λ e.
-      let same = (lists_told_apart p one o.0 i).0 e in
-      ⊎_elim (λ d. d same.1) (λ d. d same.2) o.1,
-  other_keys one i ps o.2,
-)
 
 pub services-apart : ServicesApart
 services-apart first second one payloads i o then q e =

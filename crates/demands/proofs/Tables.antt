@@ -30,7 +30,7 @@ use Rattle.shelf_laws.proofs.Tables as tables
 use Rattle.shelf_histories.specs.History.{History, state_of, left_after, left_by, log_after, load_after}
 use Rattle.shelf_histories.proofs.OneHistory.{one-history}
 use Rattle.shelf_histories.proofs.Ties.{left-state}
-use Rattle.demands.specs.Tables.{tells, HeldTold, ToldHeld, ToldOnce, LoadTold, LoadUntold}
+use Rattle.demands.specs.Tables.{HeldTold, ToldHeld, ToldOnce, LoadTold, LoadUntold}
 use Rattle.demands.proofs.Shelf.{same_log}
 use Rattle.demands.proofs.Files.{load_code, load_told as answered-load, loaded-exactly}
 

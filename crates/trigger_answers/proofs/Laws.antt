@@ -115,6 +115,9 @@ module _ (size : ℕ) (fields : List ℕ) where
   unfolding can_be_read_by
   read-long e = leb-true 11 (length fields) (and_left (leb 11 (length fields)) _ e)
 
+-- whether numbers can be a payload's, each way out
+pub ruleset read_laws = (read-few, read-early, read-ends)
+
 -- both ways out of `trigger_belongs`
 module _ (s fields id : List ℕ) where
   pub belongs-not : {b : Bool} → b ≡ can_be_read_by (length s) fields → b ≡ false → false ≡ belongs_lent s fields id

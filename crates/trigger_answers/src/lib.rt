@@ -144,6 +144,7 @@ pub fn trigger_read(payload: &[u8], fields: &mut [u16]) -> u8
 }
 
 // Whether the numbers can be those that a reading of a payload of so many bytes left.
+#[tactic(auto, using(crate::proofs::Laws::read_laws))]
 fn can_be_read(size: usize, fields: &[u16]) -> bool
     ensures { result ≡ can_be_read_by size fields.now }
 {
