@@ -11,6 +11,9 @@ use Prim.Native.Nat.{ℕ, ◌%◌, ◌^◌, ◌<◌}
 use native.Mathlib.Omega.{arith}
 use lib.ListN.{length}
 use borrow.Author.Tests.{eq-eqb, ne_eqb}
+use Rattle.refusal.specs.Refusal.{number}
+use Rattle.refusal.specs.declared.Refusal.{Refusal}
+use Rattle.refusal.proofs.Numbers.{in_byte}
 use Rattle.base.specs.Choice.{Row, first}
 use Rattle.base.specs.Tables.{Rule, None, Agree, Each}
 use Rattle.base.proofs.Cases.{by}
@@ -24,14 +27,10 @@ module _ {A : Type 0} (bytes refused : ℕ → A) (n : ℕ) where
   pub refusal-back : 0 < n → n < 2 ^ 8 → size_or bytes refused n ≡ refused n
   refusal-back l h = rw (ne_eqb (n % 2 ^ 8) 0 (omega arith))
 
-pub through : {A B : Type 0} (view : A → B) (refused : ℕ → A) (rs : List Row) (other : A)
-    → view (first refused rs other) ≡ first (λ n. view (refused n)) rs (view other)
+pub through : {A B : Type 0} (view : A → B) (refused : Refusal → A) (rs : List Row) (other : A)
+    → view (first refused rs other) ≡ first (λ r. view (refused r)) rs (view other)
 through view refused [] other = refl
 through view refused (r ∷ rs) other = by r.when (λ t. rw t) (λ f. rw f (through view refused rs other))
-
--- a number of refusal, in 8 bits
-abbrev pub Refusal : ℕ → Type 0
-Refusal n = (0 < n) × (n < 2 ^ 8)
 
 pub refused-fills : (bytes old : List ℕ) (n : ℕ) → 0 < n → n < 2 ^ 8 → Fills bytes old (out n old)
 refused-fills bytes old n low high =
@@ -41,14 +40,16 @@ refused-fills bytes old n low high =
       size = λ z. absurd (omega arith);
     }
 
-refusals-keep : (bytes old : List ℕ) (rs : List Row) → Each Refusal rs → Each (λ n. Fills bytes old (out n old)) rs
-refusals-keep bytes old [] e = tt
-refusals-keep bytes old (r ∷ rs) e = (refused-fills bytes old r.no e.0.0 e.0.1, refusals-keep bytes old rs e.1)
+refusals-keep : (bytes old : List ℕ) (rs : List Row) → Each (λ r. Fills bytes old (out (number r) old)) rs
+refusals-keep bytes old [] = tt
+refusals-keep bytes old (r ∷ rs) =
+    let b = in_byte r.refusal in
+    (refused-fills bytes old (number r.refusal) b.0 b.1, refusals-keep bytes old rs)
 
-pub fills : (bytes old : List ℕ) (rs : List Row) → Each Refusal rs → length bytes < 2 ^ 16
-    → Fills bytes old (first (λ n. out n old) rs (filled bytes old))
-fills bytes old rs e h =
-    among (λ n. out n old) (Fills bytes old) rs (filled bytes old) (refusals-keep bytes old rs e)
+pub fills : (bytes old : List ℕ) (rs : List Row) → length bytes < 2 ^ 16
+    → Fills bytes old (first (λ r. out (number r) old) rs (filled bytes old))
+fills bytes old rs h =
+    among (λ r. out (number r) old) (Fills bytes old) rs (filled bytes old) (refusals-keep bytes old rs)
     (record {
       untouched = λ n. absurd (n (omega arith));
       accepted = (λ _. refl, λ _. omega arith);
@@ -56,15 +57,15 @@ fills bytes old rs e h =
     })
 
 -- the low 8 bits of a table's number are 0 exactly when no row holds, where what follows has none there
-pub zero-exactly : (rs : List Row) (ws : List Rule) → Agree rs ws → Each Refusal rs → (other : ℕ) → other % 2 ^ 8 ≡ 0
-    → (first (λ n. n) rs other % 2 ^ 8 ≡ 0) ↔ None ws
-zero-exactly [] [] g e other z = (λ _. tt, λ _. z)
-zero-exactly [] (w ∷ ws) g e other z = absurd g
-zero-exactly (r ∷ rs) [] g e other z = absurd g
-zero-exactly (r ∷ rs) (w ∷ ws) g e other z =
-    let low : 0 < r.no = e.0.0 in
-    let high : r.no < 2 ^ 8 = e.0.1 in
-    let rest = zero-exactly rs ws g.2 e.1 other z in
+pub zero-exactly : (rs : List Row) (ws : List Rule) → Agree rs ws → (other : ℕ) → other % 2 ^ 8 ≡ 0
+    → (first number rs other % 2 ^ 8 ≡ 0) ↔ None ws
+zero-exactly [] [] g other z = (λ _. tt, λ _. z)
+zero-exactly [] (w ∷ ws) g other z = absurd g
+zero-exactly (r ∷ rs) [] g other z = absurd g
+zero-exactly (r ∷ rs) (w ∷ ws) g other z =
+    let low : 0 < number r.refusal = (in_byte r.refusal).0 in
+    let high : number r.refusal < 256 = (in_byte r.refusal).1 in
+    let rest = zero-exactly rs ws g.2 other z in
     by r.when
     (λ t. rw t (λ y. absurd (omega arith), λ n. absurd (n.0 (g.1.0 t))))
     (λ f. rw f (λ y. (denied r.when g.1 f, rest.0 y), λ n. rest.1 n.1))

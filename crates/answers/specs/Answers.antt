@@ -1,6 +1,8 @@
 -- What a call over numbers that a host lends leaves; its answer is a number whose low 8 bits are the refusal.
-use Rattle.std.specs.Prelude.{ℕ, ◌*◌, ◌/◌, ◌%◌, ◌^◌, ◌≡◌, List, [], ◌∷◌, ◌++◌, not, ◌↔◌, ltb, eqb, length, drop, if◌then◌else◌}
-use Rattle.base.specs.Choice.{◌if◌, first}
+use Rattle.std.specs.Prelude.{ℕ, ◌*◌, ◌/◌, ◌%◌, ◌^◌, ◌≡◌, List, [], ◌∷◌, ◌++◌, not, ◌↔◌, ltb, eqb, length, drop, if◌then◌else◌, Result, Ok, Err}
+use Rattle.refusal.specs.Refusal.{number, number_of}
+use Rattle.refusal.specs.declared.Refusal.{Refusal}
+use Rattle.refusal.specs.declared.Refusal.TheVariants.{OutputTooSmall}
 
 -- what a call that may change a shelf leaves: the answer, the record's numbers, the store
 pub record Lent : Type 0 where
@@ -30,9 +32,11 @@ told number values = record { number = number; values = values }
 -- an answer's values at the front of a lent buffer, which stays as it was past them; its own refusal, or 15 where they do not fit
 abbrev pub puts : Told → List ℕ → Out
 puts t old =
-    first (λ n. out n old)
-    (t.number if not (eqb t.number 0) ∷ 15 if ltb (length old) (length t.values) ∷ [])
-    (out 0 (t.values ++ drop (length t.values) old))
+    if not (eqb t.number 0)
+    then out t.number old
+    else (if ltb (length old) (length t.values)
+    then out (number OutputTooSmall) old
+    else out 0 (t.values ++ drop (length t.values) old))
 
 -- the number of refusal in an answer, 0 for none
 abbrev pub refusal_in : ℕ → ℕ
@@ -42,6 +46,14 @@ refusal_in code = code % 2 ^ 8
 -- more than 65,535
 abbrev pub size_code : ℕ → ℕ
 size_code n = 256 * (n % 65536)
+
+-- what a call answers that was done, and one that filled an output with so many bytes; the refusal alone where it was refused
+abbrev pub done : {A : Type 0} → Result A Refusal → ℕ
+done = number_of
+
+abbrev pub sized : Result ℕ Refusal → ℕ
+sized (Ok n) = size_code n
+sized (Err r) = number r
 
 -- the size in an answer
 abbrev pub size_in : ℕ → ℕ

@@ -1,5 +1,7 @@
 -- A table of refusals in words. Its rows stand in the order of document 01; the tests of the same rows are a table of `Choice`.
 use Rattle.std.specs.Prelude.{ℕ, List, [], ◌∷◌, Bool, true, false, not, ◌&&◌, ◌||◌, ◌↔◌, ◌≡◌, eqb}
+use Rattle.refusal.specs.Refusal.{number}
+use Rattle.refusal.specs.declared.Refusal.{Refusal}
 use Rattle.base.specs.Choice.{Row, If◌then◌else◌}
 
 -- a row: the number, and what is so when it is given
@@ -29,12 +31,12 @@ said n (w ∷ ws) = If eqb w.no n then w.holds else said n ws
 -- a row has that number
 abbrev pub numbered : ℕ → List Row → Bool
 numbered n [] = false
-numbered n (r ∷ rs) = eqb r.no n || numbered n rs
+numbered n (r ∷ rs) = eqb (number r.refusal) n || numbered n rs
 
 -- no two rows have one number
 abbrev pub once : List Row → Bool
 once [] = true
-once (r ∷ rs) = not (numbered r.no rs) && once rs
+once (r ∷ rs) = not (numbered (number r.refusal) rs) && once rs
 
 -- the test holds exactly when the words are so
 abbrev pub Decides : Bool → Type 0 → Type 0
@@ -45,9 +47,9 @@ abbrev pub Agree : List Row → List Rule → Type 0
 Agree [] [] = Unit {0}
 Agree [] (w ∷ ws) = ⊥
 Agree (r ∷ rs) [] = ⊥
-Agree (r ∷ rs) (w ∷ ws) = (r.no ≡ w.no) × Decides r.when w.holds × Agree rs ws
+Agree (r ∷ rs) (w ∷ ws) = (number r.refusal ≡ w.no) × Decides r.when w.holds × Agree rs ws
 
--- so of the number of each row
-abbrev pub Each : (ℕ → Type 0) → List Row → Type 0
+-- so of the refusal of each row
+abbrev pub Each : (Refusal → Type 0) → List Row → Type 0
 Each p [] = Unit {0}
-Each p (r ∷ rs) = p r.no × Each p rs
+Each p (r ∷ rs) = p r.refusal × Each p rs

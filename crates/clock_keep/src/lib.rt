@@ -24,7 +24,7 @@ fn word_if(there: bool, word: u32) -> u32
 pub fn hold(states: u32, h: Held, words: [u32; SIZE]) -> [u32; SIZE]
     ensures { result ≡ holding states h words }
 {
-    let n = base::wide32(words[COUNT]);
+    let n = words[COUNT] as usize;
     if HELD <= n {
         return words;
     }

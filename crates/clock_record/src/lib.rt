@@ -192,7 +192,7 @@ fn two_alike(n: usize, words: &[u32; SIZE]) -> bool
 pub fn is_spoiled(words: &[u32; SIZE]) -> bool
     ensures { result ≡ spoiled (book_in words.now) }
 {
-    let n = base::wide32(words[COUNT]);
+    let n = words[COUNT] as usize;
     if HELD < n {
         return true;
     }

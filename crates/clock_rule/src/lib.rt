@@ -99,14 +99,14 @@ fn act(action: Action, state: State) -> State
 pub fn is_above(application: u8) -> bool
     ensures { result ≡ above application }
 {
-    APPLICATIONS <= base::wide8(application)
+    APPLICATIONS <= usize::from(application)
 }
 
 // The applications after an action on one of them. An action on none of them changes none.
 pub fn apply(apps: [App; APPLICATIONS], application: u8, action: Action) -> [App; APPLICATIONS]
     ensures { result ≡ applied apps application action }
 {
-    let at = base::wide8(application);
+    let at = usize::from(application);
     let mut next = apps;
     if at < APPLICATIONS {
         let app = next[at];

@@ -81,7 +81,7 @@ fn section_at(file: &[u8], at: usize) -> Part
             if LONGEST < length {
                 return Part::Refused(BAD_FILE);
             }
-            let size = base::wide(length);
+            let size = usize::from(length);
             if file.len() - start < size {
                 return Part::Refused(BAD_FILE);
             }
@@ -176,7 +176,7 @@ fn scan_sections(file: &[u8], count: usize, from: usize) -> Scanned
                 begun = true;
                 first = shared;
                 lowest = header.number + 1;
-                next = start + base::wide(length);
+                next = start + usize::from(length);
                 left -= 1;
             }
         }
@@ -210,7 +210,7 @@ fn read_count(file: &[u8], at: usize) -> Scanned
             if SECTIONS < count {
                 return refused(BAD_FILE);
             }
-            scan_sections(file, base::wide(count), next)
+            scan_sections(file, usize::from(count), next)
         }
     }
 }

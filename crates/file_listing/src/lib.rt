@@ -114,7 +114,7 @@ impl Text {
         ensures { Grew (w.now ++ decimal n) (length w.now + 5) self result }
     {
         let named = self.word(w);
-        named.number(base::full(n))
+        named.number(u32::from(n))
     }
 
     // What an NRT-IT's line says after its extension: the rest of its key.
@@ -135,11 +135,11 @@ impl Text {
         ensures { Grew (head_line h) 78 self result }
     {
         let key = h.key;
-        let table = self.field(b"table ", base::half(key.table));
+        let table = self.field(b"table ", u16::from(key.table));
         let extension = table.field(b" key ", key.extension);
         let added = extension.added_words(key);
-        let version = added.field(b" version ", base::half(h.version));
-        let last = version.field(b" last ", base::half(h.last));
+        let version = added.field(b" version ", u16::from(h.version));
+        let last = version.field(b" last ", u16::from(h.last));
         last.byte(NEWLINE)
     }
 
@@ -172,7 +172,7 @@ impl Text {
         requires { self.size + 14 ≤ room }
         ensures { Grew (refused_line n) 14 self result }
     {
-        let refused = self.field(b"refused ", base::half(n));
+        let refused = self.field(b"refused ", u16::from(n));
         refused.byte(NEWLINE)
     }
     // The line of one section, where the file holds it.
@@ -186,7 +186,7 @@ impl Text {
         if length == 0 {
             return self;
         }
-        self.section_line(base::half(n), length)
+        self.section_line(u16::from(n), length)
     }
 
     // The line of one number that the file lacks.
@@ -198,7 +198,7 @@ impl Text {
         let at = n as usize;
         let length = lengths[at];
         if length == 0 {
-            return self.missing_line(base::half(n));
+            return self.missing_line(u16::from(n));
         }
         self
     }

@@ -44,7 +44,7 @@ pub fn read_number(file: &[u8], at: usize) -> Number
     let low = file[at];
     let second = at + 1;
     if low < GROUP {
-        let value = base::half(low);
+        let value = u16::from(low);
         return Number::Value(value, second);
     }
     if end <= second {
@@ -56,7 +56,7 @@ pub fn read_number(file: &[u8], at: usize) -> Number
     }
     let third = second + 1;
     if middle < GROUP {
-        let value = base::half(low % GROUP) + base::half(middle) * SECOND;
+        let value = u16::from(low % GROUP) + u16::from(middle) * SECOND;
         return Number::Value(value, third);
     }
     if end <= third {
@@ -69,9 +69,9 @@ pub fn read_number(file: &[u8], at: usize) -> Number
     if HIGHEST_THIRD < high {
         return Number::Refused(BAD_NUMBER);
     }
-    let value = base::half(low % GROUP)
-        + base::half(middle % GROUP) * SECOND
-        + base::half(high) * THIRD;
+    let value = u16::from(low % GROUP)
+        + u16::from(middle % GROUP) * SECOND
+        + u16::from(high) * THIRD;
     let next = third + 1;
     Number::Value(value, next)
 }
@@ -87,10 +87,10 @@ pub fn number_code(bytes: &[u8]) -> u32
 {
     let found = read_number(bytes, 0);
     match found {
-        Number::Refused(n) => answers::wider(n),
+        Number::Refused(n) => u32::from(n),
         Number::Value(value, next) => {
             let size = (next % 256) as u32;
-            BIT_8 * base::full(value) + BIT_24 * size
+            BIT_8 * u32::from(value) + BIT_24 * size
         }
     }
 }

@@ -19,8 +19,8 @@ pub fn table_code(file: &[u8], fields: &mut [u16]) -> u8
         Scan::Refused(n) => n,
         Scan::Table(header) => {
             let key = header.key;
-            let version = base::half(header.version);
-            let last = base::half(header.last);
+            let version = u16::from(header.version);
+            let last = u16::from(header.last);
             let table = Table {
                 key,
                 version,

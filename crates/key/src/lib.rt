@@ -5,7 +5,7 @@ ghost use Rattle.std.specs.Prelude.{◌≡◌, ◌+◌, ◌*◌, ◌/◌, ◌%�
 ghost use Rattle.key.specs.Key.{key_from, same_key};
 
 // Of an NRT-IT service is its service_id and start its time_span_start; of every other table both are 0.
-#[derive(Clone, Copy)]
+#[derive(Clone, Copy, Debug, PartialEq, Eq)]
 pub struct Key {
     pub table: u8,
     pub extension: u16,
@@ -40,16 +40,7 @@ pub fn from(table: u8, extension: u16, service: u16, start: u32) -> Key
 pub fn same(a: Key, b: Key) -> bool
     ensures { result ≡ same_key a b }
 {
-    if a.table != b.table {
-        return false;
-    }
-    if a.extension != b.extension {
-        return false;
-    }
-    if a.service != b.service {
-        return false;
-    }
-    a.start == b.start
+    a == b
 }
 
 // Numbers that are lent have 16 bits, and a start has 32: its higher half, its lower half, and the start of the two.
@@ -68,5 +59,5 @@ pub fn low(start: u32) -> u16
 pub fn start_of(high: u16, low: u16) -> u32
     ensures { result ≡ high * 65536 + low }
 {
-    base::full(high) * 65536 + base::full(low)
+    u32::from(high) * 65536 + u32::from(low)
 }

@@ -103,7 +103,7 @@ pub fn two(field: &[u8]) -> u16
     if field.len() < 2 {
         return 0;
     }
-    base::half(field[0]) * 256 + base::half(field[1])
+    u16::from(field[0]) * 256 + u16::from(field[1])
 }
 
 pub fn three(field: &[u8]) -> u32
@@ -112,7 +112,7 @@ pub fn three(field: &[u8]) -> u32
     if field.len() < 3 {
         return 0;
     }
-    base::full(two(field)) * 256 + base::full(base::half(field[2]))
+    u32::from(two(field)) * 256 + u32::from(field[2])
 }
 
 pub fn four(field: &[u8]) -> u32
@@ -121,9 +121,9 @@ pub fn four(field: &[u8]) -> u32
     if field.len() < 4 {
         return 0;
     }
-    let high = base::full(two(field)) * 65536;
-    let third = base::full(base::half(field[2])) * 256;
-    high + third + base::full(base::half(field[3]))
+    let high = u32::from(two(field)) * 65536;
+    let third = u32::from(field[2]) * 256;
+    high + third + u32::from(field[3])
 }
 
 pub fn five(field: &[u8]) -> u64
@@ -133,7 +133,7 @@ pub fn five(field: &[u8]) -> u64
         return 0;
     }
     let high = four(field) as u64 * 256;
-    high + base::full(base::half(field[4])) as u64
+    high + u32::from(field[4]) as u64
 }
 
 // How many items a section has, or its first refusal. A step needs no more of the fields before the items.

@@ -28,10 +28,10 @@ pub fn programme_read(payload: &[u8], fields: &mut [u32]) -> u8
             if fields.len() < FIELDS {
                 return answers::OUTPUT_TOO_SMALL;
             }
-            fields[0] = base::full(p.service);
+            fields[0] = u32::from(p.service);
             fields[1] = p.start;
-            fields[2] = base::full(p.minutes);
-            fields[3] = answers::wider(p.items);
+            fields[2] = u32::from(p.minutes);
+            fields[3] = u32::from(p.items);
             0
         }
     }

@@ -159,7 +159,7 @@ fn lies_at(bytes: &[u8], at: usize) -> Lies
             if size <= named {
                 return Lies::Past;
             }
-            let counted = named + 1 + base::wide(base::half(bytes[named]));
+            let counted = named + 1 + usize::from(bytes[named]);
             if size <= counted {
                 return Lies::Past;
             }
@@ -296,7 +296,7 @@ fn left_from(payload: &[u8], number: u8) -> Left
             if items <= number {
                 return Left::Over;
             }
-            Left::Items(base::wide8(items - number))
+            Left::Items(usize::from(items - number))
         }
     }
 }

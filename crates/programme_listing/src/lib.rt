@@ -45,7 +45,7 @@ fn section_of(
         return Done { at, whole: false };
     }
     let from = starts[i];
-    let to = from + base::wide(length);
+    let to = from + usize::from(length);
     programme_section::section(out, at, n, &file[from..to])
 }
 

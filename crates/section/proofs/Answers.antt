@@ -14,12 +14,13 @@ use Rattle.base.specs.Octets.{Octets}
 use Rattle.key.specs.Key.{nrt_it}
 use Rattle.key.proofs.Keys.{key-other}
 use Rattle.section.specs.declared.Header.{Header}
-use Rattle.section.specs.declared.Reading.{Reading}
-use Rattle.section.specs.declared.Reading.TheVariants.{Sound, Refused}
-use Rattle.section.specs.Section.{table_id, table_id_extension, service_id, time_span_start, key_in, read_of, number_of}
+use Rattle.std.specs.Prelude.{Result, Ok, Err}
+use Rattle.refusal.specs.Refusal.{number, number_of}
+use Rattle.refusal.specs.declared.Refusal.{Refusal}
+use Rattle.refusal.proofs.Numbers.{in_byte, back as refusal_back}
+use Rattle.section.specs.Section.{table_id, table_id_extension, service_id, time_span_start, key_in, read_of}
 use Rattle.section.specs.Answer.{reading_code, key_code, reading_in, ComesBack, ReadingNumber, NothingAdded, Accepted, ReadAlike}
 use Rattle.section.specs.Theorems.{FitsKey}
-use Rattle.section.proofs.ExactlyWhen.{refused_range, own-bounds}
 use Rattle.section.proofs.Keys.{key-id}
 use Rattle.section.proofs.Laws.{sound-facts, sound_fits}
 
@@ -45,7 +46,7 @@ pub record Narrow (h : Header) : Type 0 where
   pub number : h.number < 2 ^ 8
 
 module _ (s : List ℕ) (b : Octets s) where
-  narrow : (h : Header) → read_of s ≡ Sound h → Narrow h
+  narrow : (h : Header) → read_of s ≡ Ok h → Narrow h
   narrow h e =
       let f = sound-facts s h e in
       let number : h.number ≤ h.last = f.number in
@@ -53,8 +54,8 @@ module _ (s : List ℕ) (b : Octets s) where
       let version : h.version < 32 = f.version in
       record { key = sound_fits s h e b; version = omega arith; number = omega arith }
 
-  back : (r : Reading) → read_of s ≡ r → reading_in (length s) (reading_code r) (key_code r) ≡ r
-  back (Sound h) e =
+  back : (r : Result Header Refusal) → read_of s ≡ r → reading_in (length s) (reading_code r) (key_code r) ≡ r
+  back (Ok h) e =
       let f = sound-facts s h e in
       let n = narrow h e in
       let table : h.key.table < 2 ^ 8 = n.key.table in
@@ -62,14 +63,13 @@ module _ (s : List ℕ) (b : Octets s) where
       let service : h.key.service < 2 ^ 16 = n.key.service in
       let version : h.version < 2 ^ 8 = n.version in
       let number : h.number < 2 ^ 8 = n.number in
-      rw (eq-eqb (reading_code (Sound h) % 2 ^ 8) 0 (omega arith))
-      (ap Sound
+      rw (eq-eqb (reading_code (Ok h) % 2 ^ 8) 0 (omega arith))
+      (ap Ok
       (header-by h _ _ _ _ _ _ _ _ _ (omega arith) (omega arith) (omega arith) (omega arith) (omega arith) (omega arith) (omega arith) (sym f.start) (sym f.body)))
-  back (Refused n) e =
-      let r = own-bounds n (refused_range s n e) in
-      let low : 1 ≤ n = r.0 in
-      let high : n ≤ 46 = r.1 in
-      rw (ne_eqb (n % 2 ^ 8) 0 (omega arith))
+  back (Err refusal) e =
+      let low : 0 < number refusal = (in_byte refusal).0 in
+      let high : number refusal < 256 = (in_byte refusal).1 in
+      rw (ne_eqb (number refusal % 2 ^ 8) 0 (omega arith)) (ap Err (refusal_back refusal))
 
   pub comes_back : ComesBack s
   comes_back = back (read_of s) refl
@@ -77,24 +77,22 @@ module _ (s : List ℕ) (b : Octets s) where
   pub reading_number : ReadingNumber s
   reading_number = of (read_of s) refl
     where
-      of : (r : Reading) → read_of s ≡ r → (reading_code r % 2 ^ 8 ≡ number_of r) × (key_code r % 2 ^ 8 ≡ number_of r)
-      of (Sound h) e = (omega arith, omega arith)
-      of (Refused n) e =
-          let r = own-bounds n (refused_range s n e) in
-          let low : 1 ≤ n = r.0 in
-          let high : n ≤ 46 = r.1 in
+      of : (r : Result Header Refusal) → read_of s ≡ r → (reading_code r % 2 ^ 8 ≡ number_of r) × (key_code r % 2 ^ 8 ≡ number_of r)
+      of (Ok h) e = (omega arith, omega arith)
+      of (Err refusal) e =
+          let low : 0 < number refusal = (in_byte refusal).0 in
+          let high : number refusal < 256 = (in_byte refusal).1 in
           (omega arith, omega arith)
 
   pub accepted : Accepted s
   accepted = (to (read_of s) refl, λ w. rw w.1 (omega arith))
     where
-      to : (r : Reading) → read_of s ≡ r → reading_code (read_of s) % 2 ^ 8 ≡ 0 → (h : Header) × (read_of s ≡ Sound h)
-      to (Sound h) e z = (h, e)
-      to (Refused n) e z =
-          let r = own-bounds n (refused_range s n e) in
-          let low : 1 ≤ n = r.0 in
-          let high : n ≤ 46 = r.1 in
-          let y : n % 2 ^ 8 ≡ 0 = rw e at z in
+      to : (r : Result Header Refusal) → read_of s ≡ r → reading_code (read_of s) % 2 ^ 8 ≡ 0 → (h : Header) × (read_of s ≡ Ok h)
+      to (Ok h) e z = (h, e)
+      to (Err refusal) e z =
+          let low : 0 < number refusal = (in_byte refusal).0 in
+          let high : number refusal < 256 = (in_byte refusal).1 in
+          let y : number refusal % 2 ^ 8 ≡ 0 = rw e at z in
           absurd (omega arith)
 
 -- of any payload

@@ -16,15 +16,17 @@ use lib.Dec.{ltb, eqb}
 use lib.ListN.{length}
 use Rattle.key.specs.Key.{nrt_it}
 use Rattle.section.specs.Section.{header_size, highest_length, highest_last, key_size, table_id, syntax_indicator, private_indicator, section_length, section_size, section_number, last_section_number, current_next}
-use Rattle.section.specs.Section.{faults, header_of, read_of, number_of}
+use Rattle.section.specs.Section.{faults, header_of, read_of}
 pub use Rattle.section.specs.Theorems.{PayloadShort, WrongIndicator, LengthOutOfRange, LongerThanPayload, ShorterThanPayload, NumberAboveLast, LastAbove15, NotCurrent, KeyShort, OwnNumber, table, NoneBefore}
 use Rattle.section.specs.Theorems.{Refused1, Refused2, Refused3, Refused4, Refused5, Refused6, Refused7, Refused8, Refused46, NotRefused, SoundExactly, RefusedRange}
-use Rattle.section.specs.declared.Reading.{Reading}
-use Rattle.section.specs.declared.Reading.TheVariants.{Sound, Refused}
+use Rattle.std.specs.Prelude.{Result, Ok, Err}
+use Rattle.refusal.specs.Refusal.{number, number_of}
+use Rattle.refusal.specs.declared.Refusal.{Refusal}
+use Rattle.section.specs.declared.Header.{Header}
 
-abbrev Own : Reading → Type 0
-Own (Sound h) = Unit {0}
-Own (Refused n) = OwnNumber n
+abbrev Own : Result Header Refusal → Type 0
+Own (Ok h) = Unit {0}
+Own (Err r) = OwnNumber (number r)
 
 -- a section's own number is one of 1 to 46
 pub own-bounds : (n : ℕ) → OwnNumber n → (1 ≤ n) × (n ≤ 46)
@@ -68,7 +70,7 @@ module _ (s : List ℕ) where
 
   pub exactly : (n : ℕ) → 0 < n → (number_of (read_of s) ≡ n) ↔ (NoneBefore s n × said n (table s))
   unfolding read_of
-  exactly n p = given Refused number_of (λ n. refl) (faults s) (Sound (header_of s)) (table s) decided refl n (omega arith)
+  exactly n p = given Err number_of (λ r. refl) (faults s) (Ok (header_of s)) (table s) decided refl n (omega arith)
 
   pub refused_1 : Refused1 s
   refused_1 = Iff.trans (exactly 1 (omega arith)) true-and
@@ -101,26 +103,26 @@ module _ (s : List ℕ) where
   unfolding read_of
   not_refused =
       Iff.trans
-      (passed Refused number_of (λ n. refl) (faults s) (Sound (header_of s)) (table s) decided 0 refl)
+      (passed Err number_of (λ r. refl) (faults s) (Ok (header_of s)) (table s) decided 0 refl)
       (λ w. w.0, λ n. (n, refl))
 
-  read_whole : None (table s) → read_of s ≡ Sound (header_of s)
+  read_whole : None (table s) → read_of s ≡ Ok (header_of s)
   unfolding read_of
-  read_whole = silent Refused (faults s) (Sound (header_of s)) (table s) decided
+  read_whole = silent Err (faults s) (Ok (header_of s)) (table s) decided
 
   pub sound : SoundExactly s
   sound h = (
     λ e.
         let n : None (table s) = not_refused.0 (ap number_of e) in
-        let q : Sound (header_of s) ≡ Sound h = sym (read_whole n) ∙ e in
+        let q : Ok (header_of s) ≡ Ok h = sym (read_whole n) ∙ e in
         (n, cc),
-    λ w. read_whole w.0 ∙ ap Sound (sym w.1),
+    λ w. read_whole w.0 ∙ ap Ok (sym w.1),
   )
 
-  own-rows : Each OwnNumber (faults s)
+  own-rows : Each (λ r. OwnNumber (number r)) (faults s)
   own-rows =
       (inl (omega arith), (inl (omega arith), (inl (omega arith), (inl (omega arith), (inl (omega arith), (inl (omega arith), (inl (omega arith), (inl (omega arith), (inr refl, tt)))))))))
 
   pub refused_range : RefusedRange s
   unfolding read_of
-  refused_range n e = subst Own e (among Refused Own (faults s) (Sound (header_of s)) own-rows tt)
+  refused_range n e = subst Own e (among Err Own (faults s) (Ok (header_of s)) own-rows tt)

@@ -8,54 +8,34 @@ use mathlib.Core.List.{List, [], ◌∷◌}
 use Prim.Native.Nat.{ℕ, ◌-◌, ◌≤◌}
 use native.Mathlib.Omega.{arith}
 use lib.ListN.{length}
-use Rattle.base.specs.Choice.{Row, first}
-use Rattle.base.proofs.Cases.{by}
+use Rattle.std.specs.Prelude.{Ok, Err}
+use Rattle.refusal.specs.declared.Refusal.{Refusal}
+use Rattle.base.proofs.Tables.{refuses, passes}
 use Rattle.key.specs.declared.Key.{Key}
 use Rattle.key.specs.Key.{nrt_it}
 use Rattle.section.specs.Section.{header_size, table_id, version, section_number, last_section_number, key_in, faults, fault_of, header_of, read_of}
-use Rattle.section.specs.declared.Reading.{Reading}
-use Rattle.section.specs.declared.Reading.TheVariants.{Sound, Refused}
 use Rattle.section.proofs.Laws.{sound-facts}
 use Rattle.section.proofs.Keys.{key-id}
 
--- no row has the number 0
-abbrev Given : List Row → Type 0
-Given [] = Unit {0}
-Given (r ∷ rs) = ¬ (r.no ≡ 0) × Given rs
-
-first-refuses : (rs : List Row) (other : Reading) → ¬ (first (λ n. n) rs 0 ≡ 0) → first Refused rs other ≡ Refused (first (λ n. n) rs 0)
-first-refuses [] other d = absurd (d refl)
-first-refuses (r ∷ rs) other d =
-    by r.when (λ t. rw t) (λ t. rw t (first-refuses rs other (rw t at d)))
-
-first_passes : (rs : List Row) (other : Reading) → Given rs → first (λ n. n) rs 0 ≡ 0 → first Refused rs other ≡ other
-first_passes [] other g e = refl
-first_passes (r ∷ rs) other g e =
-    by r.when (λ t. absurd (g.0 (rw t at e))) (λ t. rw t (first_passes rs other g.1 (rw t at e)))
-
 module _ (s : List ℕ) where
-  given : Given (faults s)
-  given =
-      (λ e. omega arith, (λ e. omega arith, (λ e. omega arith, (λ e. omega arith, (λ e. omega arith, (λ e. omega arith, (λ e. omega arith, (λ e. omega arith, (λ e. omega arith, tt)))))))))
-
-  pub read_refused : {n : ℕ} → n ≡ fault_of s → ¬ (n ≡ 0) → Refused n ≡ read_of s
+  pub read_refused : {r : Refusal} → Err r ≡ fault_of s → Err r ≡ read_of s
   unfolding read_of fault_of
-  read_refused e d = ap Refused e ∙ sym (first-refuses (faults s) (Sound (header_of s)) (λ z. d (e ∙ z)))
+  read_refused e = sym (refuses (faults s) tt (header_of s) _ (sym e))
 
-  pub read_none : {n : ℕ} → n ≡ fault_of s → n ≡ 0 → read_of s ≡ Sound (header_of s)
+  pub read_none : Ok tt ≡ fault_of s → read_of s ≡ Ok (header_of s)
   unfolding read_of fault_of
-  read_none e z = first_passes (faults s) (Sound (header_of s)) given (sym e ∙ z)
+  read_none e = passes (faults s) tt tt Err (Ok (header_of s)) (sym e)
 
   -- so it holds its header, and an NRT-IT its key
-  module _ {n : ℕ} (e : n ≡ fault_of s) (z : n ≡ 0) where
+  module _ (e : Ok tt ≡ fault_of s) where
     pub holds-header : 8 ≤ length s
-    holds-header = (sound-facts s (header_of s) (read_none e z)).least
+    holds-header = (sound-facts s (header_of s) (read_none e)).least
 
     pub holds_key : table_id s ≡ nrt_it → 14 ≤ length s
-    holds_key t = (sound-facts s (header_of s) (read_none e z)).holds_key (key-id s ∙ t)
+    holds_key t = (sound-facts s (header_of s) (read_none e)).holds_key (key-id s ∙ t)
 
-  pub read-built : read_of s ≡ Sound (header_of s) → {k : Key} → k ≡ key_in s
-      → Sound
+  pub read-built : read_of s ≡ Ok (header_of s) → {k : Key} → k ≡ key_in s
+      → Ok
       (record {
         key = k;
         version = version s;

@@ -16,7 +16,7 @@ use Rattle.section.specs.Section.{read_of, header_of, section_size, section_leng
 pub use Rattle.section.specs.Theorems.{SoundFacts}
 use Rattle.section.specs.Theorems.{SoundFits, Unique}
 use Rattle.section.specs.declared.Header.{Header}
-use Rattle.section.specs.declared.Reading.TheVariants.{Sound}
+use Rattle.std.specs.Prelude.{Ok}
 use Rattle.section.proofs.ExactlyWhen.{KeyShort, table, sound, not_refused}
 use Rattle.section.proofs.Keys.{key-id, key_fits}
 
@@ -47,7 +47,7 @@ module _ (s : List ℕ) where
         none = (not_refused s).1 n;
       }
 
-  pub sound-facts : (h : Header) → read_of s ≡ Sound h → SoundFacts s h
+  pub sound-facts : (h : Header) → read_of s ≡ Ok h → SoundFacts s h
   sound-facts h e = let w = (sound s h).0 e in rw w.1 (of-header w.0)
 
   pub sound_fits : SoundFits s

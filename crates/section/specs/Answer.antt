@@ -1,11 +1,11 @@
 -- The number and the values of a reading, in the two numbers of 64 bits that cross the boundary, and what is so of them. The second is for the rest
 -- of an NRT-IT's key; of every other table it is 0.
-use Rattle.std.specs.Prelude.{ℕ, ◌+◌, ◌-◌, ◌*◌, ◌/◌, ◌%◌, ◌^◌, ◌≡◌, List, ◌↔◌, length, eqb, if◌then◌else◌}
+use Rattle.std.specs.Prelude.{ℕ, ◌+◌, ◌-◌, ◌*◌, ◌/◌, ◌%◌, ◌^◌, ◌≡◌, List, ◌↔◌, length, eqb, if◌then◌else◌, Result, Ok, Err}
 use Rattle.key.specs.Key.{nrt_it}
-use Rattle.section.specs.Section.{read_of, number_of}
+use Rattle.refusal.specs.Refusal.{number, number_of, refusal_of}
+use Rattle.refusal.specs.declared.Refusal.{Refusal}
+use Rattle.section.specs.Section.{read_of}
 use Rattle.section.specs.declared.Header.{Header}
-use Rattle.section.specs.declared.Reading.{Reading}
-use Rattle.section.specs.declared.Reading.TheVariants.{Sound, Refused}
 
 -- of a sound section the low 8 bits are 0; from bit 8 up stand table id 8 and extension 16, from bit 32 version 8, number 8 and
 -- last 8. Where the body lies is the payload's to tell
@@ -17,19 +17,19 @@ abbrev pub added_code : Header → ℕ
 added_code h = h.key.service * 2 ^ 8 + h.key.start * 2 ^ 24
 
 -- a refusal is its number alone, in both
-abbrev pub reading_code : Reading → ℕ
-reading_code (Sound h) = sound_code h
-reading_code (Refused n) = n
+abbrev pub reading_code : Result Header Refusal → ℕ
+reading_code (Ok h) = sound_code h
+reading_code (Err r) = number r
 
-abbrev pub key_code : Reading → ℕ
-key_code (Sound h) = added_code h
-key_code (Refused n) = n
+abbrev pub key_code : Result Header Refusal → ℕ
+key_code (Ok h) = added_code h
+key_code (Err r) = number r
 
 -- what a host takes out of the two answers to a payload of so many bytes
-abbrev pub reading_in : ℕ → ℕ → ℕ → Reading
+abbrev pub reading_in : ℕ → ℕ → ℕ → Result Header Refusal
 reading_in size code added =
     if eqb (code % 2 ^ 8) 0
-    then Sound
+    then Ok
     (record {
       key = record {
         table = code / 2 ^ 8 % 2 ^ 8;
@@ -43,7 +43,7 @@ reading_in size code added =
       start = 8;
       length = size - 8;
     })
-    else Refused code
+    else Err (refusal_of code)
 
 -- Of the answers to a payload `s` of bytes:
 -- each value comes back out of them
@@ -56,11 +56,11 @@ ReadingNumber s = (reading_code (read_of s) % 2 ^ 8 ≡ number_of (read_of s)) �
 
 -- where the table id in the first is another than the NRT-IT's the second is 0, so that a host need not ask for it
 abbrev pub NothingAdded : List ℕ → Type 0
-NothingAdded s = (h : Header) → read_of s ≡ Sound h → ¬ (h.key.table ≡ nrt_it) → key_code (read_of s) ≡ 0
+NothingAdded s = (h : Header) → read_of s ≡ Ok h → ¬ (h.key.table ≡ nrt_it) → key_code (read_of s) ≡ 0
 
 -- so those of the first are 0 exactly when the section is sound
 abbrev pub Accepted : List ℕ → Type 0
-Accepted s = (reading_code (read_of s) % 2 ^ 8 ≡ 0) ↔ ((h : Header) × (read_of s ≡ Sound h))
+Accepted s = (reading_code (read_of s) % 2 ^ 8 ≡ 0) ↔ ((h : Header) × (read_of s ≡ Ok h))
 
 -- a payload of the same length that has the same answers is read alike
 abbrev pub ReadAlike : List ℕ → List ℕ → Type 0

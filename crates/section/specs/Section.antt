@@ -1,12 +1,12 @@
 -- Document 01, "A section": the layout of the eight header bytes, high bit first, and the numbers 1 to 8. Document 02, request 4: the key, and 46.
-use Rattle.std.specs.Prelude.{ℕ, ◌+◌, ◌-◌, ◌/◌, ◌%◌, ◌*◌, List, [], ◌∷◌, ◌||◌, ◌&&◌, length, ltb, eqb, if◌then◌else◌}
+use Rattle.std.specs.Prelude.{ℕ, ◌+◌, ◌-◌, ◌/◌, ◌%◌, ◌*◌, List, [], ◌∷◌, ◌||◌, ◌&&◌, length, ltb, eqb, if◌then◌else◌, Result, Ok, Err}
+use Rattle.refusal.specs.declared.Refusal.{Refusal}
+use Rattle.refusal.specs.declared.Refusal.TheVariants.{PayloadShort, WrongIndicator, LengthOutOfRange, LongerThanPayload, ShorterThanPayload, NumberAboveLast, LastAbove15, NotCurrent, KeyShort}
 use Rattle.base.specs.Bytes.{byte, word}
 use Rattle.base.specs.Choice.{Row, ◌if◌, first}
 use Rattle.key.specs.Key.{nrt_it, key_from}
 use Rattle.key.specs.declared.Key.{Key}
 use Rattle.section.specs.declared.Header.{Header}
-use Rattle.section.specs.declared.Reading.{Reading}
-use Rattle.section.specs.declared.Reading.TheVariants.{Sound, Refused}
 
 -- the bytes of the header, the highest section length, and the highest last section number
 abbrev pub header_size : ℕ
@@ -88,20 +88,20 @@ key_in s = key_from (table_id s) (table_id_extension s) (service_id s) (time_spa
 -- "Numbers of refusal", 1 to 8; then 46, an NRT-IT too short to hold its key
 abbrev pub faults : List ℕ → List Row
 faults s =
-    1 if ltb (length s) header_size
-    ∷ 2 if (eqb (syntax_indicator s) 1 || eqb (private_indicator s) 0)
-    ∷ 3 if (ltb (section_length s) 5 || ltb highest_length (section_length s))
-    ∷ 4 if ltb (length s) (section_size s)
-    ∷ 5 if ltb (section_size s) (length s)
-    ∷ 6 if ltb (last_section_number s) (section_number s)
-    ∷ 7 if ltb highest_last (last_section_number s)
-    ∷ 8 if eqb (current_next s) 0
-    ∷ 46 if (eqb (table_id s) nrt_it && ltb (length s) key_size)
+    PayloadShort if ltb (length s) header_size
+    ∷ WrongIndicator if (eqb (syntax_indicator s) 1 || eqb (private_indicator s) 0)
+    ∷ LengthOutOfRange if (ltb (section_length s) 5 || ltb highest_length (section_length s))
+    ∷ LongerThanPayload if ltb (length s) (section_size s)
+    ∷ ShorterThanPayload if ltb (section_size s) (length s)
+    ∷ NumberAboveLast if ltb (last_section_number s) (section_number s)
+    ∷ LastAbove15 if ltb highest_last (last_section_number s)
+    ∷ NotCurrent if eqb (current_next s) 0
+    ∷ KeyShort if (eqb (table_id s) nrt_it && ltb (length s) key_size)
     ∷ []
 
--- the first of them that applies, 0 where none does
-unfoldable pub fault_of : List ℕ → ℕ
-fault_of s = first (λ n. n) (faults s) 0
+-- the first of them that applies, where one does
+unfoldable pub fault_of : List ℕ → Result (Unit {0}) Refusal
+fault_of s = first Err (faults s) (Ok tt)
 
 -- what a sound section says; the body follows the header
 abbrev pub header_of : List ℕ → Header
@@ -116,10 +116,5 @@ header_of s =
     }
 
 -- the reading of a payload
-unfoldable pub read_of : List ℕ → Reading
-read_of s = first Refused (faults s) (Sound (header_of s))
-
--- the paper's number for each case of a reading; 0 for none
-abbrev pub number_of : Reading → ℕ
-number_of (Sound h) = 0
-number_of (Refused n) = n
+unfoldable pub read_of : List ℕ → Result Header Refusal
+read_of s = first Err (faults s) (Ok (header_of s))

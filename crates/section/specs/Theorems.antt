@@ -1,15 +1,15 @@
 -- What is proved of a reading, in words of the payload `s`, and the words for it: each statement is a theorem of `proofs/` by the same name in small letters.
-use Rattle.std.specs.Prelude.{ℕ, ◌-◌, ◌/◌, ◌%◌, ◌^◌, ◌<◌, ◌≤◌, ◌≡◌, List, [], ◌∷◌, ◌↔◌, ◌⊎◌, length}
+use Rattle.std.specs.Prelude.{ℕ, ◌-◌, ◌/◌, ◌%◌, ◌^◌, ◌<◌, ◌≤◌, ◌≡◌, List, [], ◌∷◌, ◌↔◌, ◌⊎◌, length, Result, Ok, Err}
 use Rattle.base.specs.Bytes.{byte}
 use Rattle.base.specs.Octets.{Octets}
 use Rattle.base.specs.Tables.{Rule, ◌says◌, None, above}
 use Rattle.key.specs.Key.{nrt_it}
 use Rattle.key.specs.declared.Key.{Key}
 use Rattle.section.specs.Section.{table_id, table_id_extension, service_id, time_span_start, key_in, syntax_indicator, private_indicator, section_length, section_size, section_number, last_section_number, current_next}
-use Rattle.section.specs.Section.{header_of, read_of, number_of}
+use Rattle.refusal.specs.Refusal.{number, number_of}
+use Rattle.refusal.specs.declared.Refusal.{Refusal}
+use Rattle.section.specs.Section.{header_of, read_of}
 use Rattle.section.specs.declared.Header.{Header}
-use Rattle.section.specs.declared.Reading.{Reading}
-use Rattle.section.specs.declared.Reading.TheVariants.{Sound, Refused}
 
 -- what a sound reading says of its header and its payload
 pub record SoundFacts (s : List ℕ) (h : Header) : Type 0 where
@@ -133,19 +133,19 @@ module _ (s : List ℕ) where
 
   -- a header is read exactly when none is so and it is what the bytes say
   abbrev pub SoundExactly : Type 0
-  SoundExactly = (h : Header) → (read_of s ≡ Sound h) ↔ (None table × (h ≡ header_of s))
+  SoundExactly = (h : Header) → (read_of s ≡ Ok h) ↔ (None table × (h ≡ header_of s))
 
   -- no number but 1 to 8 and 46 is given
   abbrev pub RefusedRange : Type 0
-  RefusedRange = (n : ℕ) → read_of s ≡ Refused n → OwnNumber n
+  RefusedRange = (r : Refusal) → read_of s ≡ Err r → OwnNumber (number r)
 
   -- of bytes, the table id is a byte, extension and service_id are 16-bit numbers and time_span_start is one of 32
   abbrev pub SoundFits : Type 0
-  SoundFits = (h : Header) → read_of s ≡ Sound h → Octets s → FitsKey h.key
+  SoundFits = (h : Header) → read_of s ≡ Ok h → Octets s → FitsKey h.key
 
   -- two answers that keep the promise of `section::read` are equal
   abbrev pub Unique : Type 0
-  Unique = (x y : Reading) → x ≡ read_of s → y ≡ read_of s → x ≡ y
+  Unique = (x y : Result Header Refusal) → x ≡ read_of s → y ≡ read_of s → x ≡ y
 
 -- Two sections, the bytes of which may be any, are of one table: NRT-ITs where extension, service_id and time_span_start are the same, and one of
 -- another id where table id and extension are, whatever stands in the bodies

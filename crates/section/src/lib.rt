@@ -9,9 +9,10 @@ ghost use Rattle.section.specs.Section.{service_id, time_span_start, of_list, fa
 ghost use Rattle.section.specs.Answer.{reading_code, key_code, sound_code, added_code};
 
 use key::Key;
+use refusal::Refusal;
 
 // What the header says, and where the body lies in the payload.
-#[derive(Clone, Copy)]
+#[derive(Clone, Copy, Debug, PartialEq, Eq)]
 pub struct Header {
     pub key: Key,
     pub version: u8,
@@ -20,32 +21,6 @@ pub struct Header {
     pub start: usize,
     pub length: usize,
 }
-
-#[derive(Drop)]
-pub enum Reading {
-    Sound(Header),
-    // One of the numbers below.
-    Refused(u8),
-}
-
-pub const PAYLOAD_SHORT: u8 = 1;
-
-pub const WRONG_INDICATOR: u8 = 2;
-
-pub const LENGTH_OUT_OF_RANGE: u8 = 3;
-
-pub const LONGER_THAN_PAYLOAD: u8 = 4;
-
-pub const SHORTER_THAN_PAYLOAD: u8 = 5;
-
-pub const NUMBER_ABOVE_LAST: u8 = 6;
-
-pub const LAST_ABOVE_15: u8 = 7;
-
-pub const NOT_CURRENT: u8 = 8;
-
-// Of an NRT-IT alone.
-pub const KEY_SHORT: u8 = 46;
 
 // The header's bytes, and the bytes up to and with the section length, which the section length does not count.
 pub const HEADER: usize = 8;
@@ -76,7 +51,7 @@ fn word_at(payload: &[u8], at: usize) -> u16
     requires { at + 1 < length payload.now }
     ensures { result ≡ word payload.now at }
 {
-    base::half(payload[at]) * 256 + base::half(payload[at + 1])
+    u16::from_be_bytes([payload[at], payload[at + 1]])
 }
 
 // What follows the header of an NRT-IT: its service_id and its time_span_start; 0 of every other table, whose body is not looked at.
@@ -100,59 +75,56 @@ fn start_in(payload: &[u8], table: u8) -> u32
     key::start_of(word_at(payload, 10), word_at(payload, 12))
 }
 
-// The first number of refusal that applies, 0 where none does.
-fn fault_of(payload: &[u8]) -> u8
+// The first refusal that applies, where one does.
+fn fault_of(payload: &[u8]) -> Result<(), Refusal>
     ensures { result ≡ fault_of payload.now }
 {
     if payload.len() < HEADER {
-        return PAYLOAD_SHORT;
+        return Err(Refusal::PayloadShort);
     }
     if payload[1] / 128 == 1 {
-        return WRONG_INDICATOR;
+        return Err(Refusal::WrongIndicator);
     }
     if payload[1] / 64 % 2 == 0 {
-        return WRONG_INDICATOR;
+        return Err(Refusal::WrongIndicator);
     }
-    let counted = (payload[1] % 16) as usize * 256 + payload[2] as usize;
+    let counted = usize::from(payload[1] % 16) * 256 + usize::from(payload[2]);
     if counted < SHORTEST {
-        return LENGTH_OUT_OF_RANGE;
+        return Err(Refusal::LengthOutOfRange);
     }
     if LONGEST < counted {
-        return LENGTH_OUT_OF_RANGE;
+        return Err(Refusal::LengthOutOfRange);
     }
     let size = BEFORE_LENGTH_COUNTS + counted;
     if payload.len() < size {
-        return LONGER_THAN_PAYLOAD;
+        return Err(Refusal::LongerThanPayload);
     }
     if size < payload.len() {
-        return SHORTER_THAN_PAYLOAD;
+        return Err(Refusal::ShorterThanPayload);
     }
     let number = payload[6];
     let last = payload[7];
     if last < number {
-        return NUMBER_ABOVE_LAST;
+        return Err(Refusal::NumberAboveLast);
     }
     if HIGHEST_LAST < last {
-        return LAST_ABOVE_15;
+        return Err(Refusal::LastAbove15);
     }
     if payload[5] % 2 == 0 {
-        return NOT_CURRENT;
+        return Err(Refusal::NotCurrent);
     }
     if (payload[0] == key::NRT_IT) & (payload.len() < KEY) {
-        return KEY_SHORT;
+        return Err(Refusal::KeyShort);
     }
-    0
+    Ok(())
 }
 
-// The section that the payload is, or the first number of refusal that applies. The number is found apart, so that a refusal is written in
-// one place and the whole is small enough to stand in those that call it.
-pub fn read(payload: &[u8]) -> Reading
+// The section that the payload is, or the first refusal that applies. The refusal is found apart, so that what is read behind it is small
+// enough to stand in those that call it.
+pub fn read(payload: &[u8]) -> Result<Header, Refusal>
     ensures { result ≡ read_of payload.now }
 {
-    let fault = fault_of(payload);
-    if fault != 0 {
-        return Reading::Refused(fault);
-    }
+    fault_of(payload)?;
     let table = payload[0];
     let extension = word_at(payload, 3);
     let service = service_in(payload, table);
@@ -167,7 +139,7 @@ pub fn read(payload: &[u8]) -> Reading
     let number = payload[6];
     let last = payload[7];
     let length = payload.len() - HEADER;
-    Reading::Sound(Header {
+    Ok(Header {
         key,
         version,
         number,
@@ -182,11 +154,11 @@ fn sound_code(h: Header) -> u64
     ensures { result ≡ sound_code h }
 {
     let key = h.key;
-    let table = key.table as u64 * answers::BIT_8;
-    let extension = key.extension as u64 * answers::BIT_16;
-    let version = h.version as u64 * answers::BIT_32;
-    let number = h.number as u64 * answers::BIT_40;
-    let last = h.last as u64 * answers::BIT_48;
+    let table = u64::from(key.table) * answers::BIT_8;
+    let extension = u64::from(key.extension) * answers::BIT_16;
+    let version = u64::from(h.version) * answers::BIT_32;
+    let number = u64::from(h.number) * answers::BIT_40;
+    let last = u64::from(h.last) * answers::BIT_48;
     table + extension + version + number + last
 }
 
@@ -195,8 +167,8 @@ fn added_code(h: Header) -> u64
     ensures { result ≡ added_code h }
 {
     let key = h.key;
-    let service = key.service as u64 * answers::BIT_8;
-    let start = key.start as u64 * answers::BIT_24;
+    let service = u64::from(key.service) * answers::BIT_8;
+    let start = u64::from(key.start) * answers::BIT_24;
     service + start
 }
 
@@ -205,10 +177,9 @@ fn added_code(h: Header) -> u64
 pub fn read_code(payload: &[u8]) -> u64
     ensures { result ≡ reading_code (read_of payload.now) }
 {
-    let reading = read(payload);
-    match reading {
-        Reading::Sound(h) => sound_code(h),
-        Reading::Refused(n) => n as u64,
+    match read(payload) {
+        Ok(header) => sound_code(header),
+        Err(refusal) => refusal as u64,
     }
 }
 
@@ -217,9 +188,8 @@ pub fn read_code(payload: &[u8]) -> u64
 pub fn key_code(payload: &[u8]) -> u64
     ensures { result ≡ key_code (read_of payload.now) }
 {
-    let reading = read(payload);
-    match reading {
-        Reading::Sound(h) => added_code(h),
-        Reading::Refused(n) => n as u64,
+    match read(payload) {
+        Ok(header) => added_code(header),
+        Err(refusal) => refusal as u64,
     }
 }

@@ -57,8 +57,8 @@ pub fn key_number(words: &[u16], p: usize) -> u32
     if PLACES <= p {
         return 0;
     }
-    let table = base::full(words[HEADS + HEAD * p]);
-    let extension = base::full(words[HEADS + 1 + HEAD * p]);
+    let table = u32::from(words[HEADS + HEAD * p]);
+    let extension = u32::from(words[HEADS + 1 + HEAD * p]);
     table + 65536 * extension
 }
 
@@ -90,7 +90,7 @@ pub fn rest_number(words: &[u16], p: usize) -> u64
     if PLACES <= p {
         return 0;
     }
-    let service = base::full(words[RESTS + REST * p]) as u64;
+    let service = u32::from(words[RESTS + REST * p]) as u64;
     let start = key::start_of(words[RESTS + 1 + REST * p], words[RESTS + 2 + REST * p]) as u64;
     service + 65536 * start
 }
@@ -99,8 +99,8 @@ pub fn rest_number(words: &[u16], p: usize) -> u64
 fn number_for(key: Key) -> u32
     ensures { (result ≡ number_for key) × (key.table < 256) }
 {
-    let table = base::full(TAKEN + base::half(key.table));
-    let extension = base::full(key.extension);
+    let table = u32::from(TAKEN + u16::from(key.table));
+    let extension = u32::from(key.extension);
     table + 65536 * extension
 }
 

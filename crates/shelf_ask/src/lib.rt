@@ -102,7 +102,7 @@ pub fn copy_section(words: &[u16], store: &[u8], key: Key, n: u8, out: &mut [u8]
     match holding {
         Holding::Refused(no) => Copied::Refused(no),
         Holding::In(p) => {
-            let count = base::wide(shelf::length_of(words, p, n as usize));
+            let count = usize::from(shelf::length_of(words, p, n as usize));
             if count == 0 {
                 return Copied::Refused(SECTION_NOT_HELD);
             }
@@ -123,7 +123,7 @@ pub fn complete(words: &[u16], store: &[u8], key: Key) -> Whole
     match holding {
         Holding::Refused(no) => Whole::Refused(no),
         Holding::In(p) => {
-            let last = base::wide(shelf::last_of(words, p));
+            let last = usize::from(shelf::last_of(words, p));
             if first_gap(shelf::mask_of(words, p), last) <= last {
                 Whole::Incomplete
             } else {
@@ -141,7 +141,7 @@ pub fn lowest_missing(words: &[u16], store: &[u8], key: Key) -> Missing
     match holding {
         Holding::Refused(no) => Missing::Refused(no),
         Holding::In(p) => {
-            let last = base::wide(shelf::last_of(words, p));
+            let last = usize::from(shelf::last_of(words, p));
             let n = first_gap(shelf::mask_of(words, p), last);
             if n <= last {
                 Missing::Number(n as u8)
@@ -169,7 +169,7 @@ pub fn complete_code(words: &[u16], store: &[u8], key: Key) -> u16
 {
     let answer = complete(words, store, key);
     match answer {
-        Whole::Refused(n) => base::half(n),
+        Whole::Refused(n) => u16::from(n),
         Whole::Complete => COMPLETE,
         Whole::Incomplete => INCOMPLETE,
     }
@@ -193,9 +193,9 @@ pub fn missing_code(words: &[u16], store: &[u8], key: Key) -> u32
 {
     let answer = lowest_missing(words, store, key);
     match answer {
-        Missing::Refused(n) => answers::wider(n),
+        Missing::Refused(n) => u32::from(n),
         Missing::Nothing => NOTHING,
-        Missing::Number(n) => NUMBER + BIT_16 * answers::wider(n),
+        Missing::Number(n) => NUMBER + BIT_16 * u32::from(n),
     }
 }
 
@@ -205,7 +205,7 @@ pub fn copy_code(words: &[u16], store: &[u8], key: Key, n: u8, out: &mut [u8]) -
 {
     let answer = copy_section(words, store, key, n, out);
     match answer {
-        Copied::Refused(no) => answers::wider(no),
+        Copied::Refused(no) => u32::from(no),
         Copied::Bytes(size) => answers::size_code(size),
     }
 }

@@ -61,7 +61,7 @@ fn highest(a: u16, b: u16, c: u16, d: u16) -> u16
 fn less_eight(x: u16) -> u16
     ensures { result ≤ 1016 → (8 ≤ x) × (x ≤ 1024) }
 {
-    ((base::full(x) + 65528) % 65536) as u16
+    ((u32::from(x) + 65528) % 65536) as u16
 }
 
 // Whether a length is outside 8 to 1,024, a version above 31 or a last above 15, in a place that is taken or free. It reads all sixteen of each and keeps a
@@ -189,7 +189,7 @@ fn wrong_at(words: &[u16], p: usize, n: usize) -> bool
     if length == 0 {
         return false;
     }
-    if base::wide(shelf::last_of(words, p)) < n {
+    if usize::from(shelf::last_of(words, p)) < n {
         return true;
     }
     if length < SHORTEST {

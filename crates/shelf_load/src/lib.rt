@@ -52,7 +52,7 @@ fn store_each(
     }
     let mut n: usize = 0;
     while n < count {
-        let size = base::wide(lengths[n]);
+        let size = usize::from(lengths[n]);
         let start = starts[n];
         if lies(file.len(), start, size) {
             let end = start + size;

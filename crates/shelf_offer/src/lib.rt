@@ -52,14 +52,14 @@ fn held_step(words: &[u16], store: &[u8], payload: &[u8], header: Header, p: usi
     requires number_lt_sections { (header.number < sections) × (header.version < 32) × (header.last < 16) × (length payload.now ≤ berth_size) }
     ensures { spoiled_of (shelf_in words.now) ≡ false → result ≡ held_step (place_at (shelf_in words.now) p) store.now payload.now p header }
 {
-    if shelf::version_of(words, p) != base::half(header.version) {
+    if shelf::version_of(words, p) != u16::from(header.version) {
         return Step::BeginsAgain(p);
     }
-    if shelf::last_of(words, p) != base::half(header.last) {
+    if shelf::last_of(words, p) != u16::from(header.last) {
         return Step::Refuse(DIFFERS);
     }
-    let number = base::wide8(header.number);
-    let length = base::wide(shelf::length_of(words, p, number));
+    let number = usize::from(header.number);
+    let length = usize::from(shelf::length_of(words, p, number));
     if length == 0 {
         return Step::Adds(p);
     }
@@ -127,7 +127,7 @@ fn code_of(answer: Offered) -> u16
         Offered::Added => ADDED,
         Offered::Began => BEGAN,
         Offered::BeganAgain => BEGAN_AGAIN,
-        Offered::Refused(n) => base::half(n),
+        Offered::Refused(n) => u16::from(n),
     }
 }
 
@@ -188,7 +188,7 @@ fn begin(
 {
     berth::wipe_where(store, p, going(words, p, kind));
     shelf_write::put_head(words, p, header.key, header.version, header.last);
-    add(words, store, payload, p, base::wide8(header.number));
+    add(words, store, payload, p, usize::from(header.number));
     code_of(begun(kind))
 }
 
@@ -204,7 +204,7 @@ fn carried(words: &mut [u16], store: &mut [u8], payload: &[u8], p: usize, what: 
         return code_of(Offered::Refused(shelf::SHELF_SPOILED));
     }
     if what / 256 == ADDS {
-        add(words, store, payload, p, base::wide(what / 2 % 16));
+        add(words, store, payload, p, usize::from(what / 2 % 16));
         return code_of(Offered::Added);
     }
     let reading = section::read(payload);
@@ -243,7 +243,7 @@ fn what_by(step: Step, number: u8) -> u16
         Step::Refuse(_) => 0,
         Step::Begins(_) => BEGAN,
         Step::BeginsAgain(_) => BEGAN_AGAIN,
-        Step::Adds(_) => ADDED + 2 * base::half(number),
+        Step::Adds(_) => ADDED + 2 * u16::from(number),
     }
 }
 

@@ -56,7 +56,7 @@ fn section_size(size: u16) -> usize
     if size == 0 {
         return 0;
     }
-    number_size(size) + base::wide(size)
+    number_size(size) + usize::from(size)
 }
 
 fn section_count(size: u16) -> u16
@@ -109,7 +109,7 @@ fn write_held(store: &[u8], p: usize, n: usize, size: u16, out: &mut [u8], at: u
         return at;
     }
     let start = write_at(size, out, at);
-    let count = base::wide(size);
+    let count = usize::from(size);
     berth::copy_out(store, p, n, count, &mut out[start..]);
     start + count
 }
@@ -165,7 +165,7 @@ pub fn save_code(words: &[u16], store: &[u8], key: Key, out: &mut [u8]) -> u32
 {
     let answer = save_table(words, store, key, out);
     match answer {
-        Saved::Refused(n) => answers::wider(n),
+        Saved::Refused(n) => u32::from(n),
         Saved::Bytes(size) => answers::size_code(size),
     }
 }

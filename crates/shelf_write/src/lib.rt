@@ -80,10 +80,10 @@ pub fn put_head(words: &mut [u16], p: usize, key: Key, version: u8, last: u8)
     put_row(
         words,
         p,
-        TAKEN + base::half(key.table),
+        TAKEN + u16::from(key.table),
         key.extension,
-        base::half(version),
-        base::half(last),
+        u16::from(version),
+        u16::from(last),
         0,
     );
     put_rest(words, p, key);

@@ -32,7 +32,7 @@ fn put(t: Table, fields: &mut [u16])
 {
     let lengths = t.lengths;
     let key = t.key;
-    fields[0] = base::half(key.table);
+    fields[0] = u16::from(key.table);
     fields[1] = key.extension;
     fields[2] = key.service;
     fields[3] = key::high(key.start);

@@ -95,7 +95,7 @@ fn id_of(given: u16) -> Extent
             length: 0,
         };
     }
-    let length = base::wide(given) - LENGTH;
+    let length = usize::from(given) - LENGTH;
     Extent {
         place: ID_AT,
         length,
@@ -123,7 +123,7 @@ fn target_of(payload: &[u8], at: usize) -> Target
     ensures { result ≡ target_of payload.now at }
 {
     let kind = payload[at];
-    let length = base::wide(word_at(payload, at + 1));
+    let length = usize::from(word_at(payload, at + 1));
     let place = at + TARGET_HEAD;
     if length == 0 {
         return Target::None;
@@ -148,7 +148,7 @@ fn trigger_of(payload: &[u8], at: usize, tail: usize) -> Trigger
     let description = description_of(payload, idlength);
     let id = id_of(idlength);
     let target = target_of(payload, at);
-    let length = base::wide(word_at(payload, tail));
+    let length = usize::from(word_at(payload, tail));
     let place = tail + LENGTH;
     let user = Extent { place, length };
     Trigger {

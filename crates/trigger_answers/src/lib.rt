@@ -151,10 +151,10 @@ fn can_be_read(size: usize, fields: &[u16]) -> bool
     if fields.len() < NUMBERS {
         return false;
     }
-    if base::wide(fields[ID_PLACE]) < BEFORE_ID {
+    if usize::from(fields[ID_PLACE]) < BEFORE_ID {
         return false;
     }
-    base::wide(fields[USER_PLACE]) + base::wide(fields[USER_BYTES]) == size
+    usize::from(fields[USER_PLACE]) + usize::from(fields[USER_BYTES]) == size
 }
 
 // Whether a trigger, by the numbers that its reading left, belongs to the application with an id. Numbers that cannot be this
@@ -164,8 +164,8 @@ pub fn trigger_belongs(payload: &[u8], fields: &[u16], application: &[u8]) -> bo
 {
     if can_be_read(payload.len(), fields) {
         let idlength = fields[ID_LENGTH];
-        let place = base::wide(fields[ID_PLACE]);
-        let length = base::wide(fields[ID_BYTES]);
+        let place = usize::from(fields[ID_PLACE]);
+        let length = usize::from(fields[ID_BYTES]);
         let id = Extent { place, length };
         let user = Extent {
             place: 0,

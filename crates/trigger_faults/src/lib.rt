@@ -123,7 +123,7 @@ fn head_fault(payload: &[u8]) -> u8
     if size < NAME_AT {
         return CUT_OFF;
     }
-    let length = base::wide(word_at(payload, 1));
+    let length = usize::from(word_at(payload, 1));
     if length == 1 {
         return FORBIDDEN_ID_LENGTH;
     }
@@ -143,7 +143,7 @@ fn target_fault(payload: &[u8], at: usize) -> u8
         return CUT_OFF;
     }
     let kind = payload[at];
-    let length = base::wide(word_at(payload, at + 1));
+    let length = usize::from(word_at(payload, at + 1));
     let after = at + TARGET_HEAD + length;
     let wrong = is_wrong_length(kind, length);
     if wrong {
@@ -169,7 +169,7 @@ fn user_fault(payload: &[u8], at: usize) -> u8
     if size < at + LENGTH {
         return CUT_OFF;
     }
-    let length = base::wide(word_at(payload, at));
+    let length = usize::from(word_at(payload, at));
     let end = at + LENGTH + length;
     if size < end {
         return CUT_OFF;
@@ -188,12 +188,12 @@ pub fn parts_of(payload: &[u8]) -> Parts
     if head != 0 {
         return Parts::Faulty(head);
     }
-    let at = NAME_AT + base::wide(word_at(payload, 1));
+    let at = NAME_AT + usize::from(word_at(payload, 1));
     let aim = target_fault(payload, at);
     if aim != 0 {
         return Parts::Faulty(aim);
     }
-    let tail = at + TARGET_HEAD + base::wide(word_at(payload, at + 1));
+    let tail = at + TARGET_HEAD + usize::from(word_at(payload, at + 1));
     let left = user_fault(payload, tail);
     if left != 0 {
         return Parts::Faulty(left);

@@ -38,7 +38,7 @@ fn entry_size(size: u16) -> usize
     requires { size ≤ 1024 }
     ensures { result ≡ entry_size size }
 {
-    let bytes = base::wide(size);
+    let bytes = usize::from(size);
     if size < file_number::SECOND {
         bytes + 1
     } else {
