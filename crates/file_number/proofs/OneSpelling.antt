@@ -14,15 +14,20 @@ use Prim.Native.Nat.{ℕ, ◌+◌, ◌*◌, ◌/◌, ◌%◌, ◌<◌, ◌≤◌
 use native.Mathlib.Omega.{arith}
 use lib.Dec.{ltb}
 use lib.ListN.{length}
-use borrow.Author.Tests.{le-ltb, ltb-true, ltb-false}
+use borrow.Author.Tests.{le-ltb, ne_eqb, ltb-true, ltb-false}
 use Rattle.base.proofs.Cases.{by, same_or}
-use Rattle.file_number.specs.Number.{largest, spelling, spelt, groups, worth, cut_off, last_is_zero, not_shortest, number_in, number_at, Bytes}
+use Rattle.file_number.specs.Number.{largest, spelling, spelt, groups, worth, cut_off, last_is_zero, not_shortest, numeral, number_in, number_at, Bytes}
 use Rattle.file_number.specs.Answer.{number_told, number_code, number_back, NumberBack}
+use Rattle.std.specs.Prelude.{Result, Ok, Err}
+use Rattle.refusal.specs.declared.Refusal.{Refusal}
+use Rattle.refusal.specs.declared.Refusal.TheVariants.{BadNumber}
+use Rattle.refusal.specs.Refusal.{number}
+use Rattle.refusal.proofs.Numbers.{in_byte, back}
 use Rattle.file_number.specs.declared.Number.{Number}
 use Rattle.file_number.proofs.Spelling.{spelt-1, spelt-2, spelt-3}
 use Rattle.file_number.proofs.Reading.{one_in, zero_in, two_in, zero-in-3, three-in, above_in}
 
-pub read-spelt : (n : ℕ) → n ≤ largest → (rest : List ℕ) (at : ℕ) → number_in (spelt n ++ rest) at ≡ Number.Value n (at + length (spelt n))
+pub read-spelt : (n : ℕ) → n ≤ largest → (rest : List ℕ) (at : ℕ) → number_in (spelt n ++ rest) at ≡ Ok (numeral n (at + length (spelt n)))
 read-spelt n m rest at =
     by (ltb n 128)
     (λ t. let l : n < 128 = ltb-true n 128 t in rw (spelt-1 n l) (one_in at n rest l))
@@ -32,13 +37,13 @@ read-spelt n m rest at =
     (λ t.
     let l : n / 128 < 128 = ltb-true (n / 128) 128 t in
     let v : (128 + n % 128) % 128 + n / 128 * 128 ≡ n = omega arith in
-    rw (spelt-2 n g l) (two_in at (128 + n % 128) (omega arith) (n / 128) rest (omega arith) l ∙ ap (λ k. Number.Value k (at + 2)) v))
+    rw (spelt-2 n g l) (two_in at (128 + n % 128) (omega arith) (n / 128) rest (omega arith) l ∙ ap (λ k. Ok (numeral k (at + 2))) v))
     (λ h.
     let l : 128 ≤ n / 128 = ltb-false (n / 128) 128 h in
     let v : (128 + n % 128) % 128 + (128 + n / 128 % 128) % 128 * 128 + n / 128 / 128 * 16384 ≡ n = omega arith in
     rw (spelt-3 n g l)
     (three-in at (128 + n % 128) (omega arith) (128 + n / 128 % 128) (omega arith) (n / 128 / 128) rest (omega arith) (omega arith)
-    ∙ ap (λ k. Number.Value k (at + 3)) v)))
+    ∙ ap (λ k. Ok (numeral k (at + 3))) v)))
 
 -- a number that is spelt at the front of some bytes, and the place after it
 pub record Spelt (s : List ℕ) (at n next : ℕ) : Type 0 where
@@ -47,36 +52,36 @@ pub record Spelt (s : List ℕ) (at n next : ℕ) : Type 0 where
   pub here : s ≡ spelt n ++ rest
   pub after : next ≡ at + length (spelt n)
 
-module _ {v next no : ℕ} where
-  unlike : Number.Value v next ≡ Number.Refused no → ⊥
-  unlike e = let z : ◌≡◌ {A = ℕ} 0 1 = cc in omega arith
+module _ {found : Number} {r : Refusal} where
+  unlike : Ok found ≡ Err r → ⊥
+  unlike e = cc
 
 parted : (n low high : ℕ) → low < 128 → n ≡ low + high * 128 → (n % 128 ≡ low) × (n / 128 ≡ high)
 parted n low high l e = (omega arith, omega arith)
 
 module _ (at n next : ℕ) where
   -- the reading that the groups have is the one given
-  told : {r : Number} (v after : ℕ) → r ≡ Number.Value v after → r ≡ Number.Value n next → (n ≡ v) × (next ≡ after)
-  told v after p q = (cc, cc)
+  told : {r : Result Number Refusal} (v after : ℕ) → r ≡ Ok (numeral v after) → r ≡ Ok (numeral n next) → (n ≡ v) × (next ≡ after)
+  told v after p q = let e : numeral n next ≡ numeral v after = cc in (ap (λ w. w.value) e, ap (λ w. w.next) e)
 
-  refuted : {A : Type 0} {r : Number} → r ≡ Number.Refused 11 → r ≡ Number.Value n next → A
+  refuted : {A : Type 0} {r : Result Number Refusal} → r ≡ Err BadNumber → r ≡ Ok (numeral n next) → A
   refuted p q = absurd (unlike (sym q ∙ p))
 
-  cut-1 : number_in [] at ≡ Number.Refused 11
+  cut-1 : number_in [] at ≡ Err BadNumber
   unfolding number_in cut_off
   cut-1 = refl
 
   module _ (a : ℕ) (high : 128 ≤ a) where
-    cut-2 : number_in (a ∷ []) at ≡ Number.Refused 11
+    cut-2 : number_in (a ∷ []) at ≡ Err BadNumber
     unfolding number_in cut_off groups
     cut-2 = rw (le-ltb a 128 high)
 
     module _ (b : ℕ) (more : 128 ≤ b) where
-      cut-3 : number_in (a ∷ b ∷ []) at ≡ Number.Refused 11
+      cut-3 : number_in (a ∷ b ∷ []) at ≡ Err BadNumber
       unfolding number_in cut_off groups
       cut-3 = rw (le-ltb a 128 high, le-ltb b 128 more)
 
-      only-3 : (s : List ℕ) → Bytes (a ∷ b ∷ s) → number_in (a ∷ b ∷ s) at ≡ Number.Value n next → Spelt (a ∷ b ∷ s) at n next
+      only-3 : (s : List ℕ) → Bytes (a ∷ b ∷ s) → number_in (a ∷ b ∷ s) at ≡ Ok (numeral n next) → Spelt (a ∷ b ∷ s) at n next
       only-3 [] w e = refuted cut-3 e
       only-3 (c ∷ s) w e =
           ⊎_elim
@@ -99,7 +104,7 @@ module _ (at n next : ℕ) where
           record { most = omega arith; rest = s; here = rw sp; after = rw sp k.1 }))
           (same_or c 0)
 
-    only-2 : (s : List ℕ) → Bytes (a ∷ s) → number_in (a ∷ s) at ≡ Number.Value n next → Spelt (a ∷ s) at n next
+    only-2 : (s : List ℕ) → Bytes (a ∷ s) → number_in (a ∷ s) at ≡ Ok (numeral n next) → Spelt (a ∷ s) at n next
     only-2 [] w e = refuted cut-2 e
     only-2 (b ∷ s) w e =
         ⊎_elim
@@ -118,7 +123,7 @@ module _ (at n next : ℕ) where
         (λ t. only-3 b (ltb-false b 128 t) s w e))
         (same_or b 0)
 
-  pub only-spelt : (s : List ℕ) → Bytes s → number_in s at ≡ Number.Value n next → Spelt s at n next
+  pub only-spelt : (s : List ℕ) → Bytes s → number_in s at ≡ Ok (numeral n next) → Spelt s at n next
   only-spelt [] w e = refuted cut-1 e
   only-spelt (a ∷ s) w e =
       by (ltb a 128)
@@ -132,12 +137,13 @@ module _ (at n next : ℕ) where
 
 pub one-spelling : (m n : ℕ) → m ≤ largest → n ≤ largest → (a b : List ℕ) → spelt m ++ a ≡ spelt n ++ b → m ≡ n
 one-spelling m n l k a b e =
-    let p : number_in (spelt m ++ a) 0 ≡ Number.Value m (0 + length (spelt m)) = read-spelt m l a 0 in
-    let q : number_in (spelt n ++ b) 0 ≡ Number.Value n (0 + length (spelt n)) = read-spelt n k b 0 in
-    cc
+    let p : number_in (spelt m ++ a) 0 ≡ Ok (numeral m (0 + length (spelt m))) = read-spelt m l a 0 in
+    let q : number_in (spelt n ++ b) 0 ≡ Ok (numeral n (0 + length (spelt n))) = read-spelt n k b 0 in
+    let w : numeral m (0 + length (spelt m)) ≡ numeral n (0 + length (spelt n)) = cc in
+    ap (λ x. x.value) w
 
 -- 11 or a number
-answers : (s : List ℕ) (at : ℕ) → (number_in s at ≡ Number.Refused 11) ⊎ (number_in s at ≡ Number.Value (worth (groups s)) (at + length (groups s)))
+answers : (s : List ℕ) (at : ℕ) → (number_in s at ≡ Err BadNumber) ⊎ (number_in s at ≡ Ok (numeral (worth (groups s)) (at + length (groups s))))
 unfolding number_in
 answers s at = by (cut_off s || (not_shortest s || ltb largest (worth (groups s)))) (λ t. inl (rw t)) (λ f. inr (rw f))
 
@@ -155,7 +161,7 @@ refused-11 s w at = (
 )
 
 -- P12: number 128 is 80 01; 80 00 is refused 11
-pub example-12 : (spelt 128 ≡ 0x80 ∷ 0x01 ∷ []) × (number_in (0x80 ∷ 0x00 ∷ []) 0 ≡ Number.Refused 11)
+pub example-12 : (spelt 128 ≡ 0x80 ∷ 0x01 ∷ []) × (number_in (0x80 ∷ 0x00 ∷ []) 0 ≡ Err BadNumber)
 unfolding spelling number_in cut_off groups worth last_is_zero
 example-12 = (refl, refl)
 
@@ -165,7 +171,7 @@ unfolding spelling
 spelt-3-long n =
     by (ltb n 128) (λ t. rw t (omega arith)) (λ f. by (ltb (n / 128) 128) (λ t. rw (f, t) (omega arith)) (λ t. rw (f, t) (omega arith)))
 
-pub three-most : (s : List ℕ) → Bytes s → (n next : ℕ) → number_in s 0 ≡ Number.Value n next → (n ≤ largest) × (next ≤ 3)
+pub three-most : (s : List ℕ) → Bytes s → (n next : ℕ) → number_in s 0 ≡ Ok (numeral n next) → (n ≤ largest) × (next ≤ 3)
 three-most s w n next e =
     let g = only-spelt 0 n next s w e in
     let l : length (spelt n) ≤ 3 = spelt-3-long n in
@@ -181,22 +187,17 @@ number_of n next m = let whole : (256 * n + 16777216 * next) / 256 ≡ n + 65536
 size_of : (n next : ℕ) → n ≤ largest → (256 * n + 16777216 * next) / 16777216 ≡ next
 size_of n next m = omega arith
 
-back-value : (n next : ℕ) → n ≤ largest → next ≤ 3 → number_back (number_code (Number.Value n next)) ≡ Number.Value n next
+back-value : (n next : ℕ) → n ≤ largest → next ≤ 3 → number_back (number_code (Ok (numeral n next))) ≡ Ok (numeral n next)
 back-value n next m l =
     let low : (256 * n + 16777216 * next) % 256 ≡ 0 = omega arith in
     rw (low, number_of n next m, size_of n next m)
 
--- no other number refuses
-only-11 : (s : List ℕ) (n : ℕ) → number_in s 0 ≡ Number.Refused n → n ≡ 11
-unfolding number_in
-only-11 s n e =
-    by (cut_off s || (not_shortest s || ltb largest (worth (groups s))))
-    (λ t. let z : Number.Refused 11 ≡ Number.Refused n = rw t at e in cc)
-    (λ f. absurd (unlike (rw f at e)))
-
 pub number-back : NumberBack
 number-back bytes w = go (number_at bytes 0) refl
   where
-    go : (r : Number) → number_at bytes 0 ≡ r → number_back (number_code r) ≡ r
-    go (Number.Value n next) e = let k = three-most bytes w n next e in back-value n next k.0 k.1
-    go (Number.Refused n) e = rw (only-11 bytes n e)
+    go : (r : Result Number Refusal) → number_at bytes 0 ≡ r → number_back (number_code r) ≡ r
+    go (Ok found) e = let k = three-most bytes w found.value found.next e in back-value found.value found.next k.0 k.1
+    go (Err r) e =
+        let low : 0 < number r = (in_byte r).0 in
+        let high : number r < 256 = (in_byte r).1 in
+        rw (ne_eqb (number r % 256) 0 (omega arith)) (ap Err (back r))

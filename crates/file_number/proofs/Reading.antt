@@ -14,8 +14,9 @@ use lib.Seq.{drop-cons}
 use borrow.Author.Tests.{lt-ltb, le-ltb, ne_eqb, ltb-true, eqb-false}
 use Rattle.base.specs.Bytes.{byte}
 use Rattle.base.proofs.Cases.{by, unlike}
-use Rattle.file_number.specs.Number.{groups, worth, cut_off, last_is_zero, number_in, number_at, largest}
-use Rattle.file_number.specs.declared.Number.{Number}
+use Rattle.file_number.specs.Number.{groups, worth, cut_off, last_is_zero, numeral, number_in, number_at, largest}
+use Rattle.std.specs.Prelude.{Ok, Err}
+use Rattle.refusal.specs.declared.Refusal.TheVariants.{BadNumber}
 
 -- the byte at a place, and those after it
 from-here : (file : List ℕ) (at : ℕ) → at < length file → drop at file ≡ byte file at ∷ drop (at + 1) file
@@ -35,30 +36,30 @@ some-worth (b ∷ s) c z =
 
 -- the bytes from a place of the file on, one group after another
 module _ (at : ℕ) where
-  pub one_in : (a : ℕ) (s : List ℕ) → a < 128 → number_in (a ∷ s) at ≡ Number.Value a (at + 1)
+  pub one_in : (a : ℕ) (s : List ℕ) → a < 128 → number_in (a ∷ s) at ≡ Ok (numeral a (at + 1))
   unfolding number_in cut_off groups worth last_is_zero
   one_in a s l =
       let e : a % 128 + 0 ≡ a = omega arith in
       rw (lt-ltb a 128 l, e, le-ltb largest a (omega arith))
 
   module _ (a : ℕ) (high : 128 ≤ a) where
-    pub zero_in : (s : List ℕ) → number_in (a ∷ 0 ∷ s) at ≡ Number.Refused 11
+    pub zero_in : (s : List ℕ) → number_in (a ∷ 0 ∷ s) at ≡ Err BadNumber
     unfolding number_in cut_off groups worth last_is_zero
     zero_in s = rw (le-ltb a 128 high)
 
-    pub two_in : (b : ℕ) (s : List ℕ) → (b ≡ 0 → ⊥) → b < 128 → number_in (a ∷ b ∷ s) at ≡ Number.Value (a % 128 + b * 128) (at + 2)
+    pub two_in : (b : ℕ) (s : List ℕ) → (b ≡ 0 → ⊥) → b < 128 → number_in (a ∷ b ∷ s) at ≡ Ok (numeral (a % 128 + b * 128) (at + 2))
     unfolding number_in cut_off groups worth last_is_zero
     two_in b s n l =
         let e : a % 128 + 128 * (b % 128 + 0) ≡ a % 128 + b * 128 = omega arith in
         rw (le-ltb a 128 high, lt-ltb b 128 l, ne_eqb b 0 n, e, le-ltb largest (a % 128 + b * 128) (omega arith))
 
     module _ (b : ℕ) (more : 128 ≤ b) where
-      pub zero-in-3 : (s : List ℕ) → number_in (a ∷ b ∷ 0 ∷ s) at ≡ Number.Refused 11
+      pub zero-in-3 : (s : List ℕ) → number_in (a ∷ b ∷ 0 ∷ s) at ≡ Err BadNumber
       unfolding number_in cut_off groups worth last_is_zero
       zero-in-3 s = rw (le-ltb a 128 high, le-ltb b 128 more)
 
       pub three-in : (c : ℕ) (s : List ℕ) → (c ≡ 0 → ⊥) → c ≤ 3
-          → number_in (a ∷ b ∷ c ∷ s) at ≡ Number.Value (a % 128 + b % 128 * 128 + c * 16384) (at + 3)
+          → number_in (a ∷ b ∷ c ∷ s) at ≡ Ok (numeral (a % 128 + b % 128 * 128 + c * 16384) (at + 3))
       unfolding number_in cut_off groups worth last_is_zero
       three-in c s n l =
           let e : a % 128 + 128 * (b % 128 + 128 * (c % 128 + 0)) ≡ a % 128 + b % 128 * 128 + c * 16384 = omega arith in
@@ -72,7 +73,7 @@ module _ (at : ℕ) where
           )
 
       -- a third group above 3 says a number above 65,535, or its top bit is set and the number ends badly or is larger still
-      pub above_in : (c : ℕ) (s : List ℕ) → 3 < c → number_in (a ∷ b ∷ c ∷ s) at ≡ Number.Refused 11
+      pub above_in : (c : ℕ) (s : List ℕ) → 3 < c → number_in (a ∷ b ∷ c ∷ s) at ≡ Err BadNumber
       unfolding number_in cut_off groups worth last_is_zero
       above_in c s l =
           by (ltb c 128)
@@ -104,16 +105,16 @@ module _ (at : ℕ) where
           ))))
 
 module _ (file : List ℕ) (at : ℕ) where
-  pub none_1 : length file ≤ at → Number.Refused 11 ≡ number_at file at
+  pub none_1 : length file ≤ at → Err BadNumber ≡ number_at file at
   unfolding number_in cut_off
   none_1 h = rw (drop_of_length-le file h)
 
   module _ (i : at < length file) where
-    pub one : byte file at < 128 → Number.Value (byte file at) (at + 1) ≡ number_at file at
+    pub one : byte file at < 128 → Ok (numeral (byte file at) (at + 1)) ≡ number_at file at
     one l = rw (from-here file at i) (sym (one_in at _ _ l))
 
     module _ (a : 128 ≤ byte file at) where
-      pub none_2 : length file ≤ at + 1 → Number.Refused 11 ≡ number_at file at
+      pub none_2 : length file ≤ at + 1 → Err BadNumber ≡ number_at file at
       unfolding number_in cut_off groups
       none_2 h = rw (from-here file at i, le-ltb (byte file at) 128 a, drop_of_length-le file h)
 
@@ -121,15 +122,15 @@ module _ (file : List ℕ) (at : ℕ) where
         after-1 : drop at file ≡ byte file at ∷ byte file (at + 1) ∷ drop (at + 1 + 1) file
         after-1 = rw (from-here file at i, from-here file (at + 1) j)
 
-        pub zero-2 : byte file (at + 1) ≡ 0 → Number.Refused 11 ≡ number_at file at
+        pub zero-2 : byte file (at + 1) ≡ 0 → Err BadNumber ≡ number_at file at
         zero-2 z = rw (after-1, z) (sym (zero_in at _ a _))
 
         module _ (n : byte file (at + 1) ≡ 0 → ⊥) where
-          pub two : byte file (at + 1) < 128 → Number.Value (byte file at % 128 + byte file (at + 1) * 128) (at + 1 + 1) ≡ number_at file at
+          pub two : byte file (at + 1) < 128 → Ok (numeral (byte file at % 128 + byte file (at + 1) * 128) (at + 1 + 1)) ≡ number_at file at
           two l = let e : at + 1 + 1 ≡ at + 2 = omega arith in rw (after-1, e) (sym (two_in at _ a _ _ n l))
 
           module _ (b : 128 ≤ byte file (at + 1)) where
-            pub none-3 : length file ≤ at + 1 + 1 → Number.Refused 11 ≡ number_at file at
+            pub none-3 : length file ≤ at + 1 + 1 → Err BadNumber ≡ number_at file at
             unfolding number_in cut_off groups
             none-3 h = rw (after-1, le-ltb (byte file at) 128 a, le-ltb (byte file (at + 1)) 128 b, drop_of_length-le file h)
 
@@ -137,14 +138,14 @@ module _ (file : List ℕ) (at : ℕ) where
               after-2 : drop at file ≡ byte file at ∷ byte file (at + 1) ∷ byte file (at + 1 + 1) ∷ drop (at + 1 + 1 + 1) file
               after-2 = rw (after-1, from-here file (at + 1 + 1) k)
 
-              pub zero-3 : byte file (at + 1 + 1) ≡ 0 → Number.Refused 11 ≡ number_at file at
+              pub zero-3 : byte file (at + 1 + 1) ≡ 0 → Err BadNumber ≡ number_at file at
               zero-3 z = rw (after-2, z) (sym (zero-in-3 at _ a _ b _))
 
               module _ (m : byte file (at + 1 + 1) ≡ 0 → ⊥) where
-                pub above-3 : 3 < byte file (at + 1 + 1) → Number.Refused 11 ≡ number_at file at
+                pub above-3 : 3 < byte file (at + 1 + 1) → Err BadNumber ≡ number_at file at
                 above-3 l = rw after-2 (sym (above_in at _ a _ b _ _ l))
 
                 pub three : byte file (at + 1 + 1) ≤ 3
-                    → Number.Value (byte file at % 128 + byte file (at + 1) % 128 * 128 + byte file (at + 1 + 1) * 16384) (at + 1 + 1 + 1)
+                    → Ok (numeral (byte file at % 128 + byte file (at + 1) % 128 * 128 + byte file (at + 1 + 1) * 16384) (at + 1 + 1 + 1))
                     ≡ number_at file at
                 three l = let e : at + 1 + 1 + 1 ≡ at + 3 = omega arith in rw (after-2, e) (sym (three-in at _ a _ b _ _ m l))

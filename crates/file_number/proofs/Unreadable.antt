@@ -12,9 +12,11 @@ use lib.ListN.{length, length-append}
 use borrow.Author.Tests.{lt-ltb, le-ltb, ltb-true, ltb-false, eqb-true}
 use Rattle.base.specs.Tables.{Decides}
 use Rattle.base.proofs.Cases.{by, unlike, and_left, and_right}
-use Rattle.file_number.specs.Number.{largest, groups, worth, cut_off, last_is_zero, not_shortest, number_in}
+use Rattle.file_number.specs.Number.{largest, groups, worth, cut_off, last_is_zero, not_shortest, numeral, number_in}
 use Rattle.file_number.specs.Unreadable.{Continued, Groups, CutOff, NotShortest, AboveLargest, Unreadable}
-use Rattle.file_number.specs.declared.Number.{Number}
+use Rattle.std.specs.Prelude.{Ok, Err}
+use Rattle.refusal.specs.declared.Refusal.{Refusal}
+use Rattle.refusal.specs.declared.Refusal.TheVariants.{BadNumber}
 
 cut-so : (s : List ℕ) → Decides (cut_off s) (CutOff s)
 unfolding cut_off
@@ -111,19 +113,19 @@ module _ (s : List ℕ) where
   decided = (bad-says, λ u. ⊎_elim (λ c. rw ((cut-so s).1 c)) (λ v. ⊎_elim short-bad above-bad v) u)
 
   module _ (at : ℕ) where
-    pub unreadable-exactly : (number_in s at ≡ Number.Refused 11) ↔ Unreadable s
+    pub unreadable-exactly : (number_in s at ≡ Err BadNumber) ↔ Unreadable s
     unfolding number_in
     unreadable-exactly = (
       λ e.
           by bad
           (λ t. bad-says t)
-          (λ f. absurd (let q : Number.Value (worth (groups s)) (at + length (groups s)) ≡ Number.Refused 11 = rw f at e in let z : ◌≡◌ {A = ℕ} 0 1 = cc in omega arith)),
+          (λ f. let q : Ok (numeral (worth (groups s)) (at + length (groups s))) ≡ Err BadNumber = rw f at e in cc),
       λ u. rw (decided.1 u),
     )
 
-    pub only-11 : (n : ℕ) → number_in s at ≡ Number.Refused n → n ≡ 11
+    pub only-11 : (r : Refusal) → number_in s at ≡ Err r → r ≡ BadNumber
     unfolding number_in
-    only-11 n e =
+    only-11 r e =
         by bad
-        (λ t. let q : Number.Refused 11 ≡ Number.Refused n = rw t at e in cc)
-        (λ f. absurd (let q : Number.Value (worth (groups s)) (at + length (groups s)) ≡ Number.Refused n = rw f at e in let z : ◌≡◌ {A = ℕ} 0 1 = cc in omega arith))
+        (λ t. let q : Err BadNumber ≡ Err r = rw t at e in cc)
+        (λ f. let q : Ok (numeral (worth (groups s)) (at + length (groups s))) ≡ Err r = rw f at e in cc)

@@ -9,14 +9,15 @@ use Rattle.base.specs.Choice.{◌if◌}
 use Rattle.base.proofs.Tables.{among}
 use Rattle.file_number.specs.Number.{spelt, Writing, writing, written_of}
 use Rattle.file_number.specs.Answer.{spelled_told}
-use Rattle.file_number.specs.declared.Written.{Written}
+use Rattle.std.specs.Prelude.{Ok, Err}
+use Rattle.refusal.specs.declared.Refusal.TheVariants.{OutputTooSmall}
 
 pub write-number-untouched : (n : ℕ) (out : List ℕ) → 0 < (spelled_told (written_of n out).said).number → (written_of n out).out ≡ out
 unfolding written_of
 write-number-untouched n out =
-    among (λ no. writing (Written.Refused no) out)
+    among (λ r. writing (Err r) out)
     (λ (w : Writing). 0 < (spelled_told w.said).number → w.out ≡ out)
-    (15 if ltb (length out) (length (spelt n)) ∷ [])
-    (writing (Written.Bytes (length (spelt n))) (spelt n ++ drop (length (spelt n)) out))
+    (OutputTooSmall if ltb (length out) (length (spelt n)) ∷ [])
+    (writing (Ok (length (spelt n))) (spelt n ++ drop (length (spelt n)) out))
     (λ _. refl, tt)
     (λ h. absurd (omega arith))

@@ -1,9 +1,10 @@
 -- Document 01, "The shelf file": the numbers of a file. "Groups of seven bits, lowest group first, top bit set on every group but
 -- the last, shortest form, at most 65,535", and number 11.
-use Rattle.std.specs.Prelude.{ℕ, zero, suc, ◌+◌, ◌*◌, ◌/◌, ◌%◌, ◌<◌, List, [], ◌∷◌, ◌++◌, Bool, true, false, ◌||◌, ◌&&◌, length, get_or, drop, ltb, eqb, if◌then◌else◌}
+use Rattle.std.specs.Prelude.{ℕ, zero, suc, ◌+◌, ◌*◌, ◌/◌, ◌%◌, ◌<◌, List, [], ◌∷◌, ◌++◌, Bool, true, false, ◌||◌, ◌&&◌, length, get_or, drop, ltb, eqb, if◌then◌else◌, Result, Ok, Err}
+use Rattle.refusal.specs.declared.Refusal.{Refusal}
+use Rattle.refusal.specs.declared.Refusal.TheVariants.{BadNumber, OutputTooSmall}
 use Rattle.base.specs.Choice.{Row, ◌if◌, first}
 use Rattle.file_number.specs.declared.Number.{Number}
-use Rattle.file_number.specs.declared.Written.{Written}
 
 -- the largest number
 abbrev pub largest : ℕ
@@ -44,30 +45,34 @@ not_shortest s = ltb 1 (length (groups s)) && last_is_zero s
 
 -- 11: file number cut off, not shortest, or above 65,535
 abbrev pub faults : List ℕ → List Row
-faults s = 11 if (cut_off s || (not_shortest s || ltb largest (worth (groups s)))) ∷ []
+faults s = BadNumber if (cut_off s || (not_shortest s || ltb largest (worth (groups s)))) ∷ []
+
+-- a number and the place after it
+abbrev pub numeral : ℕ → ℕ → Number
+numeral value next = record { value = value; next = next }
 
 -- the number at the front of bytes that begin at a place of the file, and the place after it
-unfoldable pub number_in : List ℕ → ℕ → Number
-number_in s at = first Number.Refused (faults s) (Number.Value (worth (groups s)) (at + length (groups s)))
+unfoldable pub number_in : List ℕ → ℕ → Result Number Refusal
+number_in s at = first Err (faults s) (Ok (numeral (worth (groups s)) (at + length (groups s))))
 
 -- the number at a place of the file
-abbrev pub number_at : List ℕ → ℕ → Number
+abbrev pub number_at : List ℕ → ℕ → Result Number Refusal
 number_at file at = number_in (drop at file) at
 
 -- what writing leaves: the answer and the output
 pub record Writing : Type 0 where
-  pub said : Written
+  pub said : Result ℕ Refusal
   pub out : List ℕ
 
-abbrev pub writing : Written → List ℕ → Writing
+abbrev pub writing : Result ℕ Refusal → List ℕ → Writing
 writing said out = record { said = said; out = out }
 
 -- a number written at the front of the output, whose bytes past it stay as they were; 15 where it does not fit
 unfoldable pub written_of : ℕ → List ℕ → Writing
 written_of n out =
-    first (λ no. writing (Written.Refused no) out)
-    (15 if ltb (length out) (length (spelt n)) ∷ [])
-    (writing (Written.Bytes (length (spelt n))) (spelt n ++ drop (length (spelt n)) out))
+    first (λ r. writing (Err r) out)
+    (OutputTooSmall if ltb (length out) (length (spelt n)) ∷ [])
+    (writing (Ok (length (spelt n))) (spelt n ++ drop (length (spelt n)) out))
 
 -- each is a byte
 abbrev pub Bytes : List ℕ → Type 0

@@ -6,21 +6,14 @@ ghost use Rattle.std.specs.Prelude.{◌≡◌};
 ghost use Rattle.file_number.specs.Number.{number_at, writing, written_of};
 ghost use Rattle.file_number.specs.Answer.{number_lent};
 
-#[derive(Drop)]
-pub enum Number {
-    // The number, and the place after its last group.
-    Value(u16, usize),
-    Refused(u8),
-}
+use refusal::Refusal;
 
-#[derive(Drop)]
-pub enum Written {
-    // So many bytes now stand at the front of the output.
-    Bytes(usize),
-    Refused(u8),
+// A number that was read, and the place after its last group.
+#[derive(Clone, Copy, Debug, PartialEq, Eq)]
+pub struct Number {
+    pub value: u16,
+    pub next: usize,
 }
-
-pub const BAD_NUMBER: u8 = 11;
 
 // A group's seven bits, and its top bit.
 const GROUP: u8 = 128;
@@ -34,46 +27,49 @@ pub const SECOND: u16 = 128;
 const THIRD: u16 = 16384;
 
 // The number at a place of the file and the place after it, or 11.
-pub fn read_number(file: &[u8], at: usize) -> Number
+pub fn read_number(file: &[u8], at: usize) -> Result<Number, Refusal>
     ensures { result ≡ number_at file.now at }
 {
     let end = file.len();
     if end <= at {
-        return Number::Refused(BAD_NUMBER);
+        return Err(Refusal::BadNumber);
     }
     let low = file[at];
     let second = at + 1;
     if low < GROUP {
         let value = u16::from(low);
-        return Number::Value(value, second);
+        return Ok(Number {
+            value,
+            next: second,
+        });
     }
     if end <= second {
-        return Number::Refused(BAD_NUMBER);
+        return Err(Refusal::BadNumber);
     }
     let middle = file[second];
     if middle == 0 {
-        return Number::Refused(BAD_NUMBER);
+        return Err(Refusal::BadNumber);
     }
     let third = second + 1;
     if middle < GROUP {
         let value = u16::from(low % GROUP) + u16::from(middle) * SECOND;
-        return Number::Value(value, third);
+        return Ok(Number { value, next: third });
     }
     if end <= third {
-        return Number::Refused(BAD_NUMBER);
+        return Err(Refusal::BadNumber);
     }
     let high = file[third];
     if high == 0 {
-        return Number::Refused(BAD_NUMBER);
+        return Err(Refusal::BadNumber);
     }
     if HIGHEST_THIRD < high {
-        return Number::Refused(BAD_NUMBER);
+        return Err(Refusal::BadNumber);
     }
     let value = u16::from(low % GROUP)
         + u16::from(middle % GROUP) * SECOND
         + u16::from(high) * THIRD;
     let next = third + 1;
-    Number::Value(value, next)
+    Ok(Number { value, next })
 }
 
 // The answer in one number: the number in bits 8 to 23, and how many bytes it takes in bits 24 to 31.
@@ -85,45 +81,44 @@ const BIT_24: u32 = 16777216;
 pub fn number_code(bytes: &[u8]) -> u32
     ensures { result ≡ number_lent bytes.now }
 {
-    let found = read_number(bytes, 0);
-    match found {
-        Number::Refused(n) => u32::from(n),
-        Number::Value(value, next) => {
-            let size = (next % 256) as u32;
-            BIT_8 * u32::from(value) + BIT_24 * size
+    match read_number(bytes, 0) {
+        Ok(number) => {
+            let size = (number.next % 256) as u32;
+            BIT_8 * u32::from(number.value) + BIT_24 * size
         }
+        Err(refusal) => refusal as u32,
     }
 }
 
-// The number, written in its one spelling at the front of the output; 15 where it does not fit.
-pub fn write_number(n: u16, out: &mut [u8]) -> Written
+// The number, written in its one spelling at the front of the output, and how many bytes it takes there; 15 where it does not fit.
+pub fn write_number(n: u16, out: &mut [u8]) -> Result<usize, Refusal>
     ensures { writing result out.new ≡ written_of n out.old }
 {
     let room = out.len();
     if n < SECOND {
         if room < 1 {
-            return Written::Refused(answers::OUTPUT_TOO_SMALL);
+            return Err(Refusal::OutputTooSmall);
         }
         out[0] = n as u8;
-        return Written::Bytes(1);
+        return Ok(1);
     }
     let low = (SECOND + n % SECOND) as u8;
     let rest = n / SECOND;
     if rest < SECOND {
         if room < 2 {
-            return Written::Refused(answers::OUTPUT_TOO_SMALL);
+            return Err(Refusal::OutputTooSmall);
         }
         out[0] = low;
         out[1] = rest as u8;
-        return Written::Bytes(2);
+        return Ok(2);
     }
     if room < 3 {
-        return Written::Refused(answers::OUTPUT_TOO_SMALL);
+        return Err(Refusal::OutputTooSmall);
     }
     let middle = (SECOND + rest % SECOND) as u8;
     let high = (rest / SECOND) as u8;
     out[0] = low;
     out[1] = middle;
     out[2] = high;
-    Written::Bytes(3)
+    Ok(3)
 }

@@ -3,12 +3,11 @@ use mathlib.Core.Path.{sym, ap, ◌∙◌}
 use native.Mathlib.Omega.{arith}
 use Rattle.file_number.specs.Answer.{number_code}
 use Rattle.file_number.proofs.OneSpelling.{three-most, size_same}
-use borrow.Author.Rules.{rules}
 use Rattle.file_number.proofs.number_code.Goals as goal
 
-pub returns-in-Value : goal.returns-in-Value
-returns-in-Value c =
-    let e = sym c.read_number-found.ensures ∙ c.in-Value.is in
+pub returns-in-Ok : goal.returns-in-Ok
+returns-in-Ok c =
+    let e = sym c.read_number.ensures ∙ c.in-Ok.is in
     let few = (three-most _ (λ k. omega (arith, c.type_inv.bytes k)) _ _ e).1 in
     let same = size_same _ few in
-    rw (c.full.ensures.0, same) (ap number_code (sym e))
+    rw (c.from.ensures, same) (ap number_code (sym e))

@@ -7,7 +7,7 @@ pub returns-then-end-at : goal.returns-then-end-at
 returns-then-end-at c = search (rules, none_1)
 
 pub returns-then-low-lt-GROUP : goal.returns-then-low-lt-GROUP
-returns-then-low-lt-GROUP c = rw c.half-value.ensures.0 (search (rules, one))
+returns-then-low-lt-GROUP c = search (rules, one)
 
 pub returns-then-end-second : goal.returns-then-end-second
 returns-then-end-second c = search (rules, none_2)
@@ -16,7 +16,7 @@ pub returns-then-middle-eq0 : goal.returns-then-middle-eq0
 returns-then-middle-eq0 c = search (rules, zero-2)
 
 pub returns-then-middle-lt-GROUP : goal.returns-then-middle-lt-GROUP
-returns-then-middle-lt-GROUP c = rw (c.half.ensures.0, c.half-then-middle-lt-GROUP.ensures.0) (search (rules, two))
+returns-then-middle-lt-GROUP c = search (rules, two)
 
 pub returns-then-end-third : goal.returns-then-end-third
 returns-then-end-third c = search (rules, none-3)
@@ -28,4 +28,4 @@ pub returns-then-high-gt-HIGHEST_THIRD : goal.returns-then-high-gt-HIGHEST_THIRD
 returns-then-high-gt-HIGHEST_THIRD c = search (rules, above-3)
 
 pub returns : goal.returns
-returns c = rw (c.half-2.ensures.0, c.half-3.ensures.0, c.half-4.ensures.0) (search (rules, three))
+returns c = search (rules, three)

@@ -1,6 +1,4 @@
 -- `file_number::write_number` meets its promise: the groups that were put stand at the front of the output.
-use native.Mathlib.Omega.{arith}
-use lib.ListN.{length-set}
 use borrow.Author.Rules.{rules}
 use Rattle.file_number.proofs.Writing.{small-1, small-2, small-3, put_1, put_2, put_3}
 use Rattle.file_number.proofs.write_number.Goals as goal
