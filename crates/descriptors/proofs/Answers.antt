@@ -10,9 +10,11 @@ use native.Mathlib.Omega.{arith}
 use borrow.Author.Tests.{eq-eqb, ne_eqb}
 use Rattle.base.specs.Bytes.{byte}
 use Rattle.base.specs.Octets.{Octets}
+use Rattle.std.specs.Prelude.{Ok, Err, Some, None}
+use Rattle.refusal.specs.declared.Refusal.TheVariants.{DescriptorRunsPast}
+use Rattle.refusal.proofs.Numbers.{back as refusal_back}
 use Rattle.descriptors.specs.declared.Descriptor.{Descriptor}
-use Rattle.descriptors.specs.declared.Step.{Step}
-use Rattle.descriptors.specs.Loop.{step_of, descriptor_at}
+use Rattle.descriptors.specs.Loop.{Step, step_of, descriptor_at}
 use Rattle.descriptors.specs.Answer.{descriptor_code, step_code, length_in, step_in, ComesBack, NextStands, Accepted, StepAlike}
 use Rattle.descriptors.proofs.Steps.{Tells, step-tells}
 
@@ -25,18 +27,18 @@ module _ (s : List ℕ) (b : Octets s) (at : ℕ) where
   length_back : length_in at (descriptor_code (descriptor_at s at)) ≡ byte s (at + 1)
   length_back = let tag = b at in let content = b (at + 1) in omega arith
 
-  found : step_in at (descriptor_code (descriptor_at s at)) ≡ Step.Descriptor (descriptor_at s at)
+  found : step_in at (descriptor_code (descriptor_at s at)) ≡ Ok (Some (descriptor_at s at))
   found =
       let tag = b at in
       let code = descriptor_code (descriptor_at s at) in
       rw (eq-eqb (descriptor_code (descriptor_at s at) % 2 ^ 8) 0 (omega arith), ne_eqb (descriptor_code (descriptor_at s at) / 2 ^ 8 % 2 ^ 8) 2 (omega arith))
-      (ap Step.Descriptor
+      (ap (λ d. Ok (Some d))
       (descriptor-by (descriptor_at s at) _ _ _ _ (omega arith) refl length_back (ap (λ n. at + 2 + n) length_back)))
 
   back : (x : Step) → Tells s at x → step_in at (step_code x) ≡ x
-  back (Step.Descriptor d) h = rw h.here found
-  back Step.Over h = refl
-  back (Step.Refused n) h = let e : n ≡ 19 = h.0 in rw (ne_eqb (n % 2 ^ 8) 0 (omega arith))
+  back (Ok (Some d)) h = rw h.here found
+  back (Ok None) h = refl
+  back (Err r) h = rw (h.0, refusal_back DescriptorRunsPast)
 
   pub comes_back : ComesBack s at
   comes_back = back (step_of s at) (step-tells s at)
@@ -54,10 +56,10 @@ module _ (s : List ℕ) (b : Octets s) (at : ℕ) where
     to (step_of s at) (step-tells s at) refl,
   )
     where
-      to : (x : Step) → Tells s at x → step_of s at ≡ x → ¬ (step_of s at ≡ Step.Refused 19) → step_code (step_of s at) % 2 ^ 8 ≡ 0
-      to (Step.Descriptor d) h e n = rw e (omega arith)
-      to Step.Over h e n = rw e (omega arith)
-      to (Step.Refused k) h e n = absurd (n (e ∙ ap Step.Refused h.0))
+      to : (x : Step) → Tells s at x → step_of s at ≡ x → ¬ (step_of s at ≡ Err DescriptorRunsPast) → step_code (step_of s at) % 2 ^ 8 ≡ 0
+      to (Ok (Some d)) h e n = rw e (omega arith)
+      to (Ok None) h e n = rw e (omega arith)
+      to (Err k) h e n = absurd (n (e ∙ ap Err h.0))
 
 pub step_alike : (s t : List ℕ) → Octets s → Octets t → (at : ℕ) → StepAlike s t at
 step_alike s t b c at e = sym (comes_back s b at) ∙ (ap (step_in at) e ∙ comes_back t c at)

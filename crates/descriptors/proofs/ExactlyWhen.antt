@@ -17,9 +17,9 @@ use borrow.Author.Tests.{ltb-true, ltb-false}
 use Rattle.base.specs.Bytes.{byte}
 use Rattle.base.proofs.Cases.{by}
 use Rattle.base.proofs.Bytes.{length_part}
+use Rattle.std.specs.Prelude.{Ok, Err, Some, None}
 use Rattle.descriptors.specs.declared.Descriptor.{Descriptor}
-use Rattle.descriptors.specs.declared.Step.{Step}
-use Rattle.descriptors.specs.Loop.{step_of, view_of, content_of}
+use Rattle.descriptors.specs.Loop.{Step, step_of, view_of, content_of}
 use Rattle.descriptors.specs.Answer.{step_code}
 use Rattle.descriptors.specs.Theorems.{Beyond, RunsPast, Refused19, RefusedRange, Over, Reads, ViewWhole, ViewNone, OneStep, OneView}
 use Rattle.descriptors.proofs.Steps.{Tells, step-tells, step_over, step_past, step-reads, reads-there}
@@ -29,9 +29,9 @@ module _ (s : List ℕ) (at : ℕ) where
   refused_19 = (to (step_of s at) (step-tells s at), from)
     where
       to : (x : Step) → Tells s at x → step_code x ≡ 19 → Beyond s at ⊎ ((at < length s) × RunsPast s at)
-      to (Step.Descriptor d) t e = absurd (omega arith)
-      to Step.Over t e = absurd (omega arith)
-      to (Step.Refused n) t e =
+      to (Ok (Some d)) t e = absurd (omega arith)
+      to (Ok None) t e = absurd (omega arith)
+      to (Err r) t e =
           by (ltb (length s) at)
           (λ b. inl (ltb-true _ _ b))
           (λ b. let h : at ≤ length s = ltb-false _ _ b in let z : at ≡ length s → ⊥ = t.1 in inr (omega arith, inr t.2))
@@ -64,10 +64,10 @@ module _ (s : List ℕ) (at : ℕ) where
   unfolding view_of
   view_none n = go (step_of s at) n
     where
-      go : (x : Step) → ((d : Descriptor) → x ≡ Step.Descriptor d → ⊥) → content_of s x ≡ []
-      go (Step.Descriptor d) n = absurd (n d refl)
-      go Step.Over n = refl
-      go (Step.Refused k) n = refl
+      go : (x : Step) → ((d : Descriptor) → x ≡ Ok (Some d) → ⊥) → content_of s x ≡ []
+      go (Ok (Some d)) n = absurd (n d refl)
+      go (Ok None) n = refl
+      go (Err k) n = refl
 
   pub one_step : OneStep s at
   one_step x y p q = p ∙ sym q

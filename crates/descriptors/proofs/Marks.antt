@@ -17,9 +17,9 @@ use Rattle.base.specs.Below.{every}
 use Rattle.base.proofs.Below.{every-all, every-each}
 use Rattle.base.proofs.Bytes.{byte-part}
 use Rattle.base.proofs.Cases.{unlike, and_left, and_right}
+use Rattle.std.specs.Prelude.{Ok, Err, Some, None}
 use Rattle.descriptors.specs.declared.Descriptor.{Descriptor}
-use Rattle.descriptors.specs.declared.Step.{Step}
-use Rattle.descriptors.specs.Loop.{step_of, view_of}
+use Rattle.descriptors.specs.Loop.{Step, step_of, view_of}
 use Rattle.descriptors.specs.Letter.{across_case, matches}
 use Rattle.descriptors.specs.Mark.{mark, mark_at, marks, is_trigger_tap}
 use Rattle.descriptors.specs.Theorems.{EachMatches, Marked, TapExactly, TapStill, TapSeparated, MarkLong, StationMarked, CapitalsMarked, OneTap}
@@ -47,11 +47,11 @@ module _ (s : List ℕ) (at : ℕ) where
   tap_exactly = (to (step_of s at) refl, from)
     where
       -- the view of a descriptor of 24 bytes
-      view : (d : Descriptor) → step_of s at ≡ Step.Descriptor d → d.length ≡ 24 → view_of s at ≡ part s d.start 24
+      view : (d : Descriptor) → step_of s at ≡ Ok (Some d) → d.length ≡ 24 → view_of s at ≡ part s d.start 24
       view d e n = (view_whole s at d e).0 ∙ ap (part s d.start) n
 
       to : (x : Step) → step_of s at ≡ x → marks s x ≡ true → Marked s at
-      to (Step.Descriptor d) e m =
+      to (Ok (Some d)) e m =
           let t : d.tag ≡ 0x72 = eqb-true _ _ (and_left (eqb d.tag 0x72) _ m) in
           let r : eqb d.length 24 && mark_at s d.start ≡ true = and_right (eqb d.tag 0x72) _ m in
           let n : d.length ≡ 24 = eqb-true _ _ (and_left (eqb d.length 24) _ r) in
@@ -63,8 +63,8 @@ module _ (s : List ℕ) (at : ℕ) where
             long = n;
             view = rw (view d e n) (mark-each s d.start w);
           }
-      to Step.Over e m = absurd (unlike (sym m))
-      to (Step.Refused n) e m = absurd (unlike (sym m))
+      to (Ok None) e m = absurd (unlike (sym m))
+      to (Err n) e m = absurd (unlike (sym m))
 
       from : Marked s at → marks s (step_of s at) ≡ true
       from w =

@@ -12,24 +12,25 @@ use lib.Dec.{ltb, eqb}
 use borrow.Author.Tests.{lt-ltb, le-ltb, eq-eqb, ne_eqb, ltb-true, ltb-false, eqb-true, eqb-false}
 use Rattle.base.specs.Bytes.{byte}
 use Rattle.base.proofs.Cases.{by, either, or_right, unlike}
+use Rattle.std.specs.Prelude.{Ok, Err, Some, None}
+use Rattle.refusal.specs.declared.Refusal.TheVariants.{DescriptorRunsPast}
 use Rattle.descriptors.specs.declared.Descriptor.{Descriptor}
-use Rattle.descriptors.specs.declared.Step.{Step}
-use Rattle.descriptors.specs.Loop.{step_of, view_of, descriptor_at, beyond, runs_past}
+use Rattle.descriptors.specs.Loop.{Step, step_of, view_of, descriptor_at, beyond, runs_past}
 use Rattle.descriptors.specs.Theorems.{Stands}
 
 module _ (s : List ℕ) (at : ℕ) where
-  pub step_over : at ≡ length s → Step.Over ≡ step_of s at
+  pub step_over : at ≡ length s → Ok None ≡ step_of s at
   unfolding step_of
   step_over e = rw (eq-eqb _ _ e)
 
-  pub step_past : (at ≡ length s → ⊥) → length s < at + 2 + byte s (at + 1) → Step.Refused 19 ≡ step_of s at
+  pub step_past : (at ≡ length s → ⊥) → length s < at + 2 + byte s (at + 1) → Err DescriptorRunsPast ≡ step_of s at
   unfolding step_of
   step_past n h =
       by (ltb (length s) at)
       (λ t. rw (ne_eqb _ _ n, t))
       (λ f. by (ltb (length s) (at + 2)) (λ t. rw (ne_eqb _ _ n, f, t)) (λ g. rw (ne_eqb _ _ n, f, g, lt-ltb _ _ h)))
 
-  pub step-reads : at + 2 + byte s (at + 1) ≤ length s → Step.Descriptor (descriptor_at s at) ≡ step_of s at
+  pub step-reads : at + 2 + byte s (at + 1) ≤ length s → Ok (Some (descriptor_at s at)) ≡ step_of s at
   unfolding step_of
   step-reads h =
       rw (
@@ -41,9 +42,9 @@ module _ (s : List ℕ) (at : ℕ) where
 
 -- what an answer tells of a place
 abbrev pub Tells : List ℕ → ℕ → Step → Type 0
-Tells s at (Step.Descriptor d) = Stands s at d
-Tells s at Step.Over = at ≡ length s
-Tells s at (Step.Refused n) = (n ≡ 19) × (at ≡ length s → ⊥) × (length s < at + 2 + byte s (at + 1))
+Tells s at (Ok (Some d)) = Stands s at d
+Tells s at (Ok None) = at ≡ length s
+Tells s at (Err r) = (r ≡ DescriptorRunsPast) × (at ≡ length s → ⊥) × (length s < at + 2 + byte s (at + 1))
 
 pub step-tells : (s : List ℕ) (at : ℕ) → Tells s at (step_of s at)
 unfolding step_of
@@ -58,15 +59,15 @@ step-tells s at =
         rw (le-ltb (length s) at (omega arith), le-ltb (length s) (at + 2) (omega arith), u)
 
 -- a descriptor that is read
-pub reads-there : (s : List ℕ) (at : ℕ) (d : Descriptor) → step_of s at ≡ Step.Descriptor d → Stands s at d
+pub reads-there : (s : List ℕ) (at : ℕ) (d : Descriptor) → step_of s at ≡ Ok (Some d) → Stands s at d
 reads-there s at d e = subst (Tells s at) e (step-tells s at)
 
 -- the part from the content's start to the next place is the view
-pub view-reads : (s : List ℕ) (at : ℕ) (d : Descriptor) → step_of s at ≡ Step.Descriptor d
+pub view-reads : (s : List ℕ) (at : ℕ) (d : Descriptor) → step_of s at ≡ Ok (Some d)
     → take (d.next - d.start) (drop d.start s) ≡ view_of s at
 unfolding view_of
 view-reads s at d e = rw (e, (reads-there s at d e).here, add-sub_cancel_left)
 
 -- the content of a descriptor that is read ends within the loop
-pub content-ends : (s : List ℕ) (at : ℕ) (d : Descriptor) → step_of s at ≡ Step.Descriptor d → d.start + d.length ≤ length s
+pub content-ends : (s : List ℕ) (at : ℕ) (d : Descriptor) → step_of s at ≡ Ok (Some d) → d.start + d.length ≤ length s
 content-ends s at d e = let h = reads-there s at d e in rw h.here h.ends

@@ -13,8 +13,10 @@ use native.Mathlib.Omega.{arith}
 use lib.ListN.{length, drop, take-append-drop}
 use lib.Seq.{drop-cons, drop-drop, drop-length}
 use Rattle.base.specs.Bytes.{byte, part}
-use Rattle.descriptors.specs.declared.Step.{Step}
-use Rattle.descriptors.specs.Loop.{step_of, descriptor_at}
+use Rattle.std.specs.Prelude.{Ok, Err, Some, None}
+use Rattle.refusal.specs.Refusal.{number}
+use Rattle.refusal.specs.declared.Refusal.TheVariants.{DescriptorRunsPast}
+use Rattle.descriptors.specs.Loop.{Step, step_of, descriptor_at}
 use Rattle.descriptors.specs.Walk.{onward, walk, Unrefused, tiles}
 use Rattle.descriptors.specs.Theorems.{Few, Tiling, Settled, EmptyLoop}
 use Rattle.descriptors.proofs.Steps.{Tells, step-tells}
@@ -40,13 +42,13 @@ module _ (s : List ℕ) where
       go : ((to : ℕ) → to ≤ length s → length s < to + 2 * k → Unrefused (walk k s to) → tiles s (walk k s to) ≡ drop to s)
           → (x : Step) → Tells s at x → Unrefused (x ∷ onward x (λ to. walk k s to))
           → tiles s (x ∷ onward x (λ to. walk k s to)) ≡ drop at s
-      go ih (Step.Descriptor d) t v =
+      go ih (Ok (Some d)) t v =
           let e : d ≡ descriptor_at s at = t.here in
           let f : at + 2 + byte s (at + 1) ≤ length s = t.ends in
           let w : Unrefused (walk k s (at + 2 + byte s (at + 1))) = rw e at v.1 in
           rw (e, ih (at + 2 + byte s (at + 1)) f (omega arith) w) (laid at (byte s (at + 1)) f)
-      go ih Step.Over t v = rw t (sym (drop-length s))
-      go ih (Step.Refused n) t v = absurd (let a : n ≡ 19 = t.0 in let b : n % 2 ^ 8 ≡ 0 = v.0 in omega arith)
+      go ih (Ok None) t v = rw t (sym (drop-length s))
+      go ih (Err r) t v = let z : number r % 2 ^ 8 ≡ 0 = v.0 in let y : number DescriptorRunsPast % 2 ^ 8 ≡ 0 = rw t.0 at z in absurd (omega arith)
 
   pub tiling : Tiling s
   tiling u = tiling-from (length s / 2 + 1) 0 (omega arith) (omega arith) u
@@ -57,9 +59,9 @@ module _ (s : List ℕ) where
   few-from (suc k) at = let h = go (λ to. few-from k to) (step_of s at) in omega arith
     where
       go : ((to : ℕ) → length (walk k s to) ≤ k) → (x : Step) → length (onward x (λ to. walk k s to)) ≤ k
-      go ih (Step.Descriptor d) = ih d.next
-      go ih Step.Over = omega arith
-      go ih (Step.Refused n) = omega arith
+      go ih (Ok (Some d)) = ih d.next
+      go ih (Ok None) = omega arith
+      go ih (Err n) = omega arith
 
   pub few : (at : ℕ) → Few s at
   few at k = few-from k at
@@ -72,12 +74,12 @@ module _ (s : List ℕ) where
     where
       go : ((to : ℕ) → to ≤ length s → length s < to + 2 * k → walk (j + k) s to ≡ walk k s to)
           → (x : Step) → Tells s at x → onward x (λ to. walk (j + k) s to) ≡ onward x (λ to. walk k s to)
-      go ih (Step.Descriptor d) t =
+      go ih (Ok (Some d)) t =
           let e : d ≡ descriptor_at s at = t.here in
           let f : at + 2 + byte s (at + 1) ≤ length s = t.ends in
           rw e (ih (at + 2 + byte s (at + 1)) f (omega arith))
-      go ih Step.Over t = refl
-      go ih (Step.Refused n) t = refl
+      go ih (Ok None) t = refl
+      go ih (Err n) t = refl
 
   pub settled : Settled s
   settled j = settled-from (length s / 2 + 1) j 0 (omega arith) (omega arith)

@@ -1,10 +1,11 @@
 -- What is proved of loops and of the mark, in words of the loop `s` and the place asked: first the words, then the statements, each a
 -- theorem of `proofs/` by the same name in small letters.
-use Rattle.std.specs.Prelude.{ℕ, ◌+◌, ◌/◌, ◌<◌, ◌≤◌, ◌≡◌, Bool, true, false, List, [], ◌∷◌, ◌↔◌, ◌⊎◌, length}
+use Rattle.std.specs.Prelude.{ℕ, ◌+◌, ◌/◌, ◌<◌, ◌≤◌, ◌≡◌, Bool, true, false, List, [], ◌∷◌, ◌↔◌, ◌⊎◌, length, Ok, Err, Some, None}
+use Rattle.refusal.specs.declared.Refusal.{Refusal}
+use Rattle.refusal.specs.declared.Refusal.TheVariants.{DescriptorRunsPast}
 use Rattle.base.specs.Bytes.{byte, part}
 use Rattle.descriptors.specs.declared.Descriptor.{Descriptor}
-use Rattle.descriptors.specs.declared.Step.{Step}
-use Rattle.descriptors.specs.Loop.{step_of, view_of, descriptor_at}
+use Rattle.descriptors.specs.Loop.{Step, step_of, view_of, descriptor_at}
 use Rattle.descriptors.specs.Answer.{step_code}
 use Rattle.descriptors.specs.Letter.{matches}
 use Rattle.descriptors.specs.Mark.{mark, is_trigger_tap}
@@ -31,7 +32,7 @@ Matches found marked = (found ≡ marked) ⊎ (AcrossCase found marked ⊎ Acros
 -- a descriptor of tag 0x72 and length 24 stands at a place, and its view is as `Said`
 pub record Headed (Said : List ℕ → Type 0) (s : List ℕ) (at : ℕ) : Type 0 where
   pub found : Descriptor
-  pub here : step_of s at ≡ Step.Descriptor found
+  pub here : step_of s at ≡ Ok (Some found)
   pub tag : found.tag ≡ 0x72
   pub long : found.length ≡ 24
   pub view : Said (view_of s at)
@@ -68,23 +69,23 @@ module _ (s : List ℕ) where
 
     -- no other number is given
     abbrev pub RefusedRange : Type 0
-    RefusedRange = (n : ℕ) → step_of s at ≡ Step.Refused n → n ≡ 19
+    RefusedRange = (r : Refusal) → step_of s at ≡ Err r → r ≡ DescriptorRunsPast
 
     -- a walk is over exactly at the loop's end
     abbrev pub Over : Type 0
-    Over = (step_of s at ≡ Step.Over) ↔ (at ≡ length s)
+    Over = (step_of s at ≡ Ok None) ↔ (at ≡ length s)
 
     -- a descriptor is read exactly when it stands there
     abbrev pub Reads : Type 0
-    Reads = (d : Descriptor) → (step_of s at ≡ Step.Descriptor d) ↔ Stands s at d
+    Reads = (d : Descriptor) → (step_of s at ≡ Ok (Some d)) ↔ Stands s at d
 
     -- the view of a descriptor is its content, as long as the descriptor says
     abbrev pub ViewWhole : Type 0
-    ViewWhole = (d : Descriptor) → step_of s at ≡ Step.Descriptor d → (view_of s at ≡ part s d.start d.length) × (length (view_of s at) ≡ d.length)
+    ViewWhole = (d : Descriptor) → step_of s at ≡ Ok (Some d) → (view_of s at ≡ part s d.start d.length) × (length (view_of s at) ≡ d.length)
 
     -- where no descriptor is read the view is empty
     abbrev pub ViewNone : Type 0
-    ViewNone = ((d : Descriptor) → step_of s at ≡ Step.Descriptor d → ⊥) → view_of s at ≡ []
+    ViewNone = ((d : Descriptor) → step_of s at ≡ Ok (Some d) → ⊥) → view_of s at ≡ []
 
     -- a trigger Tap is marked exactly when the tag is 0x72, the length 24, and at each of the 24 places the byte is the
     -- mark's, or one of the two is a letter A to Z and the other the same letter a to z
@@ -167,4 +168,4 @@ CapitalsMarked =
 
 -- an empty loop has no descriptor
 abbrev pub EmptyLoop : Type 0
-EmptyLoop = walk_of [] ≡ Step.Over ∷ []
+EmptyLoop = walk_of [] ≡ Ok None ∷ []

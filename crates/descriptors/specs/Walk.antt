@@ -1,14 +1,13 @@
 -- Document 01, "Descriptors": the walk of a loop, step after step.
-use Rattle.std.specs.Prelude.{ℕ, zero, suc, ◌+◌, ◌/◌, ◌%◌, ◌^◌, ◌≡◌, List, [], ◌∷◌, ◌++◌, length}
-use Rattle.descriptors.specs.declared.Step.{Step}
-use Rattle.descriptors.specs.Loop.{step_of, content_of}
+use Rattle.std.specs.Prelude.{ℕ, zero, suc, ◌+◌, ◌/◌, ◌%◌, ◌^◌, ◌≡◌, List, [], ◌∷◌, ◌++◌, length, Ok, Err, Some, None}
+use Rattle.descriptors.specs.Loop.{Step, step_of, content_of}
 use Rattle.descriptors.specs.Answer.{step_code}
 
 -- a walk goes on behind a descriptor, and behind nothing else
 abbrev pub onward : Step → (ℕ → List Step) → List Step
-onward (Step.Descriptor d) go = go d.next
-onward Step.Over go = []
-onward (Step.Refused n) go = []
+onward (Ok (Some d)) go = go d.next
+onward (Ok None) go = []
+onward (Err r) go = []
 
 -- the answers of a walk from a place, at most k of them
 unfoldable pub walk : ℕ → List ℕ → ℕ → List Step
@@ -26,9 +25,9 @@ Unrefused (x ∷ xs) = (step_code x % 2 ^ 8 ≡ 0) × Unrefused xs
 
 -- the two-byte head of an answer's descriptor, and the view behind it
 abbrev pub head_of : Step → List ℕ
-head_of (Step.Descriptor d) = d.tag ∷ d.length ∷ []
-head_of Step.Over = []
-head_of (Step.Refused n) = []
+head_of (Ok (Some d)) = d.tag ∷ d.length ∷ []
+head_of (Ok None) = []
+head_of (Err r) = []
 
 -- heads and views, joined in order
 abbrev pub tiles : List ℕ → List Step → List ℕ

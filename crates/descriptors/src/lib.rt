@@ -7,8 +7,7 @@ ghost use Rattle.descriptors.specs.Loop.{step_of, view_of};
 ghost use Rattle.descriptors.specs.Answer.{descriptor_code, step_code};
 ghost use Rattle.descriptors.specs.Mark.{mark_at, is_trigger_tap};
 
-// The descriptor runs past the loop, or the place asked is beyond its end.
-const RUNS_PAST: u8 = 19;
+use refusal::Refusal;
 
 // The bytes of a tag and a length.
 const HEAD: usize = 2;
@@ -32,7 +31,7 @@ const OVER: u64 = 512;
 const NEAR: u64 = 1099511627776;
 
 // A descriptor: its tag, where its content starts, how many bytes that is, and the place after it.
-#[derive(Drop)]
+#[derive(Clone, Copy, Debug, PartialEq, Eq)]
 pub struct Descriptor {
     pub tag: u8,
     pub start: usize,
@@ -40,47 +39,41 @@ pub struct Descriptor {
     pub next: usize,
 }
 
-#[derive(Drop)]
-pub enum Step {
-    Descriptor(Descriptor),
-    Over,
-    Refused(u8),
-}
-
-// What stands at a place of the loop: a descriptor, the loop's end, or neither. Any place may be asked.
-pub fn step_at(bytes: &[u8], at: usize) -> Step
+// What stands at a place of the loop: a descriptor, or none at the loop's end. It is refused where the descriptor runs past the loop or the place
+// is beyond the loop's end. Any place may be asked.
+pub fn step_at(bytes: &[u8], at: usize) -> Result<Option<Descriptor>, Refusal>
     ensures { result ≡ step_of bytes.now at }
 {
     let size = bytes.len();
     if at == size {
-        return Step::Over;
+        return Ok(None);
     }
     if size < at {
-        return Step::Refused(RUNS_PAST);
+        return Err(Refusal::DescriptorRunsPast);
     }
     let left = size - at;
     if left < HEAD {
-        return Step::Refused(RUNS_PAST);
+        return Err(Refusal::DescriptorRunsPast);
     }
-    let length = bytes[at + 1] as usize;
+    let length = usize::from(bytes[at + 1]);
     if left - HEAD < length {
-        return Step::Refused(RUNS_PAST);
+        return Err(Refusal::DescriptorRunsPast);
     }
     let tag = bytes[at];
     let start = at + HEAD;
     let next = at + HEAD + length;
-    Step::Descriptor(Descriptor {
+    Ok(Some(Descriptor {
         tag,
         start,
         length,
         next,
-    })
+    }))
 }
 
 fn descriptor_code(d: Descriptor) -> u64
     ensures { result ≡ descriptor_code d }
 {
-    let tag = d.tag as u64 * answers::BIT_16;
+    let tag = u64::from(d.tag) * answers::BIT_16;
     let next = d.next as u64 % NEAR * answers::BIT_24;
     FOUND + tag + next
 }
@@ -90,11 +83,10 @@ fn descriptor_code(d: Descriptor) -> u64
 pub fn step_code(bytes: &[u8], at: usize) -> u64
     ensures { result ≡ step_code (step_of bytes.now at) }
 {
-    let step = step_at(bytes, at);
-    match step {
-        Step::Descriptor(d) => descriptor_code(d),
-        Step::Over => OVER,
-        Step::Refused(n) => n as u64,
+    match step_at(bytes, at) {
+        Ok(Some(d)) => descriptor_code(d),
+        Ok(None) => OVER,
+        Err(refusal) => refusal as u64,
     }
 }
 
@@ -102,15 +94,10 @@ pub fn step_code(bytes: &[u8], at: usize) -> u64
 pub fn view(bytes: &[u8], at: usize) -> &[u8]
     ensures { result.now ≡ view_of bytes.now at }
 {
-    match step_at(bytes, at) {
-        Step::Descriptor(d) => {
-            let start = d.start;
-            let next = d.next;
-            &bytes[start..next]
-        }
-        Step::Over => &bytes[..0],
-        Step::Refused(_) => &bytes[..0],
-    }
+    let Ok(Some(d)) = step_at(bytes, at) else {
+        return &bytes[..0];
+    };
+    &bytes[d.start..d.next]
 }
 
 // Whether a byte is the mark's, in its small letter or in its capital.
@@ -141,20 +128,14 @@ fn is_mark(bytes: &[u8], start: usize) -> bool
 pub fn is_trigger_tap(bytes: &[u8], at: usize) -> bool
     ensures { result ≡ is_trigger_tap bytes.now at }
 {
-    match step_at(bytes, at) {
-        Step::Descriptor(d) => {
-            let tag = d.tag;
-            let length = d.length;
-            let start = d.start;
-            if tag != MARK_TAG {
-                return false;
-            }
-            if length != MARK_LENGTH {
-                return false;
-            }
-            is_mark(bytes, start)
-        }
-        Step::Over => false,
-        Step::Refused(_) => false,
+    let Ok(Some(d)) = step_at(bytes, at) else {
+        return false;
+    };
+    if d.tag != MARK_TAG {
+        return false;
     }
+    if d.length != MARK_LENGTH {
+        return false;
+    }
+    is_mark(bytes, d.start)
 }

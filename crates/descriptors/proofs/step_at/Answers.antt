@@ -17,4 +17,4 @@ pub returns-then-left-length : goal.returns-then-left-length
 returns-then-left-length c = step_past _ _ c.if-at-size.false (omega arith)
 
 pub returns : goal.returns
-returns c = step-reads _ _ (omega arith)
+returns c = rw c.from-length.ensures (step-reads _ _ (omega arith))
