@@ -16,12 +16,6 @@ ghost use Rattle.shelf.specs.Calls.{key_among, rest_among, key_found, place_amon
 use berth::{PLACES, SECTIONS};
 use key::Key;
 
-pub const STORE_SIZE: u8 = 17;
-
-pub const SHELF_SPOILED: u8 = 18;
-
-pub const TABLE_NOT_HELD: u8 = 14;
-
 // Where the heads begin, how many numbers each has, where the masks begin, where the rest of the keys begins, how many numbers each has, and the
 // numbers of a record, 96.
 pub const HEADS: usize = PLACES * SECTIONS;

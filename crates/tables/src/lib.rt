@@ -7,6 +7,7 @@ ghost use Rattle.answers.specs.Answers.{out as out_of};
 ghost use Rattle.tables.specs.Numbers.{table_numbers, table_put};
 
 use key::Key;
+use refusal::Refusal;
 
 // A section that is not there has length 0.
 #[derive(Drop)]
@@ -51,8 +52,8 @@ pub fn put_table(t: Table, fields: &mut [u16]) -> u8
     ensures { out_of result fields.new ≡ table_put t fields.old }
 {
     if fields.len() < FIELDS {
-        return answers::OUTPUT_TOO_SMALL;
+        return Refusal::OutputTooSmall as u8;
     }
     put(t, fields);
-    answers::DONE
+    0
 }

@@ -14,4 +14,4 @@ unfolding key_among
 returns-then-p-ge-PLACES c = search (tests, rules)
 
 pub returns : goal.returns
-returns c = key-summed _ _ (search rules) (search rules) c.full-table.ensures.0 c.full-extension.ensures.0
+returns c = key-summed _ _ (search rules) (search rules) (search rules) (search rules)

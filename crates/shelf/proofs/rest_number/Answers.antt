@@ -14,4 +14,4 @@ unfolding rest_among
 returns-then-p-ge-PLACES c = search (tests, rules)
 
 pub returns : goal.returns
-returns c = rest-summed _ _ (search rules) (search rules) c.full-service.ensures.0 c.start_of-start.ensures
+returns c = rest-summed _ _ (search rules) (search rules) (search rules) c.start_of-start.ensures
