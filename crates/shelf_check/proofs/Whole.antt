@@ -44,18 +44,18 @@ module _ (words : List ℕ) (fits : length words ≡ 96) (p : ℕ) (hp : p < 4) 
     pub wrong-none : size ≡ 0 → false ≡ wrong_at (table_in words p) n
     wrong-none z = rw (size_is, z)
 
-    module _ (held : size ≡ 0 → ⊥) {last wide : ℕ} (l : last ≡ last_among words p) (w : wide ≡ last) where
-      last-is : ltb (table_in words p).last n ≡ ltb wide n
-      last-is = last-of words p n hn ∙ ap (λ x. ltb x n) (sym (w ∙ l ∙ among-last words p fits hp))
+    module _ (held : size ≡ 0 → ⊥) {last : ℕ} (l : last ≡ last_among words p) where
+      last-is : ltb (table_in words p).last n ≡ ltb last n
+      last-is = last-of words p n hn ∙ ap (λ x. ltb x n) (sym (l ∙ among-last words p fits hp))
 
-      pub wrong-above : wide < n → true ≡ wrong_at (table_in words p) n
-      wrong-above a = rw (last-is, size_is, ne_eqb size 0 held, lt-ltb wide n a)
+      pub wrong-above : last < n → true ≡ wrong_at (table_in words p) n
+      wrong-above a = rw (last-is, size_is, ne_eqb size 0 held, lt-ltb last n a)
 
-      pub wrong-short : n ≤ wide → size < 8 → true ≡ wrong_at (table_in words p) n
-      wrong-short a b = rw (last-is, size_is, ne_eqb size 0 held, le-ltb wide n a, lt-ltb size 8 b)
+      pub wrong-short : n ≤ last → size < 8 → true ≡ wrong_at (table_in words p) n
+      wrong-short a b = rw (last-is, size_is, ne_eqb size 0 held, le-ltb last n a, lt-ltb size 8 b)
 
-      pub wrong-long : n ≤ wide → 8 ≤ size → ltb 1024 size ≡ wrong_at (table_in words p) n
-      wrong-long a b = rw (last-is, size_is, ne_eqb size 0 held, le-ltb wide n a, le-ltb size 8 b)
+      pub wrong-long : n ≤ last → 8 ≤ size → ltb 1024 size ≡ wrong_at (table_in words p) n
+      wrong-long a b = rw (last-is, size_is, ne_eqb size 0 held, le-ltb last n a, le-ltb size 8 b)
 
   -- a place
   pub free-place : (get_or words (64 + 4 * p) 0 / 256 ≡ 1 → ⊥) → false ≡ spoiled_place (place_in words p)

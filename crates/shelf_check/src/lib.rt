@@ -11,9 +11,10 @@ ghost use Rattle.shelf_check.specs.Unless.{unless_spoiled};
 ghost use Rattle.shelf_check.specs.Fine.{FineColumns, FineMasks, Apart, wide_number, any_alike, from_last, NoneAbove, OneHeld};
 
 use berth::{PLACES, SECTIONS};
+use refusal::Refusal;
 use shelf::{HEAD, HEADS, MASKS, WORDS};
 
-const SPOILED: u16 = shelf::SHELF_SPOILED as u16;
+const SPOILED: u16 = Refusal::ShelfSpoiled as u16;
 
 // 18 is for a version above 31, a last above 15, and a length outside 8 to 1,024.
 const HIGHEST_VERSION: u16 = 31;

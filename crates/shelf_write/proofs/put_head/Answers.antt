@@ -14,5 +14,5 @@ unfolding head_put
 returns-then-p-ge-PLACES c = search (tests, rules)
 
 pub returns : goal.returns
-returns c = head-put-row _ _ _ _ _ (search rules) (search rules) c.half.ensures.0 c.half-2.ensures.0 c.half-3.ensures.0
+returns c = head-put-row _ _ _ _ _ (search rules) (search rules) (search rules) (search rules) (search rules)
     c.put_row.ensures c.put_rest.ensures
