@@ -14,32 +14,34 @@ use Rattle.shelf.specs.Layout.{count, shelf_at}
 use Rattle.shelf_write.specs.Writes.{fresh_words}
 use Rattle.shelf_write.specs.Calls.{fresh_put}
 use Rattle.shelf_write.proofs.Lent.{fresh-put, fresh-lent}
-use Rattle.shelf_begin.specs.declared.Begun.{Begun}
+use Rattle.std.specs.Prelude.{Result, Ok, Err}
+use Rattle.refusal.specs.declared.Refusal.{Refusal}
+use Rattle.refusal.specs.declared.Refusal.TheVariants.{StoreSize, ShelfSpoiled}
 use Rattle.shelf_begin.specs.On.{leaving, begin_on}
 
 module _ (words store : List ℕ) where
-  pub begin-17 : (length store ≡ store_size → ⊥) → leaving (Begun.Refused 17) words store ≡ begin_on words store
+  pub begin-17 : (length store ≡ store_size → ⊥) → leaving (Err StoreSize) words store ≡ begin_on words store
   unfolding begin_on
   begin-17 d = rw (ne_eqb (length store) store_size d)
 
   module _ (w : length store ≡ store_size) where
-    pub begin-18 : (length words ≡ count → ⊥) → leaving (Begun.Refused 18) words store ≡ begin_on words store
+    pub begin-18 : (length words ≡ count → ⊥) → leaving (Err ShelfSpoiled) words store ≡ begin_on words store
     unfolding begin_on
     begin-18 d = rw (eq-eqb (length store) store_size w, ne_eqb (length words) count d)
 
     module _ (n : length words ≡ count) where
-      pub begin-done : begin_on words store ≡ leaving Begun.Done fresh_words (zeros store_size)
+      pub begin-done : begin_on words store ≡ leaving (Ok tt) fresh_words (zeros store_size)
       unfolding begin_on
       begin-done = rw (eq-eqb (length store) store_size w, eq-eqb (length words) count n)
 
-      pub begun : {left kept : List ℕ} → left ≡ zeros store_size → kept ≡ fresh_put words → leaving Begun.Done kept left ≡ begin_on words store
+      pub begun : {left kept : List ℕ} → left ≡ zeros store_size → kept ≡ fresh_put words → leaving (Ok tt) kept left ≡ begin_on words store
       begun l k = rw (l, k, fresh-put words n) (sym begin-done)
 
       pub begin-shelf : shelf_at (begin_on words store).words ≡ fresh
       begin-shelf = ap (λ a. shelf_at a.words) begin-done ∙ fresh-lent
 
   pub begin-unique :
-      (x y : Begun)
+      (x y : Result (Unit {0}) Refusal)
       (held kept left stored : List ℕ)
       → leaving x held left ≡ begin_on words store
       → leaving y kept stored ≡ begin_on words store

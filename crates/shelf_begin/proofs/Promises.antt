@@ -15,15 +15,17 @@ use Rattle.base.specs.Tables.{Rule, ◌says◌, Agree}
 use Rattle.base.proofs.Tables.{words, given, silent, among}
 use Rattle.berth.specs.Berth.{store_size}
 use Rattle.shelf.specs.Record.{fresh}
-use Rattle.shelf_begin.specs.Begin.{After, number_of, faults, begin_of}
-use Rattle.shelf_begin.specs.declared.Begun.{Begun}
+use Rattle.std.specs.Prelude.{Result, Ok, Err}
+use Rattle.refusal.specs.Refusal.{number_of}
+use Rattle.refusal.specs.declared.Refusal.{Refusal}
+use Rattle.shelf_begin.specs.Begin.{After, faults, begin_of}
 
 module _ (store : List ℕ) where
-  abbrev no : ℕ → After
-  no n = record { said = Begun.Refused n; shelf = fresh; store = store }
+  abbrev no : Refusal → After
+  no r = record { said = Err r; shelf = fresh; store = store }
 
   abbrev done : After
-  done = record { said = Begun.Done; shelf = fresh; store = zeros store_size }
+  done = record { said = Ok tt; shelf = fresh; store = zeros store_size }
 
   -- a lent store not 65,536 bytes
   abbrev pub table : List Rule
@@ -35,7 +37,7 @@ module _ (store : List ℕ) where
   pub refused-17 : (number_of (begin_of store).said ≡ 17) ↔ (¬ (length store ≡ store_size))
   unfolding begin_of
   refused-17 =
-      Iff.trans (given no (λ a. number_of a.said) (λ n. refl) (faults store) done table decided refl 17 (omega arith)) true-and
+      Iff.trans (given no (λ a. number_of a.said) (λ r. refl) (faults store) done table decided refl 17 (omega arith)) true-and
 
   pub whole-begun : length store ≡ store_size → begin_of store ≡ done
   unfolding begin_of
@@ -45,8 +47,8 @@ module _ (store : List ℕ) where
   unfolding begin_of
   always-fresh = among no (λ a. a.shelf ≡ fresh) (faults store) done (refl, tt) refl
 
-  pub refused-untouched : (n : ℕ) → (begin_of store).said ≡ Begun.Refused n → (begin_of store).store ≡ store
+  pub refused-untouched : (r : Refusal) → (begin_of store).said ≡ Err r → (begin_of store).store ≡ store
   unfolding begin_of
-  refused-untouched n e =
-      among no (λ a. a.said ≡ Begun.Refused n → a.store ≡ store) (faults store) done (λ _. refl, tt)
+  refused-untouched r e =
+      among no (λ a. a.said ≡ Err r → a.store ≡ store) (faults store) done (λ _. refl, tt)
       (λ q. absurd (let z : ◌≡◌ {A = ℕ} 0 1 = cc in omega arith)) e

@@ -1,16 +1,16 @@
 -- The number of the answer to beginning a shelf, as it crosses the boundary: 0 where it is done.
-use Rattle.std.specs.Prelude.{ℕ, List, eqb, if◌then◌else◌}
-use Rattle.answers.specs.Answers.{Lent, lent}
-use Rattle.shelf_begin.specs.declared.Begun.{Begun}
+use Rattle.std.specs.Prelude.{ℕ, List, eqb, if◌then◌else◌, Result, Ok, Err}
+use Rattle.refusal.specs.Refusal.{refusal_of}
+use Rattle.refusal.specs.declared.Refusal.{Refusal}
+use Rattle.answers.specs.Answers.{Lent, lent, done}
 use Rattle.shelf_begin.specs.On.{Leaving, begin_on}
 
-abbrev pub begun_code : Begun → ℕ
-begun_code Begun.Done = 0
-begun_code (Begun.Refused n) = n
+abbrev pub begun_code : Result (Unit {0}) Refusal → ℕ
+begun_code = done
 
 -- what a host takes out of it
-abbrev pub begun_in : ℕ → Begun
-begun_in code = if eqb code 0 then Begun.Done else Begun.Refused code
+abbrev pub begun_in : ℕ → Result (Unit {0}) Refusal
+begun_in code = if eqb code 0 then Ok tt else Err (refusal_of code)
 
 -- what beginning a shelf leaves
 abbrev pub begin_out : Leaving → Lent
