@@ -2,45 +2,39 @@
 --   Tells                         of an answer that is told in a number
 --   Keeps                         of a call that may change the record's numbers and the store
 --   BeginKeeps .. SaveFills     of each call; `Fills` of the answers has the laws of an output
-use Rattle.std.specs.Prelude.{ℕ, ◌≡◌, List, ◌↔◌}
+use Rattle.std.specs.Prelude.{ℕ, ◌≡◌, List, ◌↔◌, Result, Err}
+use Rattle.refusal.specs.Refusal.{number as number_for}
+use Rattle.refusal.specs.declared.Refusal.{Refusal}
 use Rattle.answers.specs.Answers.{Lent, refusal_in, Fills}
 use Rattle.berth.specs.Berth.{standing}
 use Rattle.shelf.specs.Record.{Shelf, length_at, place_of}
 use Rattle.key.specs.declared.Key.{Key}
 use Rattle.shelf.specs.Layout.{shelf_at}
-use Rattle.shelf_begin.specs.declared.Begun.{Begun}
 use Rattle.shelf_begin.specs.On.{begin_on}
 use Rattle.shelf_begin.specs.Answer.{begun_in, begin_lent}
-use Rattle.shelf_offer.specs.declared.Offered.{Offered}
 use Rattle.shelf_offer.specs.Offer.{offer_of}
 use Rattle.shelf_offer.specs.Answer.{offered_in, offer_lent}
-use Rattle.shelf_release.specs.declared.Released.{Released}
 use Rattle.shelf_release.specs.Release.{release_of}
 use Rattle.shelf_release.specs.Answer.{released_in, release_lent}
-use Rattle.shelf_load.specs.declared.Loaded.{Loaded}
 use Rattle.shelf_load.specs.Load.{load_of}
 use Rattle.shelf_load.specs.Answer.{loaded_in, load_lent}
-use Rattle.shelf_ask.specs.declared.Whole.{Whole}
-use Rattle.shelf_ask.specs.declared.Missing.{Missing}
-use Rattle.shelf_ask.specs.declared.Copied.{Copied}
 use Rattle.shelf_ask.specs.Ask.{asked, whole_of, missing_of, copy_of}
 use Rattle.shelf_ask.specs.Answer.{whole_back, missing_back, copied_in, whole_lent, missing_lent, copy_lent}
-use Rattle.shelf_save.specs.declared.Saved.{Saved}
 use Rattle.shelf_save.specs.Save.{saved_file, save_of}
 use Rattle.shelf_save.specs.Answer.{saved_in, save_lent}
 
--- The laws of a number that tells an answer, where `refused` makes the refusals and `back` is what a host takes out of a number:
-pub record Tells {A : Type 0} (refused back : ℕ → A) (said : A) (code : ℕ) : Type 0 where
+-- The laws of a number that tells an answer, where `back` is what a host takes out of a number:
+pub record Tells {A : Type 0} (back : ℕ → Result A Refusal) (said : Result A Refusal) (code : ℕ) : Type 0 where
   -- the low 8 bits are 0 exactly when the call is accepted
-  pub accepted : (refusal_in code ≡ 0) ↔ ((n : ℕ) → ¬ (said ≡ refused n))
+  pub accepted : (refusal_in code ≡ 0) ↔ ((r : Refusal) → ¬ (said ≡ Err r))
   -- a refused call answers its number alone, which the low 8 bits have room for
-  pub number : (n : ℕ) → said ≡ refused n → (code ≡ n) × (refusal_in code ≡ n)
+  pub number : (r : Refusal) → said ≡ Err r → (code ≡ number_for r) × (refusal_in code ≡ number_for r)
   -- the answer comes back, with each value of it
   pub comes_back : back code ≡ said
 
 -- The laws of a call that is lent a record's numbers and a store, and what it leaves:
-pub record Keeps {A : Type 0} (refused back : ℕ → A) (said : A) (words store : List ℕ) (left : Lent) : Type 0 where
-  pub tells : Tells refused back said left.code
+pub record Keeps {A : Type 0} (back : ℕ → Result A Refusal) (said : Result A Refusal) (words store : List ℕ) (left : Lent) : Type 0 where
+  pub tells : Tells back said left.code
   -- a refused call leaves the numbers and the store as they were
   pub untouched : ¬ (refusal_in left.code ≡ 0) → (left.words ≡ words) × (left.store ≡ store)
 
@@ -50,29 +44,29 @@ module _ (words store : List ℕ) where
   shelf = shelf_at words
 
   abbrev pub BeginKeeps : Type 0
-  BeginKeeps = Keeps Begun.Refused begun_in (begin_on words store).said words store (begin_lent words store)
+  BeginKeeps = Keeps begun_in (begin_on words store).said words store (begin_lent words store)
 
   abbrev pub OfferKeeps : List ℕ → Type 0
-  OfferKeeps payload = Keeps Offered.Refused offered_in (offer_of shelf store payload).said words store (offer_lent words store payload)
+  OfferKeeps payload = Keeps offered_in (offer_of shelf store payload).said words store (offer_lent words store payload)
 
   abbrev pub LoadKeeps : List ℕ → Type 0
-  LoadKeeps file = Keeps Loaded.Refused loaded_in (load_of shelf store file).said words store (load_lent words store file)
+  LoadKeeps file = Keeps loaded_in (load_of shelf store file).said words store (load_lent words store file)
 
   module _ (key : Key) where
     abbrev pub ReleaseKeeps : Type 0
-    ReleaseKeeps = Keeps Released.Refused released_in (release_of shelf store key).said words store (release_lent words store key)
+    ReleaseKeeps = Keeps released_in (release_of shelf store key).said words store (release_lent words store key)
 
     -- a question is lent no record and no store that it may change
     abbrev pub WholeTells : Type 0
-    WholeTells = Tells Whole.Refused whole_back (whole_of shelf store key) (whole_lent words store key)
+    WholeTells = Tells whole_back (whole_of shelf store key) (whole_lent words store key)
 
     abbrev pub MissingTells : Type 0
-    MissingTells = Tells Missing.Refused missing_back (missing_of shelf store key) (missing_lent words store key)
+    MissingTells = Tells missing_back (missing_of shelf store key) (missing_lent words store key)
 
     -- section n, copied to an output: a refused copy leaves it as it was, and else the section's bytes stand at its front
     module _ (n : ℕ) (old : List ℕ) where
       abbrev pub CopyTells : Type 0
-      CopyTells = Tells Copied.Refused copied_in (copy_of shelf store key n old).said (copy_lent words store key n old).code
+      CopyTells = Tells copied_in (copy_of shelf store key n old).said (copy_lent words store key n old).code
 
       abbrev pub CopyFills : Type 0
       CopyFills = Fills (standing store (place_of shelf key) n (length_at (asked shelf store key) n)) old (copy_lent words store key n old)
@@ -80,7 +74,7 @@ module _ (words store : List ℕ) where
     -- the table, saved to an output: a refused save leaves it as it was, and else the file stands at its front
     module _ (old : List ℕ) where
       abbrev pub SaveTells : Type 0
-      SaveTells = Tells Saved.Refused saved_in (save_of shelf store key old).said (save_lent words store key old).code
+      SaveTells = Tells saved_in (save_of shelf store key old).said (save_lent words store key old).code
 
       abbrev pub SaveFills : Type 0
       SaveFills = Fills (saved_file shelf store key) old (save_lent words store key old)

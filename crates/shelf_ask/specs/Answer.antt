@@ -1,49 +1,46 @@
 -- The numbers and the values of the answers to the shelf's questions, in the numbers or the plain yes or no that cross the boundary.
-use Rattle.std.specs.Prelude.{ℕ, ◌+◌, ◌*◌, ◌/◌, ◌%◌, List, Bool, true, false, eqb, length, if◌then◌else◌}
-use Rattle.answers.specs.Answers.{Out, out, size_code, size_or, puts}
+use Rattle.std.specs.Prelude.{ℕ, ◌+◌, ◌*◌, ◌/◌, ◌%◌, List, Bool, true, false, eqb, length, if◌then◌else◌, Option, Some, None, Result, Ok, Err}
+use Rattle.refusal.specs.Refusal.{number, refusal_of}
+use Rattle.refusal.specs.declared.Refusal.{Refusal}
+use Rattle.answers.specs.Answers.{Out, out, sized, size_or, puts}
 use Rattle.key.specs.declared.Key.{Key}
 use Rattle.shelf.specs.Layout.{shelf_at}
 use Rattle.shelf_ask.specs.Ask.{Copy, copy_of, whole_of, missing_of}
 use Rattle.shelf_ask.specs.Tables.{table_told}
-use Rattle.shelf_ask.specs.declared.Copied.{Copied}
-use Rattle.shelf_ask.specs.declared.Whole.{Whole}
-use Rattle.shelf_ask.specs.declared.Missing.{Missing}
 
 -- bits 8 to 15: 1 complete, 2 incomplete
-abbrev pub whole_code : Whole → ℕ
-whole_code Whole.Complete = 256
-whole_code Whole.Incomplete = 512
-whole_code (Whole.Refused n) = n
+abbrev pub whole_code : Result Bool Refusal → ℕ
+whole_code (Ok true) = 256
+whole_code (Ok false) = 512
+whole_code (Err r) = number r
 
 -- its plain truth, for a lamp: held and complete, and nothing else
-abbrev pub is_complete : Whole → Bool
-is_complete Whole.Complete = true
-is_complete Whole.Incomplete = false
-is_complete (Whole.Refused n) = false
+abbrev pub is_complete : Result Bool Refusal → Bool
+is_complete (Ok whole) = whole
+is_complete (Err r) = false
 
 -- bits 8 to 15: 1 nothing missing, 2 a number, which stands in bits 16 to 23
-abbrev pub missing_code : Missing → ℕ
-missing_code Missing.Nothing = 256
-missing_code (Missing.Number n) = 512 + 65536 * n
-missing_code (Missing.Refused n) = n
+abbrev pub missing_code : Result (Option ℕ) Refusal → ℕ
+missing_code (Ok None) = 256
+missing_code (Ok (Some n)) = 512 + 65536 * n
+missing_code (Err r) = number r
 
 -- bits 8 to 23: how many bytes now stand at the output's front
-abbrev pub copied_code : Copied → ℕ
-copied_code (Copied.Bytes n) = size_code n
-copied_code (Copied.Refused n) = n
+abbrev pub copied_code : Result ℕ Refusal → ℕ
+copied_code = sized
 
 -- what a host takes out of them
-abbrev pub whole_back : ℕ → Whole
-whole_back code = if eqb code 256 then Whole.Complete else (if eqb code 512 then Whole.Incomplete else Whole.Refused code)
+abbrev pub whole_back : ℕ → Result Bool Refusal
+whole_back code = if eqb code 256 then Ok true else (if eqb code 512 then Ok false else Err (refusal_of code))
 
-abbrev pub missing_back : ℕ → Missing
+abbrev pub missing_back : ℕ → Result (Option ℕ) Refusal
 missing_back code =
-    if eqb code 256 then Missing.Nothing
-    else (if eqb (code % 65536) 512 then Missing.Number (code / 65536)
-    else Missing.Refused code)
+    if eqb code 256 then Ok None
+    else (if eqb (code % 65536) 512 then Ok (Some (code / 65536))
+    else Err (refusal_of code))
 
-abbrev pub copied_in : ℕ → Copied
-copied_in = size_or Copied.Bytes Copied.Refused
+abbrev pub copied_in : ℕ → Result ℕ Refusal
+copied_in = size_or Ok (λ n. Err (refusal_of n))
 
 -- what is answered of the record that lent numbers are
 unfoldable pub whole_lent : List ℕ → List ℕ → Key → ℕ

@@ -7,7 +7,7 @@ ghost use Rattle.base.specs.Below.{lowest};
 ghost use Rattle.base.specs.Bits.{bit};
 ghost use Rattle.berth.specs.Berth.{sections};
 ghost use Rattle.shelf.specs.Layout.{shelf_at};
-ghost use Rattle.shelf_ask.specs.Ask.{unlent_no, holding_of, copy, copy_of, whole_of, missing_of};
+ghost use Rattle.shelf_ask.specs.Ask.{unlent_of, holding_of, copy, copy_of, whole_of, missing_of};
 ghost use Rattle.answers.specs.Answers.{out as out_of};
 ghost use Rattle.shelf_ask.specs.Tables.{taken_of};
 ghost use Rattle.shelf_ask.specs.Calls.{table_among};
@@ -15,68 +15,32 @@ ghost use Rattle.shelf_ask.specs.Answer.{whole_lent, complete_lent, missing_lent
 
 use berth::{PLACES, STORE};
 use key::Key;
+use refusal::Refusal;
 use tables::Table;
 
-// The place of the table that is asked for.
-#[derive(Drop)]
-pub enum Holding {
-    In(usize),
-    Refused(u8),
-}
-
-// The answer to asking for a section's bytes.
-#[derive(Drop)]
-pub enum Copied {
-    // So many bytes now stand at the front of the output.
-    Bytes(usize),
-    Refused(u8),
-}
-
-// The answer to asking for completeness.
-#[derive(Drop)]
-pub enum Whole {
-    Complete,
-    Incomplete,
-    Refused(u8),
-}
-
-// The answer to asking for the lowest missing number.
-#[derive(Drop)]
-pub enum Missing {
-    Number(u8),
-    Nothing,
-    Refused(u8),
-}
-
-pub const SECTION_NOT_HELD: u8 = 16;
-
-// The first of 17 and 18 that is so of a record and a store of that size, 0 where neither is.
-fn unlent(words: &[u16], size: usize) -> u8
-    ensures { result ≡ unlent_no (shelf_at words.now) size }
+// The first of 17 and 18 that is so of a record and a store of that size, where one is.
+fn unlent(words: &[u16], size: usize) -> Result<(), Refusal>
+    ensures { result ≡ unlent_of (shelf_at words.now) size }
 {
     if size != STORE {
-        return shelf::STORE_SIZE;
+        return Err(Refusal::StoreSize);
     }
     if shelf_check::is_spoiled(words) {
-        return shelf::SHELF_SPOILED;
+        return Err(Refusal::ShelfSpoiled);
     }
-    0
+    Ok(())
 }
 
-// Where the table with that key is, or the first number that refuses every question about it, put with a store of that
-// size.
-pub fn held_in(words: &[u16], size: usize, key: Key) -> Holding
+// The place of the table with that key, or the first refusal of every question about it, put with a store of that size.
+pub fn held_in(words: &[u16], size: usize, key: Key) -> Result<usize, Refusal>
     ensures { result ≡ holding_of (shelf_at words.now) size key }
 {
-    let no = unlent(words, size);
-    if no != 0 {
-        return Holding::Refused(no);
-    }
+    unlent(words, size)?;
     let p = shelf::place_of(words, key);
     if p == PLACES {
-        return Holding::Refused(shelf::TABLE_NOT_HELD);
+        return Err(Refusal::TableNotHeld);
     }
-    Holding::In(p)
+    Ok(p)
 }
 
 // The lowest number from 0 to the last whose bit is 0, or one more than the last.
@@ -94,61 +58,51 @@ fn first_gap(mask: u16, last: usize) -> usize
     n
 }
 
-// Copies section n of the table with that key to the front of the output; what lies past its bytes stays as it was.
-pub fn copy_section(words: &[u16], store: &[u8], key: Key, n: u8, out: &mut [u8]) -> Copied
+// Copies section n of the table with that key to the front of the output; what lies past its bytes stays as it was. The answer is how many
+// bytes they are.
+pub fn copy_section(
+    words: &[u16],
+    store: &[u8],
+    key: Key,
+    n: u8,
+    out: &mut [u8],
+) -> Result<usize, Refusal>
     ensures { copy result out.new ≡ copy_of (shelf_at words.now) store.now key n out.old }
 {
-    let holding = held_in(words, store.len(), key);
-    match holding {
-        Holding::Refused(no) => Copied::Refused(no),
-        Holding::In(p) => {
-            let count = usize::from(shelf::length_of(words, p, n as usize));
-            if count == 0 {
-                return Copied::Refused(SECTION_NOT_HELD);
-            }
-            if out.len() < count {
-                return Copied::Refused(answers::OUTPUT_TOO_SMALL);
-            }
-            berth::copy_out(store, p, n as usize, count, out);
-            Copied::Bytes(count)
-        }
+    let p = held_in(words, store.len(), key)?;
+    let number = usize::from(n);
+    let count = usize::from(shelf::length_of(words, p, number));
+    if count == 0 {
+        return Err(Refusal::SectionNotHeld);
     }
+    if out.len() < count {
+        return Err(Refusal::OutputTooSmall);
+    }
+    berth::copy_out(store, p, number, count, out);
+    Ok(count)
 }
 
 // Whether every number of that table from 0 to its last is held.
-pub fn complete(words: &[u16], store: &[u8], key: Key) -> Whole
+pub fn complete(words: &[u16], store: &[u8], key: Key) -> Result<bool, Refusal>
     ensures { result ≡ whole_of (shelf_at words.now) store.now key }
 {
-    let holding = held_in(words, store.len(), key);
-    match holding {
-        Holding::Refused(no) => Whole::Refused(no),
-        Holding::In(p) => {
-            let last = usize::from(shelf::last_of(words, p));
-            if first_gap(shelf::mask_of(words, p), last) <= last {
-                Whole::Incomplete
-            } else {
-                Whole::Complete
-            }
-        }
-    }
+    let p = held_in(words, store.len(), key)?;
+    let last = usize::from(shelf::last_of(words, p));
+    let gap = first_gap(shelf::mask_of(words, p), last);
+    Ok(last < gap)
 }
 
-// The lowest number of that table from 0 to its last that is not held.
-pub fn lowest_missing(words: &[u16], store: &[u8], key: Key) -> Missing
+// The lowest number of that table from 0 to its last that is not held, where there is one.
+pub fn lowest_missing(words: &[u16], store: &[u8], key: Key) -> Result<Option<u8>, Refusal>
     ensures { result ≡ missing_of (shelf_at words.now) store.now key }
 {
-    let holding = held_in(words, store.len(), key);
-    match holding {
-        Holding::Refused(no) => Missing::Refused(no),
-        Holding::In(p) => {
-            let last = usize::from(shelf::last_of(words, p));
-            let n = first_gap(shelf::mask_of(words, p), last);
-            if n <= last {
-                Missing::Number(n as u8)
-            } else {
-                Missing::Nothing
-            }
-        }
+    let p = held_in(words, store.len(), key)?;
+    let last = usize::from(shelf::last_of(words, p));
+    let gap = first_gap(shelf::mask_of(words, p), last);
+    if gap <= last {
+        Ok(Some(gap as u8))
+    } else {
+        Ok(None)
     }
 }
 
@@ -167,11 +121,10 @@ const BIT_16: u32 = 65536;
 pub fn complete_code(words: &[u16], store: &[u8], key: Key) -> u16
     ensures { result ≡ whole_lent words.now store.now key }
 {
-    let answer = complete(words, store, key);
-    match answer {
-        Whole::Refused(n) => u16::from(n),
-        Whole::Complete => COMPLETE,
-        Whole::Incomplete => INCOMPLETE,
+    match complete(words, store, key) {
+        Err(refusal) => refusal as u16,
+        Ok(true) => COMPLETE,
+        Ok(false) => INCOMPLETE,
     }
 }
 
@@ -179,23 +132,17 @@ pub fn complete_code(words: &[u16], store: &[u8], key: Key) -> u16
 pub fn is_complete(words: &[u16], store: &[u8], key: Key) -> bool
     ensures { result ≡ complete_lent words.now store.now key }
 {
-    let answer = complete(words, store, key);
-    match answer {
-        Whole::Refused(_) => false,
-        Whole::Complete => true,
-        Whole::Incomplete => false,
-    }
+    complete(words, store, key) == Ok(true)
 }
 
 // The lowest missing number of a table, in a number whose low 8 bits are the refusal.
 pub fn missing_code(words: &[u16], store: &[u8], key: Key) -> u32
     ensures { result ≡ missing_lent words.now store.now key }
 {
-    let answer = lowest_missing(words, store, key);
-    match answer {
-        Missing::Refused(n) => u32::from(n),
-        Missing::Nothing => NOTHING,
-        Missing::Number(n) => NUMBER + BIT_16 * u32::from(n),
+    match lowest_missing(words, store, key) {
+        Err(refusal) => refusal as u32,
+        Ok(None) => NOTHING,
+        Ok(Some(n)) => NUMBER + BIT_16 * u32::from(n),
     }
 }
 
@@ -203,25 +150,18 @@ pub fn missing_code(words: &[u16], store: &[u8], key: Key) -> u32
 pub fn copy_code(words: &[u16], store: &[u8], key: Key, n: u8, out: &mut [u8]) -> u32
     ensures { out_of result out.new ≡ copy_lent words.now store.now key n out.old }
 {
-    let answer = copy_section(words, store, key, n, out);
-    match answer {
-        Copied::Refused(no) => u32::from(no),
-        Copied::Bytes(size) => answers::size_code(size),
-    }
+    answers::sized(copy_section(words, store, key, n, out))
 }
 
-// The place asked for where a table is in it, or the first number that refuses the question, put with a store of that size.
-fn taken_in(words: &[u16], size: usize, p: usize) -> Holding
+// The place asked for where a table is in it, or the first refusal of the question, put with a store of that size.
+fn taken_in(words: &[u16], size: usize, p: usize) -> Result<usize, Refusal>
     ensures { result ≡ taken_of (shelf_at words.now) size p }
 {
-    let no = unlent(words, size);
-    if no != 0 {
-        return Holding::Refused(no);
-    }
+    unlent(words, size)?;
     if shelf::key_number(words, p) / 256 % 256 != 1 {
-        return Holding::Refused(shelf::TABLE_NOT_HELD);
+        return Err(Refusal::TableNotHeld);
     }
-    Holding::In(p)
+    Ok(p)
 }
 
 // The table in place p.
@@ -244,10 +184,9 @@ fn table_in(words: &[u16], p: usize) -> Table
 pub fn table_code(words: &[u16], store: &[u8], place: u8, fields: &mut [u16]) -> u8
     ensures { out_of result fields.new ≡ table_lent words.now store.now place fields.old }
 {
-    let holding = taken_in(words, store.len(), place as usize);
-    match holding {
-        Holding::Refused(no) => no,
-        Holding::In(p) => {
+    match taken_in(words, store.len(), usize::from(place)) {
+        Err(refusal) => u8::from(refusal),
+        Ok(p) => {
             let table = table_in(words, p);
             tables::put_table(table, fields)
         }

@@ -1,5 +1,7 @@
 -- Document 01, "The shelf file": loading. Order of refusal: 17, 18, the file's faults, 13, 9.
-use Rattle.std.specs.Prelude.{ℕ, zero, suc, List, [], ◌∷◌, true, not, eqb, length, get_or, if◌then◌else◌}
+use Rattle.std.specs.Prelude.{ℕ, zero, suc, List, [], ◌∷◌, true, not, eqb, length, get_or, if◌then◌else◌, Result, Ok, Err}
+use Rattle.refusal.specs.declared.Refusal.{Refusal}
+use Rattle.refusal.specs.declared.Refusal.TheVariants.{NoFreePlace, KeyHeld, StoreSize, ShelfSpoiled}
 use Rattle.base.specs.Choice.{◌if◌, first}
 use Rattle.base.specs.Bytes.{part}
 use Rattle.section.specs.declared.Header.{Header}
@@ -9,18 +11,11 @@ use Rattle.shelf.specs.Record.{Place}
 use Rattle.shelf.specs.Record.{Shelf}
 use Rattle.shelf.specs.Record.{key_of}
 use Rattle.file.specs.Scan.{scan_of}
-use Rattle.file.specs.declared.Scan.{Scan}
 use Rattle.file.specs.declared.Scanned.{Scanned}
-use Rattle.shelf_load.specs.declared.Loaded.{Loaded}
-
--- the paper's number for each case of an answer; 0 for none
-abbrev pub number_of : Loaded → ℕ
-number_of Loaded.Done = 0
-number_of (Loaded.Refused n) = n
 
 -- what a call leaves: the answer, the record, the store
 pub record After : Type 0 where
-  pub said : Loaded
+  pub said : Result (Unit {0}) Refusal
   pub shelf : Shelf
   pub store : List ℕ
 
@@ -38,29 +33,29 @@ stored_below (suc k) file starts lengths store p =
     else put (stored_below k file starts lengths store p) p k (part file (get_or starts k 0) (get_or lengths k 0))
 
 module _ (shelf : Shelf) (store file : List ℕ) where
-  -- a refused call gives the number, and leaves record and store as they were
-  abbrev pub no : ℕ → After
-  no n = record { said = Loaded.Refused n; shelf = shelf; store = store }
+  -- a refused call gives the refusal, and leaves record and store as they were
+  abbrev pub no : Refusal → After
+  no r = record { said = Err r; shelf = shelf; store = store }
 
   -- 13, 9; else the lowest free place gets the table, and the berth of each of its sections that section and zeros
-  unfoldable pub table_of : Scanned → Header → After
-  table_of scanned h =
+  unfoldable pub table_of : Scanned → After
+  table_of scanned =
       first no
-      (13 if not (eqb (place_of shelf (key_of h)) places) ∷ 9 if eqb (free_of shelf) places ∷ [])
+      (KeyHeld if not (eqb (place_of shelf (key_of scanned.header)) places) ∷ NoFreePlace if eqb (free_of shelf) places ∷ [])
       (record {
-        said = Loaded.Done;
-        shelf = with_place shelf (free_of shelf) (loaded_place h scanned.lengths);
+        said = Ok tt;
+        shelf = with_place shelf (free_of shelf) (loaded_place scanned.header scanned.lengths);
         store = stored_below sections file scanned.starts scanned.lengths store (free_of shelf);
       })
 
-  -- the file's table, or the number of its first fault from the left
-  abbrev pub answered : Scanned → Scan → After
-  answered scanned (Scan.Table h) = table_of scanned h
-  answered scanned (Scan.Refused n) = no n
+  -- the file's table, or its first fault from the left
+  abbrev pub answered : Result Scanned Refusal → After
+  answered (Ok scanned) = table_of scanned
+  answered (Err r) = no r
 
   -- what a load leaves: 17, 18, then what the file says
   unfoldable pub load_of : After
   load_of =
       first no
-      (17 if not (eqb (length store) store_size) ∷ 18 if spoiled_of shelf ∷ [])
-      (answered (scan_of file) (scan_of file).answer)
+      (StoreSize if not (eqb (length store) store_size) ∷ ShelfSpoiled if spoiled_of shelf ∷ [])
+      (answered (scan_of file))

@@ -1,22 +1,22 @@
 -- A load on lent numbers: the answer and the store are those of the load on the record that the numbers are.
-use Rattle.std.specs.Prelude.{ℕ, zero, suc, List, eqb, get_or, if◌then◌else◌}
+use Rattle.std.specs.Prelude.{ℕ, zero, suc, List, eqb, get_or, if◌then◌else◌, Result, Ok, Err}
+use Rattle.refusal.specs.declared.Refusal.{Refusal}
 use Rattle.section.specs.declared.Header.{Header}
 use Rattle.berth.specs.Berth.{sections}
 use Rattle.shelf.specs.Record.{key_of, free_of}
 use Rattle.shelf.specs.Layout.{shelf_at}
 use Rattle.shelf_write.specs.Writes.{held_in, head_in}
 use Rattle.file.specs.Scan.{scan_of}
-use Rattle.file.specs.declared.Scan.{Scan}
-use Rattle.shelf_load.specs.declared.Loaded.{Loaded}
+use Rattle.file.specs.declared.Scanned.{Scanned}
 use Rattle.shelf_load.specs.Load.{load_of}
 
 -- what a call leaves: the answer, the numbers, the store
 pub record Leaving : Type 0 where
-  pub said : Loaded
+  pub said : Result (Unit {0}) Refusal
   pub words : List ℕ
   pub store : List ℕ
 
-abbrev pub leaving : Loaded → List ℕ → List ℕ → Leaving
+abbrev pub leaving : Result (Unit {0}) Refusal → List ℕ → List ℕ → Leaving
 leaving said words store = record { said = said; words = words; store = store }
 
 -- of the first k sections of place p those that have a length are held
@@ -31,18 +31,18 @@ abbrev pub loaded_in : List ℕ → ℕ → Header → List ℕ → List ℕ
 loaded_in words p h lengths = held_below sections (head_in words p (key_of h) h.version h.last) p lengths
 
 -- .. where it is loaded
-abbrev pub table_by : List ℕ → ℕ → List ℕ → Header → Loaded → List ℕ
-table_by words p lengths h Loaded.Done = loaded_in words p h lengths
-table_by words p lengths h (Loaded.Refused n) = words
+abbrev pub table_by : List ℕ → ℕ → Scanned → Result (Unit {0}) Refusal → List ℕ
+table_by words p scanned (Ok done) = loaded_in words p scanned.header scanned.lengths
+table_by words p scanned (Err r) = words
 
 -- the numbers after a load of what a scan found
-abbrev pub words_by : List ℕ → ℕ → List ℕ → Scan → Loaded → List ℕ
-words_by words p lengths (Scan.Table h) said = table_by words p lengths h said
-words_by words p lengths (Scan.Refused n) said = words
+abbrev pub words_by : List ℕ → ℕ → Result Scanned Refusal → Result (Unit {0}) Refusal → List ℕ
+words_by words p (Ok scanned) said = table_by words p scanned said
+words_by words p (Err r) said = words
 
 unfoldable pub load_on : List ℕ → List ℕ → List ℕ → Leaving
 load_on words store file =
     leaving
     (load_of (shelf_at words) store file).said
-    (words_by words (free_of (shelf_at words)) (scan_of file).lengths (scan_of file).answer (load_of (shelf_at words) store file).said)
+    (words_by words (free_of (shelf_at words)) (scan_of file) (load_of (shelf_at words) store file).said)
     (load_of (shelf_at words) store file).store

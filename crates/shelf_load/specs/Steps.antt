@@ -3,7 +3,6 @@ use Rattle.std.specs.Prelude.{ℕ, zero, suc, ◌+◌, ◌<◌, ◌≤◌, ◌�
 use Rattle.base.specs.Bytes.{part}
 use Rattle.berth.specs.Berth.{berth_size, sections}
 use Rattle.berth.specs.Calls.{put_in}
-use Rattle.section.specs.declared.Header.{Header}
 use Rattle.shelf.specs.Record.{free_of}
 use Rattle.shelf.specs.Layout.{shelf_at}
 use Rattle.file.specs.declared.Scanned.{Scanned}
@@ -35,9 +34,9 @@ unfoldable pub each_stored : List ℕ → ℕ → List ℕ → List ℕ → List
 each_stored store p file starts lengths count = if ltb sections count then store else placed_below count store p file starts lengths
 
 -- the table of a file, loaded on lent numbers
-unfoldable pub table_on : List ℕ → List ℕ → List ℕ → Scanned → Header → Leaving
-table_on words store file scanned h =
+unfoldable pub table_on : List ℕ → List ℕ → List ℕ → Scanned → Leaving
+table_on words store file scanned =
     leaving
-    (table_of (shelf_at words) store file scanned h).said
-    (table_by words (free_of (shelf_at words)) scanned.lengths h (table_of (shelf_at words) store file scanned h).said)
-    (table_of (shelf_at words) store file scanned h).store
+    (table_of (shelf_at words) store file scanned).said
+    (table_by words (free_of (shelf_at words)) scanned (table_of (shelf_at words) store file scanned).said)
+    (table_of (shelf_at words) store file scanned).store

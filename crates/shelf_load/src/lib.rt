@@ -10,17 +10,8 @@ ghost use Rattle.answers.specs.Answers.{lent};
 ghost use Rattle.shelf_load.specs.Answer.{load_lent};
 
 use berth::{PLACES, SECTIONS, STORE};
-use file::{Scan, Scanned};
-use section::Header;
-
-// The answer to loading a file.
-#[derive(Drop)]
-pub enum Loaded {
-    Done,
-    Refused(u8),
-}
-
-pub const KEY_HELD: u8 = 13;
+use file::Scanned;
+use refusal::Refusal;
 
 // Whether there is a section of that size which lies, from its start on, in a file of a length.
 fn lies(total: usize, start: usize, size: usize) -> bool
@@ -83,58 +74,50 @@ fn load_table(
     store: &mut [u8],
     file: &[u8],
     scanned: Scanned,
-    header: Header,
-) -> Loaded
+) -> Result<(), Refusal>
     requires words_len { (length words.old ≡ count) × (length store.old ≡ store_size) }
-    requires within { Within file.now scanned.starts scanned.lengths header.last }
+    requires within { Within file.now scanned.starts scanned.lengths scanned.header.last }
     ensures { leaving result words.new store.new
-        ≡ table_on words.old store.old file.now scanned header }
+        ≡ table_on words.old store.old file.now scanned }
 {
+    let header = scanned.header;
     let key = header.key;
     if shelf::place_of(words, key) != PLACES {
-        return Loaded::Refused(KEY_HELD);
+        return Err(Refusal::KeyHeld);
     }
     let p = shelf::free_of(words);
     if p == PLACES {
-        return Loaded::Refused(shelf_offer::NO_FREE_PLACE);
+        return Err(Refusal::NoFreePlace);
     }
     let starts = scanned.starts;
     let lengths = scanned.lengths;
-    let sections = header.last as usize + 1;
+    let sections = usize::from(header.last) + 1;
     // The numbers come first, as with an offer.
     shelf_write::put_head(words, p, key, header.version, header.last);
     hold_each(words, p, lengths);
     store_each(store, p, file, starts, lengths, sections);
-    Loaded::Done
+    Ok(())
 }
 
 // Loads a file's table into the lowest free place: each of its sections stands in its berth with zeros after it, and no other
 // berth changes. A refused call changes nothing.
-pub fn load_file(words: &mut [u16], store: &mut [u8], file: &[u8]) -> Loaded
+pub fn load_file(words: &mut [u16], store: &mut [u8], file: &[u8]) -> Result<(), Refusal>
     ensures { leaving result words.new store.new ≡ load_on words.old store.old file.now }
 {
     if store.len() != STORE {
-        return Loaded::Refused(shelf::STORE_SIZE);
+        return Err(Refusal::StoreSize);
     }
     if shelf_check::is_spoiled(words) {
-        return Loaded::Refused(shelf::SHELF_SPOILED);
+        return Err(Refusal::ShelfSpoiled);
     }
     // The whole file is read before anything is written.
-    let scanned = file::read_file(file);
-    let answer = scanned.answer;
-    match answer {
-        Scan::Refused(n) => Loaded::Refused(n),
-        Scan::Table(header) => load_table(words, store, file, scanned, header),
-    }
+    let scanned = file::read_file(file)?;
+    load_table(words, store, file, scanned)
 }
 
 // Loads a file, and answers in a number: 0, or the refusal.
 pub fn load_code(words: &mut [u16], store: &mut [u8], file: &[u8]) -> u8
     ensures { lent result words.new store.new ≡ load_lent words.old store.old file.now }
 {
-    let answer = load_file(words, store, file);
-    match answer {
-        Loaded::Done => answers::DONE,
-        Loaded::Refused(n) => n,
-    }
+    answers::done(load_file(words, store, file))
 }

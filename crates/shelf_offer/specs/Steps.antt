@@ -1,18 +1,18 @@
 -- Offering in two parts, as the code goes about it: the step that an offer comes to, and what is then done. `Offer` and `On` have the whole, and
 -- it is proved that the two parts are it (`step-done`, `decided`). Last, a step that writes, as numbers that one function hands to another.
-use Rattle.std.specs.Prelude.{ℕ, ◌+◌, ◌*◌, List, not, eqb, length, if◌then◌else◌}
+use Rattle.std.specs.Prelude.{ℕ, ◌+◌, ◌*◌, List, not, eqb, length, if◌then◌else◌, Result, Ok, Err}
 use Rattle.base.specs.Bytes.{same}
+use Rattle.refusal.specs.declared.Refusal.{Refusal}
+use Rattle.refusal.specs.declared.Refusal.TheVariants.{StoreSize, ShelfSpoiled, NoFreePlace, Differs}
 use Rattle.section.specs.Section.{read_of, header_of}
 use Rattle.section.specs.declared.Header.{Header}
-use Rattle.section.specs.declared.Reading.{Reading}
-use Rattle.section.specs.declared.Reading.TheVariants as reading
 use Rattle.berth.specs.Berth.{sections, places, store_size, put, wiped_where, standing}
 use Rattle.shelf.specs.Record.{place_at, with_place, length_at, holds, spoiled_of, place_of, free_of}
 use Rattle.shelf.specs.Record.{Place}
 use Rattle.shelf.specs.Record.{Shelf}
 use Rattle.shelf_offer.specs.declared.Offered.{Offered}
 use Rattle.shelf_offer.specs.declared.Step.{Step}
-use Rattle.shelf_offer.specs.declared.Step.TheVariants.{Refuse, Repeats, Begins, BeginsAgain, Adds}
+use Rattle.shelf_offer.specs.declared.Step.TheVariants.{Repeats, Begins, BeginsAgain, Adds}
 use Rattle.shelf_offer.specs.Offer.{After, begun_place, added_place, no}
 use Rattle.shelf.specs.Record.{key_of}
 use Rattle.shelf.specs.Calls.{mask_among}
@@ -20,86 +20,86 @@ use Rattle.shelf_write.specs.Writes.{held_in}
 use Rattle.shelf_offer.specs.On.{begun_words}
 
 -- key held in place p, with what stands there
-unfoldable pub held_step : Place → List ℕ → List ℕ → ℕ → Header → Step
+unfoldable pub held_step : Place → List ℕ → List ℕ → ℕ → Header → Result Step Refusal
 held_step place store payload p h =
-    if not (eqb place.version h.version) then BeginsAgain p
-    else (if not (eqb place.last h.last) then Refuse 10
-    else (if not (holds place h.number) then Adds p
-    else (if same (standing store p h.number (length_at place h.number)) payload then Repeats else Refuse 10)))
+    if not (eqb place.version h.version) then Ok (BeginsAgain p)
+    else (if not (eqb place.last h.last) then Err Differs
+    else (if not (holds place h.number) then Ok (Adds p)
+    else (if same (standing store p h.number (length_at place h.number)) payload then Ok Repeats else Err Differs)))
 
 module _ (shelf : Shelf) (store payload : List ℕ) where
   -- key not held
-  unfoldable pub new_step : Step
-  new_step = if eqb (free_of shelf) places then Refuse 9 else Begins (free_of shelf)
+  unfoldable pub new_step : Result Step Refusal
+  new_step = if eqb (free_of shelf) places then Err NoFreePlace else Ok (Begins (free_of shelf))
 
-  unfoldable pub sound_step : Header → Step
+  unfoldable pub sound_step : Header → Result Step Refusal
   sound_step h =
       if eqb (place_of shelf (key_of h)) places then new_step
       else held_step (place_at shelf (place_of shelf (key_of h))) store payload (place_of shelf (key_of h)) h
 
-  abbrev pub reading_step : Reading → Step
-  reading_step (reading.Sound h) = sound_step h
-  reading_step (reading.Refused n) = Refuse n
+  abbrev pub reading_step : Result Header Refusal → Result Step Refusal
+  reading_step (Ok h) = sound_step h
+  reading_step (Err r) = Err r
 
-  unfoldable pub step_of : Step
+  unfoldable pub step_of : Result Step Refusal
   step_of =
-      if not (eqb (length store) store_size) then Refuse 17
-      else (if spoiled_of shelf then Refuse 18 else reading_step (read_of payload))
+      if not (eqb (length store) store_size) then Err StoreSize
+      else (if spoiled_of shelf then Err ShelfSpoiled else reading_step (read_of payload))
 
   -- what is done at each step, with the header that the payload has
-  unfoldable pub done : Step → After
-  done (Refuse n) = no shelf store payload n
-  done Repeats = record { said = Offered.Repeat; shelf = shelf; store = store }
-  done (Begins p) =
+  unfoldable pub done : Result Step Refusal → After
+  done (Err r) = no shelf store payload r
+  done (Ok Repeats) = record { said = Ok Offered.Repeat; shelf = shelf; store = store }
+  done (Ok (Begins p)) =
       record {
-        said = Offered.Began;
+        said = Ok Offered.Began;
         shelf = with_place shelf p (begun_place (header_of payload) (length payload));
         store = put store p (header_of payload).number payload;
       }
-  done (BeginsAgain p) =
+  done (Ok (BeginsAgain p)) =
       record {
-        said = Offered.BeganAgain;
+        said = Ok Offered.BeganAgain;
         shelf = with_place shelf p (begun_place (header_of payload) (length payload));
         store = put (wiped_where (holds (place_at shelf p)) sections store p) p (header_of payload).number payload;
       }
-  done (Adds p) =
+  done (Ok (Adds p)) =
       record {
-        said = Offered.Added;
+        said = Ok Offered.Added;
         shelf = with_place shelf p (added_place (place_at shelf p) (header_of payload) (length payload));
         store = put store p (header_of payload).number payload;
       }
 
 -- what is written into the numbers at each step
-unfoldable pub written : List ℕ → List ℕ → Step → List ℕ
-written words payload (Refuse n) = words
-written words payload Repeats = words
-written words payload (Begins p) = begun_words words p (header_of payload) (length payload)
-written words payload (BeginsAgain p) = begun_words words p (header_of payload) (length payload)
-written words payload (Adds p) = held_in words p (header_of payload).number (length payload)
+unfoldable pub written : List ℕ → List ℕ → Result Step Refusal → List ℕ
+written words payload (Err r) = words
+written words payload (Ok Repeats) = words
+written words payload (Ok (Begins p)) = begun_words words p (header_of payload) (length payload)
+written words payload (Ok (BeginsAgain p)) = begun_words words p (header_of payload) (length payload)
+written words payload (Ok (Adds p)) = held_in words p (header_of payload).number (length payload)
 
 -- the answer of a step, and the place that it writes in; 0 means nothing where it writes nothing
-abbrev pub answer_by : Step → Offered
-answer_by (Refuse n) = Offered.Refused n
-answer_by Repeats = Offered.Repeat
-answer_by (Begins p) = Offered.Began
-answer_by (BeginsAgain p) = Offered.BeganAgain
-answer_by (Adds p) = Offered.Added
+abbrev pub answer_by : Result Step Refusal → Result Offered Refusal
+answer_by (Err r) = Err r
+answer_by (Ok Repeats) = Ok Offered.Repeat
+answer_by (Ok (Begins p)) = Ok Offered.Began
+answer_by (Ok (BeginsAgain p)) = Ok Offered.BeganAgain
+answer_by (Ok (Adds p)) = Ok Offered.Added
 
-abbrev pub place_by : Step → ℕ
-place_by (Refuse n) = 0
-place_by Repeats = 0
-place_by (Begins p) = p
-place_by (BeginsAgain p) = p
-place_by (Adds p) = p
+abbrev pub place_by : Result Step Refusal → ℕ
+place_by (Err r) = 0
+place_by (Ok Repeats) = 0
+place_by (Ok (Begins p)) = p
+place_by (Ok (BeginsAgain p)) = p
+place_by (Ok (Adds p)) = p
 
 -- the kind of a step that writes, as one number: the answer's from bit 8 up, 1 began, 2 began again, 3 added, as `offered_code` has it; the number of a
 -- section that is added, which is at most 15, from bit 1 up; bit 0 is left for the code to say that 18 is still to be asked. 0 where it writes nothing
-abbrev pub what_by : Step → ℕ → ℕ
-what_by (Refuse n) number = 0
-what_by Repeats number = 0
-what_by (Begins p) number = 256
-what_by (BeginsAgain p) number = 512
-what_by (Adds p) number = 768 + 2 * number
+abbrev pub what_by : Result Step Refusal → ℕ → ℕ
+what_by (Err r) number = 0
+what_by (Ok Repeats) number = 0
+what_by (Ok (Begins p)) number = 256
+what_by (Ok (BeginsAgain p)) number = 512
+what_by (Ok (Adds p)) number = 768 + 2 * number
 
 -- the step that writes, by the kind of its answer, which is what_by / 256: 3 adds, 2 begins again, 1 begins. Any other number is read as 1, and
 -- nothing follows from it: what writes nothing comes here no more

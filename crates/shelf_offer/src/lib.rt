@@ -1,13 +1,12 @@
 // Offering a section to the shelf (document 01, "Offering a sound section"), over the numbers and the store that the host lends.
 #![tactic(auto)]
 
-ghost use Rattle.std.specs.Prelude.{◌≡◌, true, false, ◌<◌, ◌≤◌, ◌/◌, ◌%◌, length};
+ghost use Rattle.std.specs.Prelude.{◌≡◌, true, false, ◌<◌, ◌≤◌, ◌/◌, ◌%◌, length, Ok};
 ghost use Rattle.berth.specs.Berth.{berth_size, places, sections, store_size};
 ghost use Rattle.berth.specs.Calls.{put_in};
 ghost use Rattle.key.specs.Theorems.{Proper};
 ghost use Rattle.section.specs.Section.{read_of, header_of};
 ghost use Rattle.section.specs.declared.Header.{Header as HeaderOf};
-ghost use Rattle.section.specs.declared.Reading.TheVariants.{Sound};
 ghost use Rattle.shelf.specs.Record.{place_at, spoiled_of};
 ghost use Rattle.shelf.specs.Layout.{count, taken_in, shelf_in, shelf_at};
 ghost use Rattle.shelf_write.specs.Calls.{held_put};
@@ -16,9 +15,11 @@ ghost use Rattle.shelf_check.specs.Unless.{unless_spoiled};
 ghost use Rattle.answers.specs.Answers.{lent};
 ghost use Rattle.shelf_offer.specs.Answer.{offered_code, offer_lent};
 
-use section::{Header, Reading};
+use refusal::Refusal;
+use section::Header;
 
-#[derive(Drop)]
+// What an offer that is accepted comes to.
+#[derive(Clone, Copy, Debug, PartialEq, Eq)]
 pub enum Offered {
     // The key was not held: the section begins the table.
     Began,
@@ -28,17 +29,11 @@ pub enum Offered {
     Added,
     // The same bytes were held: nothing changes.
     Repeat,
-    Refused(u8),
 }
 
-pub const NO_FREE_PLACE: u8 = 9;
-
-pub const DIFFERS: u8 = 10;
-
-// What an offer of a sound section comes to where the record is not spoiled, and in which place.
+// What an offer of a sound section that is accepted comes to where the record is not spoiled, and in which place.
 #[derive(Clone, Copy)]
 enum Step {
-    Refuse(u8),
     Repeats,
     Begins(usize),
     BeginsAgain(usize),
@@ -46,34 +41,34 @@ enum Step {
 }
 
 // The step of a sound section whose key is held in place p.
-fn held_step(words: &[u16], store: &[u8], payload: &[u8], header: Header, p: usize) -> Step
+fn held_step(words: &[u16], store: &[u8], payload: &[u8], header: Header, p: usize) -> Result<Step, Refusal>
     requires words_len { (length words.now ≡ count) × (length store.now ≡ store_size) }
     requires p_lt_places { (p < places) × (taken_in words.now p ≡ true) }
     requires number_lt_sections { (header.number < sections) × (header.version < 32) × (header.last < 16) × (length payload.now ≤ berth_size) }
     ensures { spoiled_of (shelf_in words.now) ≡ false → result ≡ held_step (place_at (shelf_in words.now) p) store.now payload.now p header }
 {
     if shelf::version_of(words, p) != u16::from(header.version) {
-        return Step::BeginsAgain(p);
+        return Ok(Step::BeginsAgain(p));
     }
     if shelf::last_of(words, p) != u16::from(header.last) {
-        return Step::Refuse(DIFFERS);
+        return Err(Refusal::Differs);
     }
     let number = usize::from(header.number);
     let length = usize::from(shelf::length_of(words, p, number));
     if length == 0 {
-        return Step::Adds(p);
+        return Ok(Step::Adds(p));
     }
     if length != payload.len() {
-        return Step::Refuse(DIFFERS);
+        return Err(Refusal::Differs);
     }
     if berth::stands(store, p, number, payload.len(), payload) {
-        return Step::Repeats;
+        return Ok(Step::Repeats);
     }
-    Step::Refuse(DIFFERS)
+    Err(Refusal::Differs)
 }
 
 // The step of a sound section: it reads all that it is lent, and writes nothing.
-fn sound_step(words: &[u16], store: &[u8], payload: &[u8], header: Header) -> Step
+fn sound_step(words: &[u16], store: &[u8], payload: &[u8], header: Header) -> Result<Step, Refusal>
     requires words_len { (length words.now ≡ count) × (length store.now ≡ store_size) }
     requires number_lt_sections { (header.number < sections) × (header.version < 32) × (header.last < 16) × (length payload.now ≤ berth_size) }
     requires proper { Proper header.key }
@@ -85,9 +80,9 @@ fn sound_step(words: &[u16], store: &[u8], payload: &[u8], header: Header) -> St
     }
     let free = shelf::free_of(words);
     if free < berth::PLACES {
-        return Step::Begins(free);
+        return Ok(Step::Begins(free));
     }
-    Step::Refuse(NO_FREE_PLACE)
+    Err(Refusal::NoFreePlace)
 }
 
 // Says in the numbers that a section is held, and stores it. The numbers come first: the next call reads them by wide loads, which wait
@@ -119,15 +114,15 @@ const ADDED: u16 = 256 * ADDS;
 const REPEAT: u16 = 1024;
 
 // An answer in a number whose low 8 bits are the refusal.
-fn code_of(answer: Offered) -> u16
+fn code_of(answer: Result<Offered, Refusal>) -> u16
     ensures { result ≡ offered_code answer }
 {
     match answer {
-        Offered::Repeat => REPEAT,
-        Offered::Added => ADDED,
-        Offered::Began => BEGAN,
-        Offered::BeganAgain => BEGAN_AGAIN,
-        Offered::Refused(n) => u16::from(n),
+        Ok(Offered::Repeat) => REPEAT,
+        Ok(Offered::Added) => ADDED,
+        Ok(Offered::Began) => BEGAN,
+        Ok(Offered::BeganAgain) => BEGAN_AGAIN,
+        Err(refusal) => refusal as u16,
     }
 }
 
@@ -183,13 +178,13 @@ fn begin(
     kind: u16,
 ) -> u16
     requires store_len { (length store.old ≡ store_size) × (spoiled_of (shelf_at words.old) ≡ false) }
-    requires payload_len_bound { (length payload.now ≤ berth_size) × (kind ≡ 3 → ⊥) × (header ≡ header_of payload.now) × (step_of (shelf_at words.old) store.old payload.now ≡ step_by kind p) }
+    requires payload_len_bound { (length payload.now ≤ berth_size) × (kind ≡ 3 → ⊥) × (header ≡ header_of payload.now) × (step_of (shelf_at words.old) store.old payload.now ≡ Ok (step_by kind p)) }
     ensures { lent result words.new store.new ≡ offer_lent words.old store.old payload.now }
 {
     berth::wipe_where(store, p, going(words, p, kind));
     shelf_write::put_head(words, p, header.key, header.version, header.last);
     add(words, store, payload, p, usize::from(header.number));
-    code_of(begun(kind))
+    code_of(Ok(begun(kind)))
 }
 
 // What is not a repeat, whole. `what` is one number: bit 0 is 1 where the record has yet to be asked, the number of a section that is added
@@ -197,20 +192,19 @@ fn begin(
 fn carried(words: &mut [u16], store: &mut [u8], payload: &[u8], p: usize, what: u16) -> u16
     requires store_len { length store.old ≡ store_size }
     requires words_value { what % 2 ≡ 0 → spoiled_of (shelf_at words.old) ≡ false }
-    requires payload_value { ((h : HeaderOf) → read_of payload.now ≡ Sound h → spoiled_of (shelf_at words.old) ≡ false → step_of (shelf_at words.old) store.old payload.now ≡ step_by (what / 256) p) × (what / 256 ≡ 3 → (read_of payload.now ≡ Sound (header_of payload.now)) × (what / 2 % 16 ≡ (header_of payload.now).number)) }
+    requires payload_value { ((h : HeaderOf) → read_of payload.now ≡ Ok h → spoiled_of (shelf_at words.old) ≡ false → step_of (shelf_at words.old) store.old payload.now ≡ Ok (step_by (what / 256) p)) × (what / 256 ≡ 3 → (read_of payload.now ≡ Ok (header_of payload.now)) × (what / 2 % 16 ≡ (header_of payload.now).number)) }
     ensures { lent result words.new store.new ≡ offer_lent words.old store.old payload.now }
 {
     if spoiled(words, what % 2 == 0) {
-        return code_of(Offered::Refused(shelf::SHELF_SPOILED));
+        return code_of(Err(Refusal::ShelfSpoiled));
     }
     if what / 256 == ADDS {
         add(words, store, payload, p, usize::from(what / 2 % 16));
-        return code_of(Offered::Added);
+        return code_of(Ok(Offered::Added));
     }
-    let reading = section::read(payload);
-    match reading {
-        Reading::Sound(header) => begin(words, store, payload, header, p, what / 256),
-        Reading::Refused(number) => code_of(Offered::Refused(number)),
+    match section::read(payload) {
+        Ok(header) => begin(words, store, payload, header, p, what / 256),
+        Err(refusal) => code_of(Err(refusal)),
     }
 }
 
@@ -219,7 +213,7 @@ fn carried(words: &mut [u16], store: &mut [u8], payload: &[u8], p: usize, what: 
 fn carry_out(words: &mut [u16], store: &mut [u8], payload: &[u8], p: usize, what: u16) -> u16
     requires store_len { length store.old ≡ store_size }
     requires words_value { what % 2 ≡ 0 → spoiled_of (shelf_at words.old) ≡ false }
-    requires payload_value { ((h : HeaderOf) → read_of payload.now ≡ Sound h → spoiled_of (shelf_at words.old) ≡ false → step_of (shelf_at words.old) store.old payload.now ≡ step_by (what / 256) p) × (what / 256 ≡ 3 → (read_of payload.now ≡ Sound (header_of payload.now)) × (what / 2 % 16 ≡ (header_of payload.now).number)) }
+    requires payload_value { ((h : HeaderOf) → read_of payload.now ≡ Ok h → spoiled_of (shelf_at words.old) ≡ false → step_of (shelf_at words.old) store.old payload.now ≡ Ok (step_by (what / 256) p)) × (what / 256 ≡ 3 → (read_of payload.now ≡ Ok (header_of payload.now)) × (what / 2 % 16 ≡ (header_of payload.now).number)) }
     ensures { lent result words.new store.new ≡ offer_lent words.old store.old payload.now }
 {
     let size = payload.len();
@@ -235,41 +229,41 @@ fn asks(passed: bool) -> u16
 }
 
 // The rest of `what`, which is 0 where a step writes nothing.
-fn what_by(step: Step, number: u8) -> u16
+fn what_by(step: Result<Step, Refusal>, number: u8) -> u16
     ensures { (result ≡ what_by step number) × (result < 1280) }
 {
     match step {
-        Step::Repeats => 0,
-        Step::Refuse(_) => 0,
-        Step::Begins(_) => BEGAN,
-        Step::BeginsAgain(_) => BEGAN_AGAIN,
-        Step::Adds(_) => ADDED + 2 * u16::from(number),
+        Ok(Step::Repeats) => 0,
+        Err(_) => 0,
+        Ok(Step::Begins(_)) => BEGAN,
+        Ok(Step::BeginsAgain(_)) => BEGAN_AGAIN,
+        Ok(Step::Adds(_)) => ADDED + 2 * u16::from(number),
     }
 }
 
 // The place that a step writes in.
-fn place_by(step: Step) -> usize
+fn place_by(step: Result<Step, Refusal>) -> usize
     ensures { result ≡ place_by step }
 {
     match step {
-        Step::Repeats => 0,
-        Step::Refuse(_) => 0,
-        Step::Begins(p) => p,
-        Step::BeginsAgain(p) => p,
-        Step::Adds(p) => p,
+        Ok(Step::Repeats) => 0,
+        Err(_) => 0,
+        Ok(Step::Begins(p)) => p,
+        Ok(Step::BeginsAgain(p)) => p,
+        Ok(Step::Adds(p)) => p,
     }
 }
 
 // The answer of a step.
-fn answer_by(step: Step) -> Offered
+fn answer_by(step: Result<Step, Refusal>) -> Result<Offered, Refusal>
     ensures { result ≡ answer_by step }
 {
     match step {
-        Step::Repeats => Offered::Repeat,
-        Step::Refuse(number) => Offered::Refused(number),
-        Step::Begins(_) => Offered::Began,
-        Step::BeginsAgain(_) => Offered::BeganAgain,
-        Step::Adds(_) => Offered::Added,
+        Ok(Step::Repeats) => Ok(Offered::Repeat),
+        Err(refusal) => Err(refusal),
+        Ok(Step::Begins(_)) => Ok(Offered::Began),
+        Ok(Step::BeginsAgain(_)) => Ok(Offered::BeganAgain),
+        Ok(Step::Adds(_)) => Ok(Offered::Added),
     }
 }
 
@@ -281,7 +275,7 @@ fn offer_sound(
     header: Header,
     passed: bool,
 ) -> u16
-    requires words_len { (length words.old ≡ count) × (length store.old ≡ store_size) × (read_of payload.now ≡ Sound header) }
+    requires words_len { (length words.old ≡ count) × (length store.old ≡ store_size) × (read_of payload.now ≡ Ok header) }
     requires words_value { passed ≡ true → spoiled_of (shelf_at words.old) ≡ false }
     ensures { lent result words.new store.new ≡ offer_lent words.old store.old payload.now }
 {
@@ -300,15 +294,14 @@ pub fn offer_code(words: &mut [u16], store: &mut [u8], payload: &[u8]) -> u16
     ensures { lent result words.new store.new ≡ offer_lent words.old store.old payload.now }
 {
     if store.len() != berth::STORE {
-        return code_of(Offered::Refused(shelf::STORE_SIZE));
+        return code_of(Err(Refusal::StoreSize));
     }
     if words.len() != shelf::WORDS {
-        return code_of(Offered::Refused(shelf::SHELF_SPOILED));
+        return code_of(Err(Refusal::ShelfSpoiled));
     }
     let passed = shelf_check::passes(words);
-    let reading = section::read(payload);
-    match reading {
-        Reading::Sound(header) => offer_sound(words, store, payload, header, passed),
-        Reading::Refused(_) => carry_out(words, store, payload, 0, asks(passed)),
+    match section::read(payload) {
+        Ok(header) => offer_sound(words, store, payload, header, passed),
+        Err(_) => carry_out(words, store, payload, 0, asks(passed)),
     }
 }

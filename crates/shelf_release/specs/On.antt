@@ -1,25 +1,25 @@
 -- A release on lent numbers: the answer and the store are those of the release from the record that the numbers are.
-use Rattle.std.specs.Prelude.{ℕ, List}
+use Rattle.std.specs.Prelude.{ℕ, List, Result, Ok, Err}
+use Rattle.refusal.specs.declared.Refusal.{Refusal}
 use Rattle.shelf.specs.Record.{place_of}
 use Rattle.key.specs.declared.Key.{Key}
 use Rattle.shelf.specs.Layout.{shelf_at}
 use Rattle.shelf_write.specs.Writes.{freed_in}
-use Rattle.shelf_release.specs.declared.Released.{Released}
 use Rattle.shelf_release.specs.Release.{release_of}
 
 -- what a call leaves: the answer, the numbers, the store
 pub record Leaving : Type 0 where
-  pub said : Released
+  pub said : Result (Unit {0}) Refusal
   pub words : List ℕ
   pub store : List ℕ
 
-abbrev pub leaving : Released → List ℕ → List ℕ → Leaving
+abbrev pub leaving : Result (Unit {0}) Refusal → List ℕ → List ℕ → Leaving
 leaving said words store = record { said = said; words = words; store = store }
 
 -- the numbers after a release of place p
-abbrev pub words_by : List ℕ → ℕ → Released → List ℕ
-words_by words p Released.Done = freed_in words p
-words_by words p (Released.Refused n) = words
+abbrev pub words_by : List ℕ → ℕ → Result (Unit {0}) Refusal → List ℕ
+words_by words p (Ok done) = freed_in words p
+words_by words p (Err r) = words
 
 unfoldable pub release_on : List ℕ → List ℕ → Key → Leaving
 release_on words store key =

@@ -7,36 +7,21 @@ ghost use Rattle.answers.specs.Answers.{lent};
 ghost use Rattle.shelf_release.specs.Answer.{release_lent};
 
 use key::Key;
-use shelf_ask::Holding;
-
-#[derive(Drop)]
-pub enum Released {
-    Done,
-    Refused(u8),
-}
+use refusal::Refusal;
 
 // Frees the place of the table with that key and zeroes all its berths.
-pub fn release_table(words: &mut [u16], store: &mut [u8], key: Key) -> Released
+pub fn release_table(words: &mut [u16], store: &mut [u8], key: Key) -> Result<(), Refusal>
     ensures { leaving result words.new store.new ≡ release_on words.old store.old key }
 {
-    let holding = shelf_ask::held_in(words, store.len(), key);
-    match holding {
-        Holding::Refused(no) => Released::Refused(no),
-        Holding::In(p) => {
-            berth::wipe_all(store, p);
-            shelf_write::put_free(words, p);
-            Released::Done
-        }
-    }
+    let p = shelf_ask::held_in(words, store.len(), key)?;
+    berth::wipe_all(store, p);
+    shelf_write::put_free(words, p);
+    Ok(())
 }
 
 // Releases a table, and answers in a number: 0, or the refusal.
 pub fn release_code(words: &mut [u16], store: &mut [u8], key: Key) -> u8
     ensures { lent result words.new store.new ≡ release_lent words.old store.old key }
 {
-    let answer = release_table(words, store, key);
-    match answer {
-        Released::Done => answers::DONE,
-        Released::Refused(n) => n,
-    }
+    answers::done(release_table(words, store, key))
 }

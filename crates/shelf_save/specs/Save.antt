@@ -1,6 +1,8 @@
 -- Document 01, "The shelf file": saving. From any store, the held lengths and the bytes that stand in their berths. Order of
 -- refusal: 17, 18, 14, 15.
-use Rattle.std.specs.Prelude.{ℕ, List, [], ◌∷◌, ◌++◌, ltb, length, get_or, drop}
+use Rattle.std.specs.Prelude.{ℕ, List, [], ◌∷◌, ◌++◌, ltb, length, get_or, drop, Result, Ok, Err}
+use Rattle.refusal.specs.declared.Refusal.{Refusal}
+use Rattle.refusal.specs.declared.Refusal.TheVariants.{OutputTooSmall}
 use Rattle.base.specs.Choice.{Row, ◌if◌, first}
 use Rattle.berth.specs.Berth.{sections, standing}
 use Rattle.shelf.specs.Record.{place_of}
@@ -9,12 +11,6 @@ use Rattle.shelf.specs.Record.{Shelf}
 use Rattle.shelf_ask.specs.Ask.{unasked, asked}
 use Rattle.file.specs.Layout.{file_of, chosen}
 use Rattle.file.specs.Scan.{found_at}
-use Rattle.shelf_save.specs.declared.Saved.{Saved}
-
--- the paper's number for each case of an answer; 0 for none
-abbrev pub number_of : Saved → ℕ
-number_of (Saved.Bytes n) = 0
-number_of (Saved.Refused n) = n
 
 -- the held sections of place p among the first k numbers, by rising number: the bytes that stand in their berths
 unfoldable pub held_below : ℕ → List ℕ → List ℕ → ℕ → List (List ℕ)
@@ -24,25 +20,25 @@ held_below k lengths store p = chosen k (found_at lengths) (λ n. standing store
 unfoldable pub place_file : List ℕ → List ℕ → ℕ → List ℕ
 place_file lengths store p = file_of (held_below sections lengths store p)
 
--- what a call leaves: the answer and the output
+-- what a call leaves: the answer, which is how many bytes now stand at the output's front, and the output
 pub record Save : Type 0 where
-  pub said : Saved
+  pub said : Result ℕ Refusal
   pub out : List ℕ
 
-abbrev pub save : Saved → List ℕ → Save
+abbrev pub save : Result ℕ Refusal → List ℕ → Save
 save said out = record { said = said; out = out }
 
 -- 15: output too small
 abbrev pub unsaved : List ℕ → List ℕ → List Row
-unsaved file out = 15 if ltb (length out) (length file) ∷ []
+unsaved file out = OutputTooSmall if ltb (length out) (length file) ∷ []
 
 -- a file at the front of the output; bytes past it stay as they were
 abbrev pub written : List ℕ → List ℕ → Save
-written file out = save (Saved.Bytes (length file)) (file ++ drop (length file) out)
+written file out = save (Ok (length file)) (file ++ drop (length file) out)
 
 -- a refused call leaves the output as it was
-abbrev pub refuse : List ℕ → ℕ → Save
-refuse out n = save (Saved.Refused n) out
+abbrev pub refuse : List ℕ → Refusal → Save
+refuse out r = save (Err r) out
 
 -- the table in place p
 unfoldable pub place_saved : List ℕ → List ℕ → ℕ → List ℕ → Save

@@ -12,17 +12,8 @@ ghost use Rattle.answers.specs.Answers.{out as out_of};
 ghost use Rattle.shelf_save.specs.Answer.{save_lent};
 
 use berth::SECTIONS;
-use file_number::Written;
 use key::Key;
-use shelf_ask::Holding;
-
-// The answer to saving a table.
-#[derive(Drop)]
-pub enum Saved {
-    // So many bytes now stand at the front of the output.
-    Bytes(usize),
-    Refused(u8),
-}
+use refusal::Refusal;
 
 // How many sections are held, and how many bytes they take in a file, each with its length.
 #[derive(Drop)]
@@ -91,10 +82,9 @@ fn write_at(n: u16, out: &mut [u8], at: usize) -> usize
     ensures value { result ≡ at + length (spelt n) }
     ensures out_after { out.new ≡ laid out.old at (spelt n) }
 {
-    let written = file_number::write_number(n, &mut out[at..]);
-    match written {
-        Written::Bytes(count) => at + count,
-        Written::Refused(_) => at,
+    match file_number::write_number(n, &mut out[at..]) {
+        Ok(count) => at + count,
+        Err(_) => at,
     }
 }
 
@@ -130,8 +120,13 @@ fn write_sections(store: &[u8], p: usize, lengths: [u16; 16], out: &mut [u8], fr
     }
 }
 
-// Saves the table in place p.
-fn save_place(store: &[u8], p: usize, lengths: [u16; 16], out: &mut [u8]) -> Saved
+// Saves the table in place p; how many bytes the file has.
+fn save_place(
+    store: &[u8],
+    p: usize,
+    lengths: [u16; 16],
+    out: &mut [u8],
+) -> Result<usize, Refusal>
     requires p_lt_places { (p < places) × (length store.now ≡ store_size) }
     requires berthed { Berthed lengths }
     ensures { save result out.new ≡ place_saved lengths store.now p out.old }
@@ -140,32 +135,31 @@ fn save_place(store: &[u8], p: usize, lengths: [u16; 16], out: &mut [u8]) -> Sav
     let count = sizes.count;
     let size = file::FRONT + sizes.bytes;
     if out.len() < size {
-        return Saved::Refused(answers::OUTPUT_TOO_SMALL);
+        return Err(Refusal::OutputTooSmall);
     }
     let counted = write_at(file::FORM, out, 0);
     let from = write_at(count, out, counted);
     write_sections(store, p, lengths, out, from);
-    Saved::Bytes(size)
+    Ok(size)
 }
 
-// Saves the table with that key as a file at the front of the output; what lies past the file stays as it was.
-pub fn save_table(words: &[u16], store: &[u8], key: Key, out: &mut [u8]) -> Saved
+// Saves the table with that key as a file at the front of the output; what lies past the file stays as it was. The answer is how many bytes
+// the file has.
+pub fn save_table(
+    words: &[u16],
+    store: &[u8],
+    key: Key,
+    out: &mut [u8],
+) -> Result<usize, Refusal>
     ensures { save result out.new ≡ save_of (shelf_at words.now) store.now key out.old }
 {
-    let holding = shelf_ask::held_in(words, store.len(), key);
-    match holding {
-        Holding::Refused(no) => Saved::Refused(no),
-        Holding::In(p) => save_place(store, p, shelf::lengths_of(words, p), out),
-    }
+    let p = shelf_ask::held_in(words, store.len(), key)?;
+    save_place(store, p, shelf::lengths_of(words, p), out)
 }
 
 // Saves a table, and answers the file's size from bit 8 up.
 pub fn save_code(words: &[u16], store: &[u8], key: Key, out: &mut [u8]) -> u32
     ensures { out_of result out.new ≡ save_lent words.now store.now key out.old }
 {
-    let answer = save_table(words, store, key, out);
-    match answer {
-        Saved::Refused(n) => u32::from(n),
-        Saved::Bytes(size) => answers::size_code(size),
-    }
+    answers::sized(save_table(words, store, key, out))
 }
