@@ -1,7 +1,7 @@
 -- What an accepted file holds: for each number nothing, or a sound section of that number that lies in the file.
 --   held        so it is of every accepted file
 use mathlib.Core.Path.{◌≡◌, refl, sym, ap, subst, ◌∙◌}
-use mathlib.Core.Bool.{true, false, ◌||◌}
+use mathlib.Core.Bool.{true, ◌||◌}
 use mathlib.Core.Logic.{◌⊎◌, ⊎_elim, inl, inr}
 use mathlib.Core.List.{List}
 use Prim.Native.Nat.{ℕ, zero, suc, ◌+◌, ◌<◌, ◌≤◌}
@@ -11,17 +11,20 @@ use lib.ListN.{length, get_or, set, replicate, length-set, get_or-replicate, get
 use lib.Seq.{get_or-set_same, get_or-set_other}
 use borrow.Author.Tests.{ltb-true, ltb-false}
 use Rattle.base.specs.Bytes.{part}
-use Rattle.base.proofs.Cases.{by, same_or, unlike, or_left}
+use Rattle.base.proofs.Cases.{by, same_or}
 use Rattle.section.specs.Section.{read_of}
 use Rattle.section.specs.declared.Header.{Header}
-use Rattle.section.specs.declared.Reading.{Reading}
+use Rattle.std.specs.Prelude.{Result, Ok, Err}
+use Rattle.refusal.specs.declared.Refusal.{Refusal}
+use Rattle.refusal.specs.declared.Refusal.TheVariants.{BadFile}
+use Rattle.std.specs.Prelude.{Option, None, Some}
+use Rattle.std.specs.Option.{unwrap_or}
 use Rattle.file_number.specs.Number.{number_at}
 use Rattle.file_number.specs.declared.Number.{Number}
 use Rattle.file.specs.Layout.{form, fewest, most_counted, shortest, longest, same_table}
-use Rattle.file.specs.Scan.{Seen, refused, nothing, first_of, added, section_at, sections_of, follow_of, count_of, form_of, scan_of}
+use Rattle.file.specs.Scan.{Seen, nothing, accepted, table_of, first_of, lying, added, section_at, sections_of, follow_of, count_of, form_of, scan_of}
 use Rattle.file.specs.declared.Part.{Part}
-use Rattle.file.specs.declared.Scan.{Scan}
-use Rattle.file.specs.declared.Scanned.{Scanned}
+use Rattle.file.specs.declared.Table.{Table}
 use Rattle.file.proofs.Found.{found, sound-number}
 
 -- a section of number n that lies in the file, and shares the table of the first
@@ -30,7 +33,7 @@ pub record Lies (file : List ℕ) (first : Header) (n start size : ℕ) : Type 0
   pub low : shortest ≤ size
   pub high : size ≤ longest
   pub inside : start + size ≤ length file
-  pub sound : read_of (part file start size) ≡ Reading.Sound header
+  pub sound : read_of (part file start size) ≡ Ok header
   pub number : header.number ≡ n
   pub shares : same_table first header ≡ true
 
@@ -56,14 +59,11 @@ none-held n =
 pub record Good (file : List ℕ) (seen : Seen) : Type 0 where
   pub places : length seen.starts ≡ most_counted
   pub sizes : length seen.lengths ≡ most_counted
-  pub begins : seen.begun ≡ false → seen.lengths ≡ blank
-  pub last : seen.begun ≡ true → seen.first.last ≤ 15
-  pub some : seen.begun ≡ true → (n : ℕ) × (shortest ≤ get_or seen.lengths n 0)
-  pub each : seen.begun ≡ true → (n : ℕ)
-      → (get_or seen.lengths n 0 ≡ 0) ⊎ Lies file seen.first n (get_or seen.starts n 0) (get_or seen.lengths n 0)
+  pub begins : seen.first ≡ None → seen.lengths ≡ blank
+  pub held : (first : Header) → seen.first ≡ Some first → Holds file first seen.starts seen.lengths
 
 module _ (file : List ℕ) (first h : Header) (start size : ℕ) (at : ℕ)
-    (e : section_at file at ≡ Part.Section h start size) (s : same_table first h ≡ true) (starts lengths : List ℕ)
+    (e : section_at file at ≡ Ok (lying h start size)) (s : same_table first h ≡ true) (starts lengths : List ℕ)
     (places : length starts ≡ most_counted) (sizes : length lengths ≡ most_counted) where
   abbrev Here : ℕ → Type 0
   Here n =
@@ -87,81 +87,89 @@ module _ (file : List ℕ) (first h : Header) (start size : ℕ) (at : ℕ)
       (λ d. rw (get_or-set_other lengths h.number n size 0 d, get_or-set_other starts h.number n start 0 d) (each n))
       (same_or n h.number)
 
-good-added : (file : List ℕ) (seen : Seen) (h : Header) (start size : ℕ) → section_at file seen.next ≡ Part.Section h start size
+-- before a section there is nothing, or what is held of the first one's table
+earlier : (file : List ℕ) (seen : Seen) (h : Header) → h.last ≤ 15 → Good file seen → (o : Option Header) → seen.first ≡ o
+    → ((unwrap_or o h).last ≤ 15)
+    × ((n : ℕ) → (get_or seen.lengths n 0 ≡ 0) ⊎ Lies file (unwrap_or o h) n (get_or seen.starts n 0) (get_or seen.lengths n 0))
+earlier file seen h l g (Some f) e = ((g.held f e).last, (g.held f e).each)
+earlier file seen h l g None e = (l, λ n. inl (ap (λ l. get_or l n 0) (g.begins e) ∙ none-held n))
+
+good-added : (file : List ℕ) (seen : Seen) (h : Header) (start size : ℕ) → section_at file seen.next ≡ Ok (lying h start size)
     → same_table (first_of seen h) h ≡ true → Good file seen → Good file (added seen h start size)
 good-added file seen h start size e s g =
+    let f = found h start size file seen.next e in
+    let k = sound-number (part file start size) h f.sound in
+    let z : length seen.lengths ≡ most_counted = g.sizes in
+    let low : h.number < length seen.lengths = omega arith in
+    let before = earlier file seen h k.1 g seen.first refl in
     record {
       places = length-set seen.starts h.number start ∙ g.places;
       sizes = length-set seen.lengths h.number size ∙ g.sizes;
-      begins = λ b. absurd (unlike b);
-      last =
-          λ _.
-          by seen.begun
-          (λ b. rw b (g.last b))
-          (λ b. rw b (let k = sound-number (part file start size) h (found h start size file seen.next e).sound in omega arith));
-      some =
-          λ _.
-          let f = found h start size file seen.next e in
-          let k = sound-number (part file start size) h f.sound in
-          let z : length seen.lengths ≡ most_counted = g.sizes in
-          let low : h.number < length seen.lengths = omega arith in
-          (h.number, rw (get_or-set_same seen.lengths h.number size 0 low) f.low);
-      each =
-          λ _.
-          each_set file (first_of seen h) h start size seen.next e s seen.starts seen.lengths g.places g.sizes
-          (λ n. by seen.begun (λ b. rw b (g.each b n)) (λ b. inl (ap (λ l. get_or l n 0) (g.begins b) ∙ none-held n)));
+      begins = λ b. absurd (let q : ◌≡◌ {A = Option Header} (Some (first_of seen h)) None = b in cc);
+      held =
+          λ first q.
+          let same : first_of seen h ≡ first = cc in
+          subst (λ f. Holds file f (set seen.starts h.number start) (set seen.lengths h.number size)) same
+          (record {
+            places = length-set seen.starts h.number start ∙ g.places;
+            sizes = length-set seen.lengths h.number size ∙ g.sizes;
+            last = before.0;
+            some = (h.number, rw (get_or-set_same seen.lengths h.number size 0 low) f.low);
+            each = each_set file (first_of seen h) h start size seen.next e s seen.starts seen.lengths g.places g.sizes before.1;
+          });
     }
 
 good-nothing : (file : List ℕ) (at : ℕ) → Good file (nothing at)
 good-nothing file at =
-    record { places = refl; sizes = refl; begins = λ _. refl; last = λ b. absurd (unlike (sym b)); some = λ b. absurd (unlike (sym b)); each = λ b. absurd (unlike (sym b)) }
+    record { places = refl; sizes = refl; begins = λ _. refl; held = λ first q. absurd (let e : ◌≡◌ {A = Option Header} None (Some first) = q in cc) }
 
 -- what is so of an answer: a table that it gives is held
-abbrev Answers : List ℕ → Scanned → Type 0
-Answers file r = (first : Header) → r.answer ≡ Scan.Table first → Holds file first r.starts r.lengths
+abbrev Answers : List ℕ → Result Table Refusal → Type 0
+Answers file r = (table : Table) → r ≡ Ok table → Holds file table.header table.starts table.lengths
 
-no_answer : (file : List ℕ) (n : ℕ) → Answers file (refused n)
-no_answer file n first e = absurd (let z : ◌≡◌ {A = ℕ} 0 1 = cc in omega arith)
+no_answer : (file : List ℕ) (r : Refusal) → Answers file (Err r)
+no_answer file r table e = absurd (let q : ◌≡◌ {A = Result Table Refusal} (Err r) (Ok table) = e in cc)
 
--- a scan that has begun, or has a section left to read, answers what it holds
-sections-held : (file : List ℕ) (left : ℕ) (seen : Seen) → Good file seen → (left ≡ 0 → seen.begun ≡ true) → Answers file (sections_of left file seen)
-unfolding sections_of
-sections-held file zero seen g b =
-    by (ltb seen.next (length file))
-    (λ t. rw t (no_answer file 12))
-    (λ f.
-    rw f
-    (λ first e.
-    let q : seen.first ≡ first = cc in
-    rw (← q) (record { places = g.places; sizes = g.sizes; last = g.last (b refl); some = g.some (b refl); each = g.each (b refl) })))
-sections-held file (suc left) seen g b = go (sections-held file left) (section_at file seen.next) refl
+ends-held : (file : List ℕ) (seen : Seen) → Good file seen → Answers file (accepted seen)
+ends-held file seen g = go seen.first refl
   where
-    go : ((seen : Seen) → Good file seen → (left ≡ 0 → seen.begun ≡ true) → Answers file (sections_of left file seen))
-        → (p : Part) → section_at file seen.next ≡ p → Answers file (follow_of (sections_of left file) seen p)
-    go more (Part.Refused n) e = no_answer file n
-    go more (Part.Section h start size) e =
-        by (same_table (first_of seen h) h)
+    go : (o : Option Header) → seen.first ≡ o → Answers file (table_of seen.starts seen.lengths o)
+    go None e = no_answer file BadFile
+    go (Some f) e =
+        λ table q.
+        let same : ◌≡◌ {A = Table} (record { header = f; starts = seen.starts; lengths = seen.lengths }) table = cc in
+        subst (λ (t : Table). Holds file t.header t.starts t.lengths) same (g.held f e)
+
+sections-held : (file : List ℕ) (left : ℕ) (seen : Seen) → Good file seen → Answers file (sections_of left file seen)
+unfolding sections_of
+sections-held file zero seen g =
+    by (ltb seen.next (length file)) (λ t. rw t (no_answer file BadFile)) (λ f. rw f (ends-held file seen g))
+sections-held file (suc left) seen g = go (sections-held file left) (section_at file seen.next) refl
+  where
+    go : ((seen : Seen) → Good file seen → Answers file (sections_of left file seen))
+        → (p : Result Part Refusal) → section_at file seen.next ≡ p → Answers file (follow_of (sections_of left file) seen p)
+    go more (Err r) e = no_answer file r
+    go more (Ok p) e =
+        by (same_table (first_of seen p.header) p.header)
         (λ s.
-        by (ltb h.number seen.lowest)
-        (λ t. rw (s, t) (no_answer file 12))
-        (λ f. rw (s, f) (more (added seen h start size) (good-added file seen h start size e s g) (λ _. refl))))
-        (λ s. rw s (no_answer file 12))
+        by (ltb p.header.number seen.lowest)
+        (λ t. rw (s, t) (no_answer file BadFile))
+        (λ f. rw (s, f) (more (added seen p.header p.start p.length) (good-added file seen p.header p.start p.length e s g))))
+        (λ s. rw s (no_answer file BadFile))
 
-count_held : (file : List ℕ) (n : Number) → Answers file (count_of file n)
-count_held file (Number.Refused n) = no_answer file n
-count_held file (Number.Value count next) =
-    by (ltb count fewest || ltb most_counted count)
-    (λ t. rw t (no_answer file 12))
-    (λ f.
-    let some : fewest ≤ count = ltb-false _ _ (or_left (ltb count fewest) _ f) in
-    rw f (sections-held file count (nothing next) (good-nothing file next) (λ z. absurd (omega arith))))
+count_held : (file : List ℕ) (n : Result Number Refusal) → Answers file (count_of file n)
+count_held file (Err r) = no_answer file r
+count_held file (Ok count) =
+    by (ltb count.value fewest || ltb most_counted count.value)
+    (λ t. rw t (no_answer file BadFile))
+    (λ f. rw f (sections-held file count.value (nothing count.next) (good-nothing file count.next)))
 
-form-held : (file : List ℕ) (n : Number) → Answers file (form_of file n)
-form-held file (Number.Refused n) = no_answer file n
-form-held file (Number.Value found next) =
-    by (eqb found form) (λ t. rw t (count_held file (number_at file next))) (λ f. rw f (no_answer file 12))
+form-held : (file : List ℕ) (n : Result Number Refusal) → Answers file (form_of file n)
+form-held file (Err r) = no_answer file r
+form-held file (Ok found) =
+    by (eqb found.value form) (λ t. rw t (count_held file (number_at file found.next))) (λ f. rw f (no_answer file BadFile))
 
-module _ (file : List ℕ) (first : Header) (e : (scan_of file).answer ≡ Scan.Table first) where
-  pub held : Holds file first (scan_of file).starts (scan_of file).lengths
+module _ (file : List ℕ) (table : Table) (e : scan_of file ≡ Ok table) where
+  pub held : Holds file table.header table.starts table.lengths
   unfolding scan_of
-  held = form-held file (number_at file 0) first e
+  held = form-held file (number_at file 0) table e

@@ -1,10 +1,9 @@
 -- Document 01, "The shelf file": the layout. "The file: form number 1; count of sections; then, by rising section number, each
 -- section's byte length and its bytes. All sections share key, version and last number. Largest file: 16,418 bytes."
-use Rattle.std.specs.Prelude.{ℕ, zero, suc, ◌+◌, ◌*◌, ◌≤◌, ◌≡◌, Bool, true, ◌&&◌, List, [], ◌∷◌, ◌++◌, eqb, length, if◌then◌else◌}
+use Rattle.std.specs.Prelude.{ℕ, zero, suc, ◌+◌, ◌*◌, ◌≤◌, ◌≡◌, Bool, true, ◌&&◌, List, [], ◌∷◌, ◌++◌, eqb, length, if◌then◌else◌, Ok}
 use Rattle.key.specs.Key.{same_key}
 use Rattle.section.specs.Section.{read_of, header_of, header_size, largest_section, most_sections}
 use Rattle.section.specs.declared.Header.{Header}
-use Rattle.section.specs.declared.Reading.TheVariants.{Sound}
 use Rattle.file_number.specs.Number.{spelt}
 
 -- the form of every file
@@ -51,7 +50,7 @@ same_table a b = same_key a.key b.key && (eqb a.version b.version && eqb a.last 
 abbrev pub Rising : Header → ℕ → List (List ℕ) → Type 0
 Rising first lowest [] = Unit {0}
 Rising first lowest (s ∷ ss) =
-    (read_of s ≡ Sound (header_of s))
+    (read_of s ≡ Ok (header_of s))
     × (same_table first (header_of s) ≡ true)
     × (lowest ≤ (header_of s).number)
     × Rising first ((header_of s).number + 1) ss
