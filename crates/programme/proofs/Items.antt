@@ -14,12 +14,11 @@ use Rattle.programme.specs.Table.{flags_at, playback_length_at, playback_delay_a
 use Rattle.programme.specs.Table.{num_content_descriptors_at, content_descriptors_at}
 use Rattle.programme.specs.Table.{content_linkage, flags, playback_length, playback_delay, expiration, content_size, content_name_length, num_content_descriptors}
 use Rattle.programme.specs.Reading.{cut, early, read_of, item_run, own_run, item_faults, item_of, item_at, step_of, own_at, own_of}
-use Rattle.programme.specs.declared.Run.{Run}
+use Rattle.std.specs.Prelude.{Ok, Err, Some, None}
+use Rattle.refusal.specs.declared.Refusal.{Refusal}
+use Rattle.refusal.specs.declared.Refusal.TheVariants.{ProgrammePassesEnd, ProgrammeBytesLeft}
 use Rattle.programme.specs.declared.Programme.{Programme}
-use Rattle.programme.specs.declared.Reading.{Reading}
 use Rattle.programme.specs.declared.Item.{Item}
-use Rattle.programme.specs.declared.Step.{Step}
-use Rattle.programme.specs.declared.Own.{Own}
 use Rattle.programme.proofs.Rows.{held, either_way, one_number, no_row}
 
 -- the item at a place whose descriptors end at another
@@ -40,17 +39,17 @@ item_to s at end =
     }
 
 module _ (s : List ℕ) (at : ℕ) where
-  item_refused : held (item_faults s at) ≡ true → Step.Refused 43 ≡ item_at s at
+  item_refused : held (item_faults s at) ≡ true → Err ProgrammePassesEnd ≡ item_at s at
   unfolding item_at
   item_refused h =
-      one_number Step.Refused 43 (Step.Item (item_of s at)) (item_faults s at)
+      one_number Err ProgrammePassesEnd (Ok (Some (item_of s at))) (item_faults s at)
       (refl, (refl, (refl, (refl, (refl, (refl, (refl, (refl, (refl, (refl, (refl, tt))))))))))) h
 
-  pub item-early : at < 17 → Step.Refused 43 ≡ item_at s at
+  pub item-early : at < 17 → Err ProgrammePassesEnd ≡ item_at s at
   item-early l = item_refused (rw (lt-ltb at 17 l))
 
   -- the fields' places rise, so one passes the end where the last does
-  pub item-cut : length s < content_descriptors_at s at → Step.Refused 43 ≡ item_at s at
+  pub item-cut : length s < content_descriptors_at s at → Err ProgrammePassesEnd ≡ item_at s at
   item-cut l =
       item_refused
       (either_way (early at) _
@@ -63,7 +62,7 @@ module _ (s : List ℕ) (at : ℕ) where
       (either_way (cut s (content_name_at s at)) _
       (either_way (cut s (num_content_descriptors_at s at)) _ (rw (lt-ltb (length s) (content_descriptors_at s at) l)))))))))))
 
-  pub item-past : item_run s at ≡ Run.Past → Step.Refused 43 ≡ item_at s at
+  pub item-past : item_run s at ≡ None → Err ProgrammePassesEnd ≡ item_at s at
   item-past e =
       item_refused
       (either_way (early at) _
@@ -77,12 +76,12 @@ module _ (s : List ℕ) (at : ℕ) where
       (either_way (cut s (num_content_descriptors_at s at)) _
       (either_way (cut s (content_descriptors_at s at)) _ (rw e)))))))))))
 
-  pub item-reads : 17 ≤ at → content_descriptors_at s at ≤ length s → (end : ℕ) → item_run s at ≡ Run.Ends end → Step.Item (item_to s at end) ≡ item_at s at
+  pub item-reads : 17 ≤ at → content_descriptors_at s at ≤ length s → (end : ℕ) → item_run s at ≡ Some end → Ok (Some (item_to s at end)) ≡ item_at s at
   unfolding item_at
   item-reads a l end e =
       let to : item_to s at end ≡ item_of s at = rw e in
-      ap Step.Item to
-      ∙ no_row Step.Refused 43 (Step.Item (item_of s at)) (item_faults s at)
+      ap (λ i. Ok (Some i)) to
+      ∙ no_row Err ProgrammePassesEnd (Ok (Some (item_of s at))) (item_faults s at)
       (rw (
         le-ltb at 17 a,
         le-ltb (length s) (flags_at s at) (omega arith),
@@ -98,12 +97,12 @@ module _ (s : List ℕ) (at : ℕ) where
       ))
 
   module _ (k : ℕ) where
-    pub step-refused : (n : ℕ) → read_of s ≡ Reading.Refused n → Step.Refused n ≡ step_of s at k
+    pub step-refused : (n : Refusal) → read_of s ≡ Err n → Err n ≡ step_of s at k
     unfolding step_of
     step-refused n e = rw e
 
-    module _ (p : Programme) (e : read_of s ≡ Reading.Programme p) where
-      pub step_over : p.items ≤ k → Step.Over ≡ step_of s at k
+    module _ (p : Programme) (e : read_of s ≡ Ok p) where
+      pub step_over : p.items ≤ k → Ok None ≡ step_of s at k
       unfolding step_of
       step_over l = rw (e, le-leb p.items k l)
 
@@ -111,34 +110,34 @@ module _ (s : List ℕ) (at : ℕ) where
       unfolding step_of
       step-item l = rw (e, lt-leb p.items k l)
 
-  pub own-early : at < 17 → Own.Refused 43 ≡ own_at s at
+  pub own-early : at < 17 → Err ProgrammePassesEnd ≡ own_at s at
   unfolding own_at
   own-early l = rw (lt-ltb at 17 l)
 
   module _ (a : 17 ≤ at) where
-    pub own-cut : length s < at + 1 → Own.Refused 43 ≡ own_at s at
+    pub own-cut : length s < at + 1 → Err ProgrammePassesEnd ≡ own_at s at
     unfolding own_at
     own-cut l = rw (le-ltb at 17 a, lt-ltb (length s) (at + 1) l)
 
     module _ (l : at + 1 ≤ length s) where
-      pub own-past : own_run s at ≡ Run.Past → Own.Refused 43 ≡ own_at s at
+      pub own-past : own_run s at ≡ None → Err ProgrammePassesEnd ≡ own_at s at
       unfolding own_at
       own-past e = rw (le-ltb at 17 a, le-ltb (length s) (at + 1) l, e)
 
-      module _ (end : ℕ) (e : own_run s at ≡ Run.Ends end) where
-        pub own-left : end < length s → Own.Refused 44 ≡ own_at s at
+      module _ (end : ℕ) (e : own_run s at ≡ Some end) where
+        pub own-left : end < length s → Err ProgrammeBytesLeft ≡ own_at s at
         unfolding own_at
         own-left h = rw (le-ltb at 17 a, le-ltb (length s) (at + 1) l, e, lt-ltb end (length s) h)
 
         pub own-reads : length s ≤ end
-            → Own.Loop (record { count = byte s at; place = at + 1; length = end - (at + 1) }) ≡ own_at s at
+            → Ok (record { count = byte s at; place = at + 1; length = end - (at + 1) }) ≡ own_at s at
         unfolding own_at
         own-reads h = rw (le-ltb at 17 a, le-ltb (length s) (at + 1) l, e, le-ltb end (length s) h)
 
-  pub own-refused : (n : ℕ) → read_of s ≡ Reading.Refused n → Own.Refused n ≡ own_of s at
+  pub own-refused : (n : Refusal) → read_of s ≡ Err n → Err n ≡ own_of s at
   unfolding own_of
   own-refused n e = rw e
 
-  pub own-there : (p : Programme) → read_of s ≡ Reading.Programme p → own_at s at ≡ own_of s at
+  pub own-there : (p : Programme) → read_of s ≡ Ok p → own_at s at ≡ own_of s at
   unfolding own_of
   own-there p e = rw e

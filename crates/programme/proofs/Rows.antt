@@ -4,7 +4,7 @@
 use mathlib.Core.Path.{◌≡◌, refl, sym}
 use mathlib.Core.Bool.{Bool, true, false, ◌||◌}
 use mathlib.Core.List.{List, [], ◌∷◌}
-use Prim.Native.Nat.{ℕ}
+use Rattle.refusal.specs.declared.Refusal.{Refusal}
 use Rattle.base.specs.Choice.{Row, first}
 use Rattle.base.specs.Tables.{Each}
 use Rattle.base.proofs.Cases.{by, unlike, or_left, or_right}
@@ -18,7 +18,7 @@ pub either_way : (a b : Bool) → b ≡ true → a || b ≡ true
 either_way true b e = refl
 either_way false b e = e
 
-module _ {A : Type 0} (refused : ℕ → A) (m : ℕ) (other : A) where
+module _ {A : Type 0} (refused : Refusal → A) (m : Refusal) (other : A) where
   pub one_number : (rs : List Row) → Each (λ n. n ≡ m) rs → held rs ≡ true → refused m ≡ first refused rs other
   one_number [] e h = absurd (unlike (sym h))
   one_number (r ∷ rs) e h =

@@ -7,13 +7,12 @@ use native.Mathlib.Omega.{arith}
 use lib.ListN.{get_or}
 use Rattle.answers.specs.Answers.{Told, told}
 use Rattle.answers.proofs.Same.{valueless}
+use Rattle.std.specs.Prelude.{Ok, Err, Some, None}
+use Rattle.refusal.proofs.Numbers.{once}
 use Rattle.programme.specs.Answer.{item_numbers, ReadingTold, StepTold, OwnTold}
 use Rattle.programme.specs.declared.Programme.{Programme}
-use Rattle.programme.specs.declared.Reading.{Reading}
 use Rattle.programme.specs.declared.Loop.{Loop}
 use Rattle.programme.specs.declared.Item.{Item}
-use Rattle.programme.specs.declared.Step.{Step}
-use Rattle.programme.specs.declared.Own.{Own}
 
 -- values that are equal
 values : {m n : ℕ} {v w : List ℕ} → told m v ≡ told n w → v ≡ w
@@ -46,26 +45,26 @@ item_back l =
 
 pub reading-told : ReadingTold
 unfolding programme_back
-reading-told (Reading.Programme p) (Reading.Programme q) e = ap (λ l. Reading.Programme (programme_back l)) (values e)
-reading-told (Reading.Programme p) (Reading.Refused n) e = valueless _ _ _ _ (sym e)
-reading-told (Reading.Refused n) (Reading.Programme q) e = valueless _ _ _ _ e
-reading-told (Reading.Refused n) (Reading.Refused m) e = ap Reading.Refused (numbers e)
+reading-told (Ok p) (Ok q) e = ap (λ l. Ok (programme_back l)) (values e)
+reading-told (Ok p) (Err n) e = valueless _ _ _ _ (sym e)
+reading-told (Err n) (Ok q) e = valueless _ _ _ _ e
+reading-told (Err n) (Err m) e = ap Err (once n m (numbers e))
 
 pub step-told : StepTold
 unfolding item_back
-step-told (Step.Item i) (Step.Item j) e = ap (λ l. Step.Item (item_back l)) (values e)
-step-told (Step.Item i) Step.Over e = absurd (let v : 1 ∷ item_numbers i ≡ 2 ∷ [] = values e in let z : ◌≡◌ {A = ℕ} 1 2 = cc in omega arith)
-step-told (Step.Item i) (Step.Refused n) e = valueless _ _ _ _ (sym e)
-step-told Step.Over (Step.Item j) e = absurd (let v : 2 ∷ [] ≡ 1 ∷ item_numbers j = values e in let z : ◌≡◌ {A = ℕ} 2 1 = cc in omega arith)
-step-told Step.Over Step.Over e = refl
-step-told Step.Over (Step.Refused n) e = valueless _ _ _ _ (sym e)
-step-told (Step.Refused n) (Step.Item j) e = valueless _ _ _ _ e
-step-told (Step.Refused n) Step.Over e = valueless _ _ _ _ e
-step-told (Step.Refused n) (Step.Refused m) e = ap Step.Refused (numbers e)
+step-told (Ok (Some i)) (Ok (Some j)) e = ap (λ l. Ok (Some (item_back l))) (values e)
+step-told (Ok (Some i)) (Ok None) e = absurd (let v : 1 ∷ item_numbers i ≡ 2 ∷ [] = values e in let z : ◌≡◌ {A = ℕ} 1 2 = cc in omega arith)
+step-told (Ok (Some i)) (Err n) e = valueless _ _ _ _ (sym e)
+step-told (Ok None) (Ok (Some j)) e = absurd (let v : 2 ∷ [] ≡ 1 ∷ item_numbers j = values e in let z : ◌≡◌ {A = ℕ} 2 1 = cc in omega arith)
+step-told (Ok None) (Ok None) e = refl
+step-told (Ok None) (Err n) e = valueless _ _ _ _ (sym e)
+step-told (Err n) (Ok (Some j)) e = valueless _ _ _ _ e
+step-told (Err n) (Ok None) e = valueless _ _ _ _ e
+step-told (Err n) (Err m) e = ap Err (once n m (numbers e))
 
 pub own-told : OwnTold
 unfolding loop_back
-own-told (Own.Loop l) (Own.Loop k) e = ap (λ v. Own.Loop (loop_back v)) (values e)
-own-told (Own.Loop l) (Own.Refused n) e = valueless _ _ _ _ (sym e)
-own-told (Own.Refused n) (Own.Loop k) e = valueless _ _ _ _ e
-own-told (Own.Refused n) (Own.Refused m) e = ap Own.Refused (numbers e)
+own-told (Ok l) (Ok k) e = ap (λ v. Ok (loop_back v)) (values e)
+own-told (Ok l) (Err n) e = valueless _ _ _ _ (sym e)
+own-told (Err n) (Ok k) e = valueless _ _ _ _ e
+own-told (Err n) (Err m) e = ap Err (once n m (numbers e))

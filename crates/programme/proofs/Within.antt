@@ -10,15 +10,15 @@ use lib.ListN.{length}
 use borrow.Author.Tests.{ltb-true, ltb-false}
 use Rattle.base.specs.Bytes.{byte}
 use Rattle.base.proofs.Cases.{by}
+use Rattle.std.specs.Prelude.{Ok, Err, Some, None}
+use Rattle.refusal.specs.declared.Refusal.{Refusal}
+use Rattle.refusal.specs.declared.Refusal.TheVariants.{ProgrammePassesEnd, ProgrammeBytesLeft}
+use Rattle.programme.specs.Run.{Run}
 use Rattle.programme.specs.Table.{content_descriptors_at}
-use Rattle.programme.specs.Reading.{read_of, item_run, item_at, own_run, own_at, own_of}
-use Rattle.programme.specs.declared.Run.{Run}
+use Rattle.programme.specs.Reading.{Reading, Step, Own, read_of, item_run, item_at, own_run, own_at, own_of}
 use Rattle.programme.specs.declared.Programme.{Programme}
-use Rattle.programme.specs.declared.Reading.{Reading}
 use Rattle.programme.specs.declared.Loop.{Loop}
 use Rattle.programme.specs.declared.Item.{Item}
-use Rattle.programme.specs.declared.Step.{Step}
-use Rattle.programme.specs.declared.Own.{Own}
 use Rattle.programme.proofs.Readings.{Listed, listed}
 use Rattle.programme.proofs.Runs.{run_lies}
 use Rattle.programme.proofs.Items.{item_to, item-early, item-cut, item-past, item-reads}
@@ -27,57 +27,57 @@ use Rattle.programme.proofs.Items.{own-early, own-cut, own-past, own-left, own-r
 -- the table's own loop, where it is read
 pub record Ends (s : List ℕ) (at : ℕ) (l : Loop) : Type 0 where
   pub late : 17 ≤ at
-  pub run : own_run s at ≡ Run.Ends (length s)
+  pub run : own_run s at ≡ Some (length s)
   pub says : l ≡ record { count = byte s at; place = at + 1; length = length s - (at + 1) }
   pub fits : at + 1 ≤ length s
   pub programme : Programme
   pub reads : Listed s programme
 
-apart : {P : Type 0} (n : ℕ) (l : Loop) → Own.Refused n ≡ Own.Loop l → P
+apart : {P : Type 0} (n : Refusal) (l : Loop) → Err n ≡ Ok l → P
 apart n l e = absurd (let z : ◌≡◌ {A = ℕ} 0 1 = cc in omega arith)
 
 module _ (s : List ℕ) (at : ℕ) (l : Loop) where
-  ends_at : (p : Programme) → Listed s p → own_at s at ≡ Own.Loop l → Ends s at l
+  ends_at : (p : Programme) → Listed s p → own_at s at ≡ Ok l → Ends s at l
   ends_at p r e =
       by (ltb at 17)
-      (λ t. apart 43 l (own-early s at (ltb-true _ _ t) ∙ e))
+      (λ t. apart ProgrammePassesEnd l (own-early s at (ltb-true _ _ t) ∙ e))
       λ f.
       let late : 17 ≤ at = ltb-false _ _ f in
       by (ltb (length s) (at + 1))
-      (λ t. apart 43 l (own-cut s at late (ltb-true _ _ t) ∙ e))
+      (λ t. apart ProgrammePassesEnd l (own-cut s at late (ltb-true _ _ t) ∙ e))
       λ g. let fits : at + 1 ≤ length s = ltb-false _ _ g in go late fits (own_run s at) refl
     where
       go : 17 ≤ at → at + 1 ≤ length s → (x : Run) → own_run s at ≡ x → Ends s at l
-      go late fits Run.Past q = apart 43 l (own-past s at late fits q ∙ e)
-      go late fits (Run.Ends end) q =
+      go late fits None q = apart ProgrammePassesEnd l (own-past s at late fits q ∙ e)
+      go late fits (Some end) q =
           by (ltb end (length s))
-          (λ t. apart 44 l (own-left s at late fits end q (ltb-true _ _ t) ∙ e))
+          (λ t. apart ProgrammeBytesLeft l (own-left s at late fits end q (ltb-true _ _ t) ∙ e))
           λ h.
           let high : length s ≤ end = ltb-false _ _ h in
           let low : end ≤ length s = (run_lies _ s (at + 1) end fits q).1 in
           let same : end ≡ length s = omega arith in
-          let w : Own.Loop (record { count = byte s at; place = at + 1; length = end - (at + 1) }) ≡ Own.Loop l
+          let w : Ok (record { count = byte s at; place = at + 1; length = end - (at + 1) }) ≡ Ok l
           = own-reads s at late fits end q high ∙ e in
           record {
             late = late;
-            run = q ∙ ap Run.Ends same;
+            run = q ∙ ap Some same;
             says = sym (loops w) ∙ rw same;
             fits = fits;
             programme = p;
             reads = r;
           }
         where
-          loops : {a b : Loop} → Own.Loop a ≡ Own.Loop b → a ≡ b
+          loops : {a b : Loop} → ◌≡◌ {A = Own} (Ok a) (Ok b) → a ≡ b
           loops x = cc
 
-  pub own-ends : own_of s at ≡ Own.Loop l → Ends s at l
+  pub own-ends : own_of s at ≡ Ok l → Ends s at l
   own-ends e = go (read_of s) refl
     where
       go : (r : Reading) → read_of s ≡ r → Ends s at l
-      go (Reading.Refused n) q = apart n l (own-refused s at n q ∙ e)
-      go (Reading.Programme p) q = ends_at p (listed s p q) (own-there s at p q ∙ e)
+      go (Err n) q = apart n l (own-refused s at n q ∙ e)
+      go (Ok p) q = ends_at p (listed s p q) (own-there s at p q ∙ e)
 
-  pub own-within : own_of s at ≡ Own.Loop l → (l.place < 65536) × (l.length < 65536)
+  pub own-within : own_of s at ≡ Ok l → (l.place < 65536) × (l.length < 65536)
   own-within e =
       let x = own-ends e in
       let small : length s ≤ 1024 = x.reads.small in
@@ -91,16 +91,16 @@ pub record Stands (s : List ℕ) (at : ℕ) (i : Item) : Type 0 where
   pub late : 17 ≤ at
   pub fits : content_descriptors_at s at ≤ length s
   pub end : ℕ
-  pub run : item_run s at ≡ Run.Ends end
+  pub run : item_run s at ≡ Some end
   pub low : content_descriptors_at s at ≤ end
   pub high : end ≤ length s
   pub says : i ≡ item_to s at end
 
 module _ (s : List ℕ) (at : ℕ) (i : Item) where
-  unlike-item : {P : Type 0} → Step.Refused 43 ≡ Step.Item i → P
+  unlike-item : {P : Type 0} → Err ProgrammePassesEnd ≡ Ok (Some i) → P
   unlike-item e = absurd (let z : ◌≡◌ {A = ℕ} 0 1 = cc in omega arith)
 
-  pub item-stands : item_at s at ≡ Step.Item i → Stands s at i
+  pub item-stands : item_at s at ≡ Ok (Some i) → Stands s at i
   item-stands e =
       by (ltb at 17)
       (λ t. unlike-item (item-early s at (ltb-true _ _ t) ∙ e))
@@ -110,12 +110,12 @@ module _ (s : List ℕ) (at : ℕ) (i : Item) where
       (λ t. unlike-item (item-cut s at (ltb-true _ _ t) ∙ e))
       λ g. let fits : content_descriptors_at s at ≤ length s = ltb-false _ _ g in go late fits (item_run s at) refl
     where
-      items : {a b : Item} → Step.Item a ≡ Step.Item b → a ≡ b
+      items : {a b : Item} → ◌≡◌ {A = Step} (Ok (Some a)) (Ok (Some b)) → a ≡ b
       items x = cc
 
       go : 17 ≤ at → content_descriptors_at s at ≤ length s → (x : Run) → item_run s at ≡ x → Stands s at i
-      go late fits Run.Past q = unlike-item (item-past s at q ∙ e)
-      go late fits (Run.Ends end) q =
+      go late fits None q = unlike-item (item-past s at q ∙ e)
+      go late fits (Some end) q =
           let lies = run_lies _ s (content_descriptors_at s at) end fits q in
           let low : content_descriptors_at s at + 2 * _ ≤ end = lies.0 in
           record {

@@ -1,19 +1,18 @@
 -- The number and the values of each answer about an NRT-IT section.
-use Rattle.std.specs.Prelude.{ℕ, ◌≡◌, List, [], ◌∷◌}
+use Rattle.std.specs.Prelude.{ℕ, ◌≡◌, List, [], ◌∷◌, Ok, Err, Some, None}
+use Rattle.refusal.specs.Refusal.{number}
 use Rattle.answers.specs.Answers.{Told, told}
 use Rattle.programme.specs.declared.Programme.{Programme}
-use Rattle.programme.specs.declared.Reading.{Reading}
 use Rattle.programme.specs.declared.Item.{Item}
-use Rattle.programme.specs.declared.Step.{Step}
-use Rattle.programme.specs.declared.Own.{Own}
+use Rattle.programme.specs.Reading.{Reading, Step, Own}
 
 -- the four numbers before the items
 abbrev pub programme_numbers : Programme → List ℕ
 programme_numbers p = p.service ∷ p.start ∷ p.minutes ∷ p.items ∷ []
 
 abbrev pub reading_told : Reading → Told
-reading_told (Reading.Programme p) = told 0 (programme_numbers p)
-reading_told (Reading.Refused n) = told n []
+reading_told (Ok p) = told 0 (programme_numbers p)
+reading_told (Err r) = told (number r) []
 
 -- an item's twelve numbers. A host gets ten of them, out of which the others come back (`programme_items`, `specs/Items.antt`)
 abbrev pub item_numbers : Item → List ℕ
@@ -25,13 +24,13 @@ item_numbers i =
 
 -- what a step found comes first: 1, an item, or 2, that the section has no item of that number
 abbrev pub step_told : Step → Told
-step_told (Step.Item i) = told 0 (1 ∷ item_numbers i)
-step_told Step.Over = told 0 (2 ∷ [])
-step_told (Step.Refused n) = told n []
+step_told (Ok (Some i)) = told 0 (1 ∷ item_numbers i)
+step_told (Ok None) = told 0 (2 ∷ [])
+step_told (Err r) = told (number r) []
 
 abbrev pub own_told : Own → Told
-own_told (Own.Loop l) = told 0 (l.count ∷ l.place ∷ l.length ∷ [])
-own_told (Own.Refused n) = told n []
+own_told (Ok l) = told 0 (l.count ∷ l.place ∷ l.length ∷ [])
+own_told (Err r) = told (number r) []
 
 -- they lose nothing
 abbrev pub ReadingTold : Type 0

@@ -8,15 +8,7 @@ ghost use Rattle.programme.specs.Run.{run_of};
 ghost use Rattle.programme.specs.Reading.{read_of, own_at, own_of};
 ghost use Rattle.programme.specs.Count.{count_of};
 
-use descriptors::Step as Descriptors;
-use section::Reading as Section;
-
-// A field or a loop passes the end.
-pub const PASSES_END: u8 = 43;
-
-pub const BYTES_LEFT: u8 = 44;
-
-const OTHER_TABLE: u8 = 45;
+use refusal::Refusal;
 
 // The place of the first item, behind the header and the fields before the items.
 pub const FIRST_ITEM: usize = 17;
@@ -31,7 +23,7 @@ const MINUTES: usize = 14;
 const ITEMS: usize = 16;
 
 // What the fields before the items say: the service, when the time span begins and how many minutes it has, how many items.
-#[derive(Clone, Copy)]
+#[derive(Clone, Copy, Debug, PartialEq, Eq)]
 pub struct Programme {
     pub service: u16,
     pub start: u32,
@@ -39,21 +31,8 @@ pub struct Programme {
     pub items: u8,
 }
 
-#[derive(Drop)]
-pub enum Reading {
-    Programme(Programme),
-    Refused(u8),
-}
-
-// How many items a section has.
-#[derive(Drop)]
-pub enum Count {
-    Items(u8),
-    Refused(u8),
-}
-
 // A loop of so many descriptors, by place and length.
-#[derive(Clone, Copy)]
+#[derive(Clone, Copy, Debug, PartialEq, Eq)]
 pub struct Loop {
     pub count: u8,
     pub place: usize,
@@ -61,7 +40,7 @@ pub struct Loop {
 }
 
 // A content item. The flags are ten bits, the first highest; a field that its flag does not include is 0.
-#[derive(Clone, Copy)]
+#[derive(Clone, Copy, Debug, PartialEq, Eq)]
 pub struct Item {
     pub linkage: u32,
     pub flags: u16,
@@ -73,27 +52,6 @@ pub struct Item {
     pub named: usize,
     pub descriptors: Loop,
     pub next: usize,
-}
-
-#[derive(Drop)]
-pub enum Step {
-    Item(Item),
-    // The section has no item of that number.
-    Over,
-    Refused(u8),
-}
-
-#[derive(Drop)]
-pub enum Own {
-    Loop(Loop),
-    Refused(u8),
-}
-
-// Where counted descriptors end, or that one of them passes the end.
-#[derive(Drop)]
-pub enum Run {
-    Ends(usize),
-    Past,
 }
 
 // The numbers in a field's first two, three, four and five bytes, high byte first; 0 where it has fewer.
@@ -137,103 +95,81 @@ pub fn five(field: &[u8]) -> u64
 }
 
 // How many items a section has, or its first refusal. A step needs no more of the fields before the items.
-pub fn count_items(payload: &[u8]) -> Count
+pub fn count_items(payload: &[u8]) -> Result<u8, Refusal>
     ensures { result ≡ count_of (read_of payload.now) }
 {
-    let section = section::read(payload);
-    match section {
-        Section::Refused(n) => Count::Refused(n),
-        Section::Sound(header) => {
-            if header.key.table != key::NRT_IT {
-                return Count::Refused(OTHER_TABLE);
-            }
-            if payload.len() < FIRST_ITEM {
-                return Count::Refused(PASSES_END);
-            }
-            Count::Items(payload[ITEMS])
-        }
+    let header = section::read(payload)?;
+    if header.key.table != key::NRT_IT {
+        return Err(Refusal::ProgrammeOtherTable);
     }
+    if payload.len() < FIRST_ITEM {
+        return Err(Refusal::ProgrammePassesEnd);
+    }
+    Ok(payload[ITEMS])
 }
 
 // The fields before the items of a payload, or its first refusal.
-pub fn read(payload: &[u8]) -> Reading
+pub fn read(payload: &[u8]) -> Result<Programme, Refusal>
     ensures { result ≡ read_of payload.now }
 {
-    let count = count_items(payload);
-    match count {
-        Count::Refused(n) => Reading::Refused(n),
-        Count::Items(items) => {
-            let service = two(&payload[SERVICE..START]);
-            let start = four(&payload[START..MINUTES]);
-            let minutes = two(&payload[MINUTES..ITEMS]) % 2048;
-            Reading::Programme(Programme {
-                service,
-                start,
-                minutes,
-                items,
-            })
-        }
-    }
+    let items = count_items(payload)?;
+    let service = two(&payload[SERVICE..START]);
+    let start = four(&payload[START..MINUTES]);
+    let minutes = two(&payload[MINUTES..ITEMS]) % 2048;
+    Ok(Programme {
+        service,
+        start,
+        minutes,
+        items,
+    })
 }
 
-// Where so many descriptors from a place end, by the step of every descriptor loop.
-pub fn run_from(bytes: &[u8], from: usize, count: u8) -> Run
+// Where so many descriptors from a place end, by the step of every descriptor loop; none where one of them passes the end.
+pub fn run_from(bytes: &[u8], from: usize, count: u8) -> Option<usize>
     ensures { result ≡ run_of count bytes.now from }
 {
     let mut at = from;
-    let mut left = count;
-    while left > 0 {
-        let step = descriptors::step_at(bytes, at);
-        match step {
-            Descriptors::Descriptor(d) => {
-                at = d.next;
-                left -= 1;
-            }
-            Descriptors::Over => return Run::Past,
-            Descriptors::Refused(_) => return Run::Past,
-        }
+    for i in 0..count {
+        let Ok(Some(descriptor)) = descriptors::step_at(bytes, at) else {
+            return None;
+        };
+        at = descriptor.next;
     }
-    Run::Ends(at)
+    Some(at)
 }
 
 // The table's own loop from a place, where it is the payload's last part.
-fn own_in(bytes: &[u8], at: usize) -> Own
+fn own_in(bytes: &[u8], at: usize) -> Result<Loop, Refusal>
     requires { length bytes.now ≤ 65535 }
     ensures { result ≡ own_at bytes.now at }
 {
     let size = bytes.len();
     if at < FIRST_ITEM {
-        return Own::Refused(PASSES_END);
+        return Err(Refusal::ProgrammePassesEnd);
     }
     if size <= at {
-        return Own::Refused(PASSES_END);
+        return Err(Refusal::ProgrammePassesEnd);
     }
     let count = bytes[at];
     let place = at + 1;
-    let run = run_from(bytes, place, count);
-    match run {
-        Run::Past => Own::Refused(PASSES_END),
-        Run::Ends(end) => {
-            if end < size {
-                return Own::Refused(BYTES_LEFT);
-            }
-            let length = end - place;
-            Own::Loop(Loop {
-                count,
-                place,
-                length,
-            })
-        }
+    let Some(end) = run_from(bytes, place, count) else {
+        return Err(Refusal::ProgrammePassesEnd);
+    };
+    if end < size {
+        return Err(Refusal::ProgrammeBytesLeft);
     }
+    let length = end - place;
+    Ok(Loop {
+        count,
+        place,
+        length,
+    })
 }
 
 // The table's own loop, from the place behind the last item, or the refusal. Any place may be asked.
-pub fn own_loop(payload: &[u8], at: usize) -> Own
+pub fn own_loop(payload: &[u8], at: usize) -> Result<Loop, Refusal>
     ensures { result ≡ own_of payload.now at }
 {
-    let count = count_items(payload);
-    match count {
-        Count::Refused(n) => Own::Refused(n),
-        Count::Items(_) => own_in(payload, at),
-    }
+    let _items = count_items(payload)?;
+    own_in(payload, at)
 }

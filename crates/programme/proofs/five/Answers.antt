@@ -1,5 +1,4 @@
 -- `programme::five` meets its contract.
-use mathlib.Core.Path.{◌∙◌}
 use Rattle.programme.proofs.Numbers.{in-short, five-made}
 use Rattle.programme.proofs.five.Goals as goal
 
@@ -7,4 +6,4 @@ pub returns-then-field-lt5 : goal.returns-then-field-lt5
 returns-then-field-lt5 c = in-short _ _ c.if-field-lt5.true
 
 pub returns : goal.returns
-returns c = five-made _ c.if-field-lt5.false c.four.ensures (c.full.ensures.0 ∙ c.half.ensures.0)
+returns c = five-made _ c.if-field-lt5.false c.four.ensures c.from.ensures

@@ -7,4 +7,4 @@ pub returns-then-field-lt4 : goal.returns-then-field-lt4
 returns-then-field-lt4 c = in-short _ _ c.if-field-lt4.true
 
 pub returns : goal.returns
-returns c = four-made _ c.if-field-lt4.false (c.full-high.ensures.0 ∙ c.two.ensures) (c.full-third.ensures.0 ∙ c.half.ensures.0) (c.full.ensures.0 ∙ c.half-2.ensures.0)
+returns c = four-made _ c.if-field-lt4.false (c.from-high.ensures ∙ c.two.ensures) c.from-third.ensures c.from.ensures

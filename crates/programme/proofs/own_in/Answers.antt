@@ -10,11 +10,11 @@ returns-then-at-lt-FIRST_ITEM c = own-early _ _ c.if-at-lt-FIRST_ITEM.true
 pub returns-then-size-at : goal.returns-then-size-at
 returns-then-size-at c = own-cut _ _ c.if-at-lt-FIRST_ITEM.false (omega arith)
 
+pub returns-in_default : goal.returns-in_default
+returns-in_default c = own-past _ _ c.if-at-lt-FIRST_ITEM.false (omega arith) (sym c.in_default.ensures)
+
 pub returns-then-end-size : goal.returns-then-end-size
-returns-then-end-size c = own-left _ _ c.if-at-lt-FIRST_ITEM.false (omega arith) _ (sym c.in-Ends.ensures) c.if-end-size.true
+returns-then-end-size c = own-left _ _ c.if-at-lt-FIRST_ITEM.false (omega arith) _ (sym c.in-Some.ensures) c.if-end-size.true
 
-pub returns-in-Past : goal.returns-in-Past
-returns-in-Past c = own-past _ _ c.if-at-lt-FIRST_ITEM.false (omega arith) (sym c.in-Past.ensures)
-
-pub returns-else-end-size : goal.returns-else-end-size
-returns-else-end-size c = own-reads _ _ c.if-at-lt-FIRST_ITEM.false (omega arith) _ (sym c.in-Ends.ensures) c.if-end-size.false
+pub returns : goal.returns
+returns c = own-reads _ _ c.if-at-lt-FIRST_ITEM.false (omega arith) _ (sym c.in-Some.ensures) c.if-end-size.false

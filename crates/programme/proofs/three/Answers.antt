@@ -7,4 +7,4 @@ pub returns-then-field-lt3 : goal.returns-then-field-lt3
 returns-then-field-lt3 c = in-short _ _ c.if-field-lt3.true
 
 pub returns : goal.returns
-returns c = three_made _ c.if-field-lt3.false (c.full.ensures.0 ∙ c.two.ensures) (c.full-2.ensures.0 ∙ c.half.ensures.0)
+returns c = three_made _ c.if-field-lt3.false (c.from.ensures ∙ c.two.ensures) c.from-2.ensures

@@ -6,4 +6,4 @@ pub returns-then-field-lt2 : goal.returns-then-field-lt2
 returns-then-field-lt2 c = in-short _ _ c.if-field-lt2.true
 
 pub returns : goal.returns
-returns c = two_made _ c.if-field-lt2.false c.half.ensures.0 c.half-2.ensures.0
+returns c = two_made _ c.if-field-lt2.false c.from.ensures c.from-2.ensures
