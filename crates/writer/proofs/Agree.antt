@@ -11,7 +11,7 @@ use lib.Seq.{drop-cons}
 use Rattle.base.specs.Bytes.{byte}
 use Rattle.key.specs.Key.{nrt_it}
 use Rattle.section.specs.Section.{key_in, read_of}
-use Rattle.section.specs.declared.Reading.TheVariants.{Sound}
+use Rattle.std.specs.Prelude.{Ok}
 use Rattle.section.proofs.Laws.{sound-facts}
 use Rattle.section.proofs.ExactlyWhen.{sound}
 use Rattle.key.proofs.Keys.{key-other}
@@ -23,7 +23,7 @@ use Rattle.writer.specs.declared.Label.{Label}
 use Rattle.writer.proofs.Laws.{last-le, length-body, ends-within, starts-within, length-section}
 
 pub section-reads : (label : Label) (k last : ℕ) (bytes : List ℕ) → ¬ (label.table ≡ nrt_it) → label.version ≤ 31 → k ≤ last → last ≤ 15 → length bytes ≤ full →
-    read_of (section_of label k last bytes) ≡ Sound (found label k last bytes)
+    read_of (section_of label k last bytes) ≡ Ok (found label k last bytes)
 unfolding section_of
 section-reads label k last bytes other v h l b =
     let s = section_of label k last bytes in
@@ -56,7 +56,7 @@ module _ (label : Label) (body : List ℕ) (k : ℕ) (fits : length body ≤ lon
       let e = length-body body k known in
       omega arith
 
-  read_back : ¬ (label.table ≡ nrt_it) → read_of (written label body k) ≡ Sound (found label k (last_of (length body)) (body_at body k))
+  read_back : ¬ (label.table ≡ nrt_it) → read_of (written label body k) ≡ Ok (found label k (last_of (length body)) (body_at body k))
   unfolding written
   read_back other = section-reads label k (last_of (length body)) (body_at body k) other five known (last-le (length body) fits) length-carried
 

@@ -9,25 +9,26 @@ use native.Mathlib.Omega.{arith}
 use lib.ListN.{length, take, drop, length-append, length-take}
 use borrow.Author.Tests.{eq-eqb}
 use Rattle.base.proofs.Tables.{among}
-use Rattle.answers.specs.Answers.{out, refusal_in}
+use Rattle.answers.specs.Answers.{out, refusal_in, sized}
 use Rattle.answers.proofs.Fills.{size_back, through, fills}
 use Rattle.writer.specs.Writer.{full, last_of, body_at, section_of, written, uncounted, count_of, Write, write, unwritten, refuse, placed, write_of}
-use Rattle.writer.specs.Answer.{counted_code, counted_in, count_lent, written_code, written_in, write_out, section_lent, CountComesBack, CountAccepted, SectionComesBack, SectionFills}
-use Rattle.writer.specs.declared.Counted.{Counted}
+use Rattle.writer.specs.Answer.{counted_code, counted_in, count_lent, written_in, write_out, section_lent, CountComesBack, CountAccepted, SectionComesBack, SectionFills}
+use Rattle.std.specs.Prelude.{Result, Ok, Err}
+use Rattle.refusal.specs.declared.Refusal.{Refusal}
+use Rattle.refusal.specs.Refusal.{refusal_of}
 use Rattle.writer.specs.declared.Label.{Label}
-use Rattle.writer.specs.declared.Written.{Written}
 
 module _ (table n : ℕ) where
   pub count_comes_back : CountComesBack table n
   unfolding count_lent count_of
   count_comes_back =
-      among Counted.Refused (λ c. counted_in (counted_code c) ≡ c) (uncounted table n) (Counted.Sections (last_of n + 1)) (refl, (refl, tt))
-      (rw (eq-eqb ((last_of n + 1) * 2 ^ 8 % 2 ^ 8) 0 (omega arith)) (ap Counted.Sections (omega arith)))
+      among Err (λ c. counted_in (counted_code c) ≡ c) (uncounted table n) (Ok (last_of n + 1)) (refl, (refl, tt))
+      (rw (eq-eqb ((last_of n + 1) * 2 ^ 8 % 2 ^ 8) 0 (omega arith)) (ap Ok (omega arith)))
 
   pub count_accepted : CountAccepted table n
   unfolding count_lent count_of
   count_accepted = (
-    among Counted.Refused (λ c. refusal_in (counted_code c) ≡ 0 → c ≡ Counted.Sections (last_of n + 1)) (uncounted table n) (Counted.Sections (last_of n + 1))
+    among Err (λ c. refusal_in (counted_code c) ≡ 0 → c ≡ Ok (last_of n + 1)) (uncounted table n) (Ok (last_of n + 1))
         (λ z. absurd (omega arith), (λ z. absurd (omega arith), tt))
         (λ _. refl),
     λ e. rw e (omega arith),
@@ -45,23 +46,23 @@ module _ (label : Label) (body : List ℕ) (k : ℕ) (old : List ℕ) where
   unfolding section_lent write_of
   section_comes_back =
       let short = written-short in
-      among (refuse old) (λ (w : Write). written_in (written_code w.said) ≡ w.said) (unwritten label body k old)
+      among (refuse old) (λ (w : Write). written_in (sized w.said) ≡ w.said) (unwritten label body k old)
       (placed (written label body k) old)
       (refl, (refl, (refl, (refl, (refl, tt)))))
-      (size_back Written.Bytes Written.Refused (length (written label body k)) (omega arith))
+      (size_back Ok (λ n. Err (refusal_of n)) (length (written label body k)) (omega arith))
 
   pub section_fills : SectionFills label body k old
   unfolding section_lent write_of
   section_fills =
       let short = written-short in
       rw (through write_out (refuse old) (unwritten label body k old) (placed (written label body k) old))
-      (fills (written label body k) old (unwritten label body k old) (search arith) (omega arith))
+      (fills (written label body k) old (unwritten label body k old) (omega arith))
 
-pub count-told : (table n : ℕ) (r : Counted) (code : ℕ) → r ≡ count_of table n → code ≡ counted_code r → code ≡ count_lent table n
+pub count-told : (table n : ℕ) (r : Result ℕ Refusal) (code : ℕ) → r ≡ count_of table n → code ≡ counted_code r → code ≡ count_lent table n
 unfolding count_lent
 count-told table n r code e q = q ∙ ap counted_code e
 
-pub write-told : (label : Label) (body : List ℕ) (k : ℕ) (o o' : List ℕ) (r : Written) (code : ℕ)
-    → write r o' ≡ write_of label body k o → code ≡ written_code r → out code o' ≡ section_lent label body k o
+pub write-told : (label : Label) (body : List ℕ) (k : ℕ) (o o' : List ℕ) (r : Result ℕ Refusal) (code : ℕ)
+    → write r o' ≡ write_of label body k o → code ≡ sized r → out code o' ≡ section_lent label body k o
 unfolding section_lent
 write-told label body k o o' r code e q = ap (λ n. out n o') q ∙ ap write_out e

@@ -10,9 +10,10 @@ use Rattle.base.specs.Tables.{Agree}
 use Rattle.base.proofs.Tables.{words, given, number-first, silent}
 use Rattle.answers.proofs.Fills.{zero-exactly}
 use Rattle.writer.specs.Writer.{last_of, written, uncounted, count_of, Write, unwritten, refuse, placed, write_of}
-use Rattle.writer.specs.Answer.{counted_code, written_code}
+use Rattle.writer.specs.Answer.{counted_code}
 use Rattle.writer.specs.Theorems.{count_table, CountExactly, CountAnswered, write_table, WriteExactly, WriteNone, WriteAnswered}
-use Rattle.writer.specs.declared.Counted.{Counted}
+use Rattle.std.specs.Prelude.{Ok, Err}
+use Rattle.answers.specs.Answers.{sized}
 use Rattle.writer.specs.declared.Label.{Label}
 
 module _ (table size : ℕ) where
@@ -22,15 +23,15 @@ module _ (table size : ℕ) where
   pub count_exactly : CountExactly table size
   unfolding count_of
   count_exactly n p q =
-      given Counted.Refused counted_code (λ n. refl) (uncounted table size) (Counted.Sections (last_of size + 1)) (count_table table size) counted refl n (λ e. omega arith)
+      given Err counted_code (λ r. refl) (uncounted table size) (Ok (last_of size + 1)) (count_table table size) counted refl n (λ e. omega arith)
 
   pub count_answered : CountAnswered table size
   unfolding count_of
-  count_answered w = silent Counted.Refused (uncounted table size) (Counted.Sections (last_of size + 1)) (count_table table size) counted w
+  count_answered w = silent Err (uncounted table size) (Ok (last_of size + 1)) (count_table table size) counted w
 
 -- the number of what a call leaves
 abbrev code : Write → ℕ
-code w = written_code w.said
+code w = sized w.said
 
 module _ (label : Label) (body : List ℕ) (k : ℕ) (out : List ℕ) where
   decided : Agree (unwritten label body k out) (write_table label body k out)
@@ -39,13 +40,13 @@ module _ (label : Label) (body : List ℕ) (k : ℕ) (out : List ℕ) where
   pub write_exactly : WriteExactly label body k out
   unfolding write_of
   write_exactly n p q =
-      given (refuse out) code (λ n. refl) (unwritten label body k out) (placed (written label body k) out) (write_table label body k out) decided refl n (λ e. omega arith)
+      given (refuse out) code (λ r. refl) (unwritten label body k out) (placed (written label body k) out) (write_table label body k out) decided refl n (λ e. omega arith)
 
   pub write_none : WriteNone label body k out
   unfolding write_of
   write_none =
-      rw (number-first (refuse out) code (λ n. refl) (unwritten label body k out) (placed (written label body k) out))
-      (zero-exactly (unwritten label body k out) (write_table label body k out) decided (search arith) (code (placed (written label body k) out)) (omega arith))
+      rw (number-first (refuse out) code (λ r. refl) (unwritten label body k out) (placed (written label body k) out))
+      (zero-exactly (unwritten label body k out) (write_table label body k out) decided (code (placed (written label body k) out)) (omega arith))
 
   pub write_answered : WriteAnswered label body k out
   unfolding write_of

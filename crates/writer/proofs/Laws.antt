@@ -11,15 +11,17 @@ use mathlib.Core.Path.{◌≡◌, sym, ap, ◌∙◌}
 use mathlib.Core.List.{List, ◌++◌, append-nil}
 use Prim.Native.Nat.{ℕ, ◌+◌, ◌-◌, ◌*◌, ◌<◌, ◌≤◌}
 use native.Mathlib.Omega.{arith}
-use lib.Dec.{ltb}
+use lib.Dec.{ltb, eqb}
 use lib.ListN.{length, take, drop, length-append, length-drop, drop_of_length-le, take-append-drop}
 use lib.Seq.{take-length, drop-length, take_at, drop_at, length-take-le}
 use borrow.Rule.Slice.PartMut.{mid_of, put_mid}
-use borrow.Author.Tests.{ltb-true, ltb-false, le-ltb, lt-ltb, ne_eqb}
+use borrow.Author.Tests.{ltb-true, ltb-false, le-ltb, lt-ltb, ne_eqb, eqb-false}
 use Rattle.base.proofs.Cases.{by}
 use Rattle.key.specs.Key.{nrt_it}
-use Rattle.writer.specs.Writer.{full, longest_body, last_of, end_of, body_at, section_of, header_of, written, write, write_of}
-use Rattle.writer.specs.declared.Written.{Written}
+use Rattle.writer.specs.Writer.{full, longest_body, last_of, end_of, body_at, section_of, header_of, written, count_of, write, write_of}
+use Rattle.std.specs.Prelude.{Ok, Err}
+use Rattle.refusal.specs.declared.Refusal.{Refusal}
+use Rattle.refusal.specs.declared.Refusal.TheVariants.{AskedForNrtIt, WriterBodyTooLong, WriterVersionAbove31, WriterKAboveLast, OutputTooSmall}
 use Rattle.writer.specs.declared.Label.{Label}
 
 pub last-le : (n : ℕ) → n ≤ longest_body → last_of n ≤ 15
@@ -81,12 +83,52 @@ pub length-section : (label : Label) (k last : ℕ) (body : List ℕ) → length
 unfolding section_of
 length-section label k last body = length-append (header_of label k last (length body)) body
 
+module _ (table n : ℕ) where
+  -- a count is given where neither refusal is
+  pub counted-known : (count : ℕ) → Ok count ≡ count_of table n → (¬ (table ≡ nrt_it)) × (n ≤ longest_body) × (count ≡ last_of n + 1)
+  unfolding count_of
+  counted-known count e =
+      by (eqb table nrt_it)
+      (λ t. let q : Ok count ≡ Err AskedForNrtIt = rw t at e in cc)
+      (λ f.
+      by (ltb longest_body n)
+      (λ t. let q : Ok count ≡ Err WriterBodyTooLong = rw (f, t) at e in cc)
+      (λ g. let q : Ok count ≡ Ok (last_of n + 1) = rw (f, g) at e in (eqb-false _ _ f, ltb-false _ _ g, cc)))
+
+module _ (label : Label) (body out : List ℕ) (k : ℕ) where
+  -- what is not counted is not written, by the same refusal
+  pub uncounted-write : (r : Refusal) → Err r ≡ count_of label.table (length body) → write (Err r) out ≡ write_of label body k out
+  unfolding count_of write_of
+  uncounted-write r e =
+      by (eqb label.table nrt_it)
+      (λ t. let q : Err r ≡ Err AskedForNrtIt = rw t at e in rw (q, t))
+      (λ f.
+      by (ltb longest_body (length body))
+      (λ t. let q : Err r ≡ Err WriterBodyTooLong = rw (f, t) at e in rw (q, f, t))
+      (λ g. let q : Err r ≡ Ok (last_of (length body) + 1) = rw (f, g) at e in cc))
+
+  module _ (other : ¬ (label.table ≡ nrt_it)) (fits : length body ≤ longest_body) where
+    pub write-41 : 31 < label.version → write (Err WriterVersionAbove31) out ≡ write_of label body k out
+    unfolding write_of
+    write-41 h = rw (ne_eqb label.table nrt_it other, le-ltb longest_body (length body) fits, lt-ltb 31 label.version h)
+
+    module _ (five : label.version ≤ 31) where
+      pub write-42 : last_of (length body) < k → write (Err WriterKAboveLast) out ≡ write_of label body k out
+      unfolding write_of
+      write-42 h =
+          rw (
+            ne_eqb label.table nrt_it other,
+            le-ltb longest_body (length body) fits,
+            le-ltb 31 label.version five,
+            lt-ltb (last_of (length body)) k h,
+          )
+
 module _ (label : Label) (body out : List ℕ) (k n : ℕ) (other : ¬ (label.table ≡ nrt_it)) (fits : length body ≤ longest_body) (five : label.version ≤ 31) (known : k ≤ last_of (length body)) (size : length (written label body k) ≡ n) where
-  pub write-15 : length out < n → write (Written.Refused 15) out ≡ write_of label body k out
+  pub write-15 : length out < n → write (Err OutputTooSmall) out ≡ write_of label body k out
   unfolding write_of
   write-15 h = rw (ne_eqb label.table nrt_it other, le-ltb longest_body (length body) fits, le-ltb 31 label.version five, le-ltb (last_of (length body)) k known, size, lt-ltb (length out) n h)
 
   pub write_done : n ≤ length out → (y : List ℕ) → y ≡ written label body k →
-      write (Written.Bytes n) (y ++ drop n out) ≡ write_of label body k out
+      write (Ok n) (y ++ drop n out) ≡ write_of label body k out
   unfolding write_of
   write_done h y e = rw (ne_eqb label.table nrt_it other, le-ltb longest_body (length body) fits, le-ltb 31 label.version five, le-ltb (last_of (length body)) k known, size, le-ltb (length out) n h, e)

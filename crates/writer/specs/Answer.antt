@@ -1,27 +1,23 @@
 -- The number and the values of the writer's answers, in the numbers that cross the boundary, and what is so of them.
-use Rattle.std.specs.Prelude.{ℕ, ◌+◌, ◌*◌, ◌/◌, ◌^◌, ◌≡◌, List, ◌↔◌, eqb, if◌then◌else◌}
-use Rattle.answers.specs.Answers.{Out, out, refusal_in, size_code, size_or, Fills}
+use Rattle.std.specs.Prelude.{ℕ, ◌+◌, ◌*◌, ◌/◌, ◌^◌, ◌≡◌, List, ◌↔◌, eqb, if◌then◌else◌, Result, Ok, Err}
+use Rattle.refusal.specs.Refusal.{number, refusal_of}
+use Rattle.refusal.specs.declared.Refusal.{Refusal}
+use Rattle.answers.specs.Answers.{Out, out, refusal_in, sized, size_or, Fills}
 use Rattle.writer.specs.Writer.{last_of, written, count_of, Write, write_of}
-use Rattle.writer.specs.declared.Counted.{Counted}
 use Rattle.writer.specs.declared.Label.{Label}
-use Rattle.writer.specs.declared.Written.{Written}
 
 -- how many sections: from bit 8 of the answer, or the refusal alone
-abbrev pub counted_code : Counted → ℕ
-counted_code (Counted.Sections n) = n * 2 ^ 8
-counted_code (Counted.Refused n) = n
+abbrev pub counted_code : Result ℕ Refusal → ℕ
+counted_code (Ok n) = n * 2 ^ 8
+counted_code (Err r) = number r
 
 -- what a host takes out of it
-abbrev pub counted_in : ℕ → Counted
-counted_in code = if eqb (refusal_in code) 0 then Counted.Sections (code / 2 ^ 8) else Counted.Refused code
+abbrev pub counted_in : ℕ → Result ℕ Refusal
+counted_in code = if eqb (refusal_in code) 0 then Ok (code / 2 ^ 8) else Err (refusal_of code)
 
--- how many bytes now stand at the front of the output: likewise
-abbrev pub written_code : Written → ℕ
-written_code (Written.Bytes n) = size_code n
-written_code (Written.Refused n) = n
-
-abbrev pub written_in : ℕ → Written
-written_in = size_or Written.Bytes Written.Refused
+-- of how many bytes now stand at the front of the output: likewise
+abbrev pub written_in : ℕ → Result ℕ Refusal
+written_in = size_or Ok (λ n. Err (refusal_of n))
 
 -- what all sections of a table share
 abbrev pub label : ℕ → ℕ → ℕ → Label
@@ -33,7 +29,7 @@ count_lent table length = counted_code (count_of table length)
 
 -- what asking for section k of the table that carries a body leaves
 abbrev pub write_out : Write → Out
-write_out w = out (written_code w.said) w.out
+write_out w = out (sized w.said) w.out
 
 unfoldable pub section_lent : Label → List ℕ → ℕ → List ℕ → Out
 section_lent label body k old = write_out (write_of label body k old)
@@ -44,7 +40,7 @@ abbrev pub CountComesBack : ℕ → ℕ → Type 0
 CountComesBack table n = counted_in (count_lent table n) ≡ count_of table n
 
 abbrev pub CountAccepted : ℕ → ℕ → Type 0
-CountAccepted table n = (refusal_in (count_lent table n) ≡ 0) ↔ (count_of table n ≡ Counted.Sections (last_of n + 1))
+CountAccepted table n = (refusal_in (count_lent table n) ≡ 0) ↔ (count_of table n ≡ Ok (last_of n + 1))
 
 -- a section's size, or its refusal, comes back
 abbrev pub SectionComesBack : Label → List ℕ → ℕ → List ℕ → Type 0

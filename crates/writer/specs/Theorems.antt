@@ -1,19 +1,17 @@
 -- What is proved of the writer, in words: each is a theorem of `proofs/` by the same name in small letters.
-use Rattle.std.specs.Prelude.{ℕ, zero, suc, ◌+◌, ◌/◌, ◌%◌, ◌^◌, ◌<◌, ◌≤◌, ◌≡◌, List, [], ◌∷◌, ◌++◌, ◌↔◌, length, drop}
+use Rattle.std.specs.Prelude.{ℕ, zero, suc, ◌+◌, ◌/◌, ◌%◌, ◌^◌, ◌<◌, ◌≤◌, ◌≡◌, List, [], ◌∷◌, ◌++◌, ◌↔◌, length, drop, Result, Ok}
 use Rattle.base.specs.Bytes.{byte}
 use Rattle.base.specs.Octets.{Octets}
 use Rattle.base.specs.Tables.{Rule, ◌says◌, None, above, said}
-use Rattle.answers.specs.Answers.{refusal_in}
+use Rattle.answers.specs.Answers.{refusal_in, sized}
 use Rattle.key.specs.Key.{nrt_it}
 use Rattle.key.specs.declared.Key.{Key}
 use Rattle.section.specs.Section.{read_of}
 use Rattle.section.specs.declared.Header.{Header}
-use Rattle.section.specs.declared.Reading.TheVariants.{Sound}
+use Rattle.refusal.specs.declared.Refusal.{Refusal}
 use Rattle.writer.specs.Writer.{full, longest_body, last_of, body_at, section_of, written, count_of, write, placed, write_of}
-use Rattle.writer.specs.Answer.{counted_code, written_code}
-use Rattle.writer.specs.declared.Counted.{Counted}
+use Rattle.writer.specs.Answer.{counted_code}
 use Rattle.writer.specs.declared.Label.{Label}
-use Rattle.writer.specs.declared.Written.{Written}
 
 -- asked for the NRT-IT's table id
 abbrev pub AskedForNrtIt : ℕ → Type 0
@@ -36,10 +34,10 @@ module _ (table size : ℕ) where
 
   -- and where none is so the sections are counted
   abbrev pub CountAnswered : Type 0
-  CountAnswered = None count_table → count_of table size ≡ Counted.Sections (last_of size + 1)
+  CountAnswered = None count_table → count_of table size ≡ Ok (last_of size + 1)
 
   abbrev pub CountUnique : Type 0
-  CountUnique = (x y : Counted) → x ≡ count_of table size → y ≡ count_of table size → x ≡ y
+  CountUnique = (x y : Result ℕ Refusal) → x ≡ count_of table size → y ≡ count_of table size → x ≡ y
 
 module _ (label : Label) (body : List ℕ) (k : ℕ) (out : List ℕ) where
   -- version above 31
@@ -67,11 +65,11 @@ module _ (label : Label) (body : List ℕ) (k : ℕ) (out : List ℕ) where
   abbrev pub WriteExactly : Type 0
   WriteExactly =
       (n : ℕ) → 0 < n → n < 2 ^ 8
-      → (written_code (write_of label body k out).said ≡ n) ↔ (None (above n write_table) × Rattle.base.specs.Tables.said n write_table)
+      → (sized (write_of label body k out).said ≡ n) ↔ (None (above n write_table) × Rattle.base.specs.Tables.said n write_table)
 
   -- none is given exactly when none is so
   abbrev pub WriteNone : Type 0
-  WriteNone = (refusal_in (written_code (write_of label body k out).said) ≡ 0) ↔ None write_table
+  WriteNone = (refusal_in (sized (write_of label body k out).said) ≡ 0) ↔ None write_table
 
   -- and then the section stands at the front of the output, and what lies past it is as it was
   abbrev pub WriteAnswered : Type 0
@@ -80,7 +78,7 @@ module _ (label : Label) (body : List ℕ) (k : ℕ) (out : List ℕ) where
   -- two answers, with the outputs that they leave, are equal
   abbrev pub WriteUnique : Type 0
   WriteUnique =
-      (x y : Written) (out' out'' : List ℕ)
+      (x y : Result ℕ Refusal) (out' out'' : List ℕ)
       → write x out' ≡ write_of label body k out → write y out'' ≡ write_of label body k out → write x out' ≡ write y out''
 
 -- the key of a table with that label, of an id other than the NRT-IT's
@@ -103,7 +101,7 @@ found label k last bytes =
 abbrev pub ReadsBack : Label → List ℕ → ℕ → Type 0
 ReadsBack label body k =
     ¬ AskedForNrtIt label.table → length body ≤ longest_body → label.version ≤ 31 → k ≤ last_of (length body)
-    → read_of (written label body k) ≡ Sound (found label k (last_of (length body)) (body_at body k))
+    → read_of (written label body k) ≡ Ok (found label k (last_of (length body)) (body_at body k))
 
 -- the reserved bits of a section are 1
 abbrev pub ReservedOnes : List ℕ → Type 0
@@ -116,7 +114,7 @@ label_in h = record { table = h.key.table; extension = h.key.extension; version 
 -- a sound section whose reserved bits are 1 is laid out as its own fields are, also that of an NRT-IT
 abbrev pub WritesBack : List ℕ → Type 0
 WritesBack s =
-    (h : Header) → Octets s → read_of s ≡ Sound h → ReservedOnes s → s ≡ section_of (label_in h) h.number h.last (drop 8 s)
+    (h : Header) → Octets s → read_of s ≡ Ok h → ReservedOnes s → s ≡ section_of (label_in h) h.number h.last (drop 8 s)
 
 -- lists one after the other
 abbrev pub joined : List (List ℕ) → List ℕ

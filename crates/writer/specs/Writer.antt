@@ -1,13 +1,13 @@
 -- Document 02, request 1: the sections of a body, and the refusals 59, 40, 41, 42 and 15. 59 is request 4's: an NRT-IT is
 -- not written, since a label does not say all of its key.
-use Rattle.std.specs.Prelude.{ℕ, ◌+◌, ◌-◌, ◌*◌, ◌/◌, ◌%◌, List, [], ◌∷◌, ◌++◌, ltb, eqb, length, drop, if◌then◌else◌}
+use Rattle.std.specs.Prelude.{ℕ, ◌+◌, ◌-◌, ◌*◌, ◌/◌, ◌%◌, List, [], ◌∷◌, ◌++◌, ltb, eqb, length, drop, if◌then◌else◌, Result, Ok, Err}
 use Rattle.base.specs.Choice.{Row, ◌if◌, first}
 use Rattle.base.specs.Bytes.{part}
 use Rattle.key.specs.Key.{nrt_it}
 use Rattle.section.specs.Section.{header_size, largest_section, most_sections}
-use Rattle.writer.specs.declared.Counted.{Counted}
+use Rattle.refusal.specs.declared.Refusal.{Refusal}
+use Rattle.refusal.specs.declared.Refusal.TheVariants.{AskedForNrtIt, WriterBodyTooLong, WriterVersionAbove31, WriterKAboveLast, OutputTooSmall}
 use Rattle.writer.specs.declared.Label.{Label}
-use Rattle.writer.specs.declared.Written.{Written}
 
 -- the bytes of a full body, 1,016
 abbrev pub full : ℕ
@@ -53,37 +53,37 @@ written label body k = section_of label k (last_of (length body)) (body_at body 
 
 -- order: 59 asked for the NRT-IT's table id, then 40 body too long
 abbrev pub uncounted : ℕ → ℕ → List Row
-uncounted table n = 59 if eqb table nrt_it ∷ 40 if ltb longest_body n ∷ []
+uncounted table n = AskedForNrtIt if eqb table nrt_it ∷ WriterBodyTooLong if ltb longest_body n ∷ []
 
 -- how many sections a body of n bytes makes in a table of that id: an answer of its own, so that a bench can loop
-unfoldable pub count_of : ℕ → ℕ → Counted
-count_of table n = first Counted.Refused (uncounted table n) (Counted.Sections (last_of n + 1))
+unfoldable pub count_of : ℕ → ℕ → Result ℕ Refusal
+count_of table n = first Err (uncounted table n) (Ok (last_of n + 1))
 
 -- what a call leaves: the answer and the output
 pub record Write : Type 0 where
-  pub said : Written
+  pub said : Result ℕ Refusal
   pub out : List ℕ
 
-abbrev pub write : Written → List ℕ → Write
+abbrev pub write : Result ℕ Refusal → List ℕ → Write
 write said out = record { said = said; out = out }
 
 -- order: 59, 40, 41 version above 31, 42 k above the last, then 15
 abbrev pub unwritten : Label → List ℕ → ℕ → List ℕ → List Row
 unwritten label body k out =
-    59 if eqb label.table nrt_it
-    ∷ 40 if ltb longest_body (length body)
-    ∷ 41 if ltb 31 label.version
-    ∷ 42 if ltb (last_of (length body)) k
-    ∷ 15 if ltb (length out) (length (written label body k))
+    AskedForNrtIt if eqb label.table nrt_it
+    ∷ WriterBodyTooLong if ltb longest_body (length body)
+    ∷ WriterVersionAbove31 if ltb 31 label.version
+    ∷ WriterKAboveLast if ltb (last_of (length body)) k
+    ∷ OutputTooSmall if ltb (length out) (length (written label body k))
     ∷ []
 
 -- a refused call leaves the output as it was
-abbrev pub refuse : List ℕ → ℕ → Write
-refuse out n = write (Written.Refused n) out
+abbrev pub refuse : List ℕ → Refusal → Write
+refuse out r = write (Err r) out
 
 -- a section at the front of the output; bytes past it stay as they were
 abbrev pub placed : List ℕ → List ℕ → Write
-placed section out = write (Written.Bytes (length section)) (section ++ drop (length section) out)
+placed section out = write (Ok (length section)) (section ++ drop (length section) out)
 
 unfoldable pub write_of : Label → List ℕ → ℕ → List ℕ → Write
 write_of label body k out = first (refuse out) (unwritten label body k out) (placed (written label body k) out)

@@ -7,20 +7,7 @@ ghost use Rattle.answers.specs.Answers.{out as out_of};
 ghost use Rattle.writer.specs.Writer.{last_of, end_of, count_of, header_of, section_of, write_of, write};
 ghost use Rattle.writer.specs.Answer.{count_lent, section_lent};
 
-// How many sections a body makes.
-#[derive(Drop)]
-pub enum Counted {
-    Sections(u8),
-    Refused(u8),
-}
-
-// The answer to asking for one section.
-#[derive(Drop)]
-pub enum Written {
-    // So many bytes now stand at the front of the output.
-    Bytes(usize),
-    Refused(u8),
-}
+use refusal::Refusal;
 
 // What a bench gives to every section of its table.
 #[derive(Clone, Copy)]
@@ -29,14 +16,6 @@ pub struct Label {
     pub extension: u16,
     pub version: u8,
 }
-
-pub const ASKED_FOR_NRT_IT: u8 = 59;
-
-pub const BODY_TOO_LONG: u8 = 40;
-
-pub const VERSION_ABOVE_31: u8 = 41;
-
-pub const K_ABOVE_LAST: u8 = 42;
 
 // The longest body of one section, and of a table.
 pub const FULL: usize = section::LARGEST - section::HEADER;
@@ -71,19 +50,18 @@ fn end_of(length: usize, start: usize) -> usize
 }
 
 // How many sections a body of so many bytes makes in a table of that id, or 59 or 40.
-pub fn count_sections(table: u8, length: usize) -> Counted
+pub fn count_sections(table: u8, length: usize) -> Result<u8, Refusal>
     ensures { result ≡ count_of table length }
 {
     if table == key::NRT_IT {
-        return Counted::Refused(ASKED_FOR_NRT_IT);
+        return Err(Refusal::AskedForNrtIt);
     }
     if MOST < length {
-        return Counted::Refused(BODY_TOO_LONG);
+        return Err(Refusal::WriterBodyTooLong);
     }
     let last = last_of(length);
     let count = last + 1;
-    let sections = count as u8;
-    Counted::Sections(sections)
+    Ok(count as u8)
 }
 
 // The eight header bytes of section `k` with a body of `length` bytes, high bit first.
@@ -119,43 +97,36 @@ fn fill(label: Label, k: u8, last: u8, body: &[u8], out: &mut [u8])
 }
 
 // Section k of the table that carries the body, written at the front of the output; bytes past it stay as they were.
-pub fn write_section(label: Label, body: &[u8], k: u8, out: &mut [u8]) -> Written
+pub fn write_section(label: Label, body: &[u8], k: u8, out: &mut [u8]) -> Result<usize, Refusal>
     ensures { write result out.new ≡ write_of label body.now k out.old }
 {
-    if label.table == key::NRT_IT {
-        return Written::Refused(ASKED_FOR_NRT_IT);
-    }
-    if MOST < body.len() {
-        return Written::Refused(BODY_TOO_LONG);
-    }
+    let count = count_sections(label.table, body.len())?;
     if section::HIGHEST_VERSION < label.version {
-        return Written::Refused(VERSION_ABOVE_31);
+        return Err(Refusal::WriterVersionAbove31);
     }
-    let last = last_of(body.len());
-    let number = k as usize;
-    if last < number {
-        return Written::Refused(K_ABOVE_LAST);
+    let last = count - 1;
+    if last < k {
+        return Err(Refusal::WriterKAboveLast);
     }
-    let start = FULL * number;
+    let start = FULL * usize::from(k);
     let end = end_of(body.len(), start);
     let size = section::HEADER + (end - start);
     if out.len() < size {
-        return Written::Refused(answers::OUTPUT_TOO_SMALL);
+        return Err(Refusal::OutputTooSmall);
     }
-    let last_number = last as u8;
-    fill(label, k, last_number, &body[start..end], &mut out[..size]);
-    Written::Bytes(size)
+    fill(label, k, last, &body[start..end], &mut out[..size]);
+    Ok(size)
 }
 
 // How many sections a body of so many bytes makes in a table of that id, in one number as a host gets it: the refusal alone, or
 // 0 in the low 8 bits and the count above.
+#[tactic(auto, unfolding(crate::specs::Answer::count_lent))]
 pub fn count_code(table: u8, length: usize) -> u16
     ensures { result ≡ count_lent table length }
 {
-    let counted = count_sections(table, length);
-    match counted {
-        Counted::Sections(n) => n as u16 * COUNT,
-        Counted::Refused(n) => n as u16,
+    match count_sections(table, length) {
+        Ok(count) => u16::from(count) * COUNT,
+        Err(refusal) => refusal as u16,
     }
 }
 
@@ -163,9 +134,5 @@ pub fn count_code(table: u8, length: usize) -> u16
 pub fn section_code(label: Label, body: &[u8], k: u8, out: &mut [u8]) -> u32
     ensures { out_of result out.new ≡ section_lent label body.now k out.old }
 {
-    let written = write_section(label, body, k, out);
-    match written {
-        Written::Bytes(size) => answers::size_code(size),
-        Written::Refused(n) => n as u32,
-    }
+    answers::sized(write_section(label, body, k, out))
 }

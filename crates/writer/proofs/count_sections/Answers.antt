@@ -21,8 +21,8 @@ returns-then-length-gt-MOST c = search tests
 pub overflow_add-count : goal.overflow_add-count
 overflow_add-count c = omega (arith, last-le c.args.length (search rules))
 
-pub overflow_cast-sections : goal.overflow_cast-sections
-overflow_cast-sections c = omega (arith, last-le c.args.length (search rules))
+pub overflow_cast-result : goal.overflow_cast-result
+overflow_cast-result c = omega (arith, last-le c.args.length (search rules))
 
 pub returns : goal.returns
 unfolding count_of
