@@ -5,7 +5,7 @@
 --                         and all below it are
 --   lowest-one            there is one lowest missing number
 --   held-so, lacks-so      the tests say that a section is held, and that it is not
---   gap-complete, gap-incomplete    whether a table is complete, by its lowest missing number
+--   gap-complete, gap-incomplete, by_gap    whether a table is complete, by its lowest missing number
 use mathlib.Core.Path.{◌≡◌, sym, ◌∙◌}
 use mathlib.Core.Bool.{Bool, true, false, not}
 use mathlib.Core.Logic.{◌↔◌}
@@ -72,6 +72,12 @@ module _ (place : Place) where
   pub gap-incomplete : lowest_missing place ≤ place.last → complete place ≡ false
   gap-incomplete h =
       by (complete place) (λ t. absurd (let e : lowest_missing place ≡ place.last + 1 = complete-gapless.0 t in omega arith)) (λ f. f)
+
+  pub by_gap : complete place ≡ ltb place.last (lowest_missing place)
+  by_gap =
+      by (ltb place.last (lowest_missing place))
+      (λ t. gap-complete (ltb-true _ _ t) ∙ sym t)
+      (λ f. gap-incomplete (ltb-false _ _ f) ∙ sym f)
 
   -- the lowest missing number of a table that is not complete
   pub record Lowest (n : ℕ) : Type 0 where

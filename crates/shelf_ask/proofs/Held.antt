@@ -4,9 +4,9 @@
 --   in-17, in-18, in-14, in_place_lem    the answer of `holding_of`, by what was tested
 --   held                             what is so of a table that is held in place p (`In`)
 --   copy-refused, copy-held          the answer of `copy_of`, by that of `holding_of`; so for `whole_of` and `missing_of`
-use Rattle.std.specs.Prelude.{if◌then◌else◌}
+use Rattle.std.specs.Prelude.{if◌then◌else◌, Some, None, Result, Ok, Err}
 use mathlib.Core.Path.{◌≡◌, refl, sym, ap, subst, ◌∙◌}
-use mathlib.Core.Bool.{true, false, not}
+use mathlib.Core.Bool.{true, false}
 use mathlib.Core.List.{List, [], ◌∷◌, ◌++◌}
 use mathlib.Core.Logic.{⊎_elim}
 use Prim.Native.Nat.{ℕ, ◌<◌, ◌≤◌}
@@ -24,66 +24,76 @@ use Rattle.key.specs.declared.Key.{Key}
 use Rattle.shelf.specs.Record.{Shelf}
 use Rattle.shelf.proofs.Find.{place-le, place-taken}
 use Rattle.shelf.proofs.Words.{sound-place}
-use Rattle.shelf_ask.specs.Ask.{unlent_by, unlent_no, unasked_by, holding_of, uncopied, copy_from, asked, copy, Copy, copy_of, whole_of, missing_of, complete, lowest_missing}
-use Rattle.shelf_ask.proofs.Gaps.{gap-complete, gap-incomplete}
-use Rattle.shelf_ask.specs.declared.Holding.{Holding}
-use Rattle.shelf_ask.specs.declared.Copied.{Copied}
-use Rattle.shelf_ask.specs.declared.Whole.{Whole}
-use Rattle.shelf_ask.specs.declared.Missing.{Missing}
+use Rattle.refusal.specs.declared.Refusal.{Refusal}
+use Rattle.refusal.specs.declared.Refusal.TheVariants.{TableNotHeld, OutputTooSmall, SectionNotHeld, StoreSize, ShelfSpoiled}
+use Rattle.shelf_ask.specs.Ask.{unlent_by, unlent_of, unasked_by, holding_of, uncopied, copy_from, asked, copy, Copy, copy_of, whole_of, missing_of, complete, lowest_missing}
+use Rattle.shelf_ask.proofs.Gaps.{gap-complete, gap-incomplete, by_gap}
+
+-- no refusal is an answer
+pub never : {A : Type 0} {r : Refusal} {a : A} → ◌≡◌ {A = Result A Refusal} (Err r) (Ok a) → ⊥
+never e = let z : ◌≡◌ {A = ℕ} 0 1 = cc in omega arith
+
+-- a table of refusals that begins with another
+module _ {A B : Type 0} (refused : Refusal → A) (more : List Row) (other : A) where
+  pub still : (rs : List Row) (p : B) (r : Refusal) → first Err rs (Ok p) ≡ Err r → first refused (rs ++ more) other ≡ refused r
+  still [] p r e = absurd (never (sym e))
+  still (row ∷ rs) p r e =
+      by row.when
+      (λ t. let q : ◌≡◌ {A = Result B Refusal} (Err row.refusal) (Err r) = rw t at e in let n : row.refusal ≡ r = cc in rw t (ap refused n))
+      (λ f. rw f (still rs p r (rw f at e)))
+
+  pub past : (rs : List Row) (p q : B) → first Err rs (Ok q) ≡ Ok p → first refused (rs ++ more) other ≡ first refused more other
+  past [] p q e = refl
+  past (row ∷ rs) p q e = by row.when (λ t. absurd (never (rw t at e))) (λ f. rw f (past rs p q (rw f at e)))
 
 -- 17 and 18, as they are found
 module _ (shelf : Shelf) (size : ℕ) where
-  pub no-17 : (size ≡ store_size → ⊥) → 17 ≡ unlent_no shelf size
-  unfolding unlent_no
+  pub no-17 : (size ≡ store_size → ⊥) → Err StoreSize ≡ unlent_of shelf size
+  unfolding unlent_of
   no-17 h = rw (ne_eqb size store_size h)
 
   module _ (w : size ≡ store_size) where
-    pub no-18 : spoiled_of shelf ≡ true → 18 ≡ unlent_no shelf size
-    unfolding unlent_no
+    pub no-18 : spoiled_of shelf ≡ true → Err ShelfSpoiled ≡ unlent_of shelf size
+    unfolding unlent_of
     no-18 h = rw (eq-eqb size store_size w, h)
 
-    pub no_none : spoiled_of shelf ≡ false → 0 ≡ unlent_no shelf size
-    unfolding unlent_no
+    pub no_none : spoiled_of shelf ≡ false → Ok tt ≡ unlent_of shelf size
+    unfolding unlent_of
     no_none h = rw (eq-eqb size store_size w, h)
 
   -- neither is so
-  pub lent-whole : unlent_no shelf size ≡ 0 → size ≡ store_size
-  lent-whole e = ⊎_elim (λ w. w) (λ w. let z : 17 ≡ 0 = no-17 w ∙ e in absurd (omega arith)) (same_or size store_size)
+  pub lent-whole : Ok tt ≡ unlent_of shelf size → size ≡ store_size
+  lent-whole e = ⊎_elim (λ w. w) (λ w. absurd (never (no-17 w ∙ sym e))) (same_or size store_size)
 
-  pub lent-sound : unlent_no shelf size ≡ 0 → spoiled_of shelf ≡ false
-  lent-sound e = by (spoiled_of shelf) (λ t. let z : 18 ≡ 0 = no-18 (lent-whole e) t ∙ e in absurd (omega arith)) (λ f. f)
+  pub lent-sound : Ok tt ≡ unlent_of shelf size → spoiled_of shelf ≡ false
+  lent-sound e = by (spoiled_of shelf) (λ t. absurd (never (no-18 (lent-whole e) t ∙ sym e))) (λ f. f)
 
   -- a table of refusals that begins with them gives the one that is so
-  pub unlent-refused : {A : Type 0} (refused : ℕ → A) (rest : List Row) (other : A) → (unlent_no shelf size ≡ 0 → ⊥)
-      → first refused (unlent_by shelf size ++ rest) other ≡ refused (unlent_no shelf size)
-  unfolding unlent_no
-  unlent-refused refused rest other d =
-      by (not (eqb size store_size))
-      (λ t. rw t)
-      (λ f. by (spoiled_of shelf) (λ t. rw (f, t)) (λ g. absurd (d (rw (f, g)))))
+  pub unlent-refused : {A : Type 0} (refused : Refusal → A) (rest : List Row) (other : A) {r : Refusal} → Err r ≡ unlent_of shelf size
+      → first refused (unlent_by shelf size ++ rest) other ≡ refused r
+  unfolding unlent_of
+  unlent-refused refused rest other {r} e = still refused rest other (unlent_by shelf size) tt r (sym e)
 
 module _ (shelf : Shelf) (size : ℕ) (key : Key) where
-  pub in-refused : {n : ℕ} → n ≡ unlent_no shelf size → (n ≡ 0 → ⊥) → Holding.Refused n ≡ holding_of shelf size key
+  pub in-refused : {r : Refusal} → Err r ≡ unlent_of shelf size → Err r ≡ holding_of shelf size key
   unfolding holding_of
-  in-refused e d =
-      ap Holding.Refused e
-      ∙ sym (unlent-refused shelf size Holding.Refused (14 if eqb (place_of shelf key) places ∷ []) (Holding.In (place_of shelf key)) (λ z. d (e ∙ z)))
+  in-refused e = sym (unlent-refused shelf size Err (TableNotHeld if eqb (place_of shelf key) places ∷ []) (Ok (place_of shelf key)) e)
 
-  pub in-17 : (size ≡ store_size → ⊥) → holding_of shelf size key ≡ Holding.Refused 17
+  pub in-17 : (size ≡ store_size → ⊥) → holding_of shelf size key ≡ Err StoreSize
   unfolding holding_of
   in-17 h = rw (ne_eqb size store_size h)
 
   module _ (w : size ≡ store_size) where
-    pub in-18 : spoiled_of shelf ≡ true → holding_of shelf size key ≡ Holding.Refused 18
+    pub in-18 : spoiled_of shelf ≡ true → holding_of shelf size key ≡ Err ShelfSpoiled
     unfolding holding_of
     in-18 h = rw (eq-eqb size store_size w, h)
 
     module _ (s : spoiled_of shelf ≡ false) where
-      pub in-14 : place_of shelf key ≡ places → holding_of shelf size key ≡ Holding.Refused 14
+      pub in-14 : place_of shelf key ≡ places → holding_of shelf size key ≡ Err TableNotHeld
       unfolding holding_of
       in-14 h = rw (eq-eqb size store_size w, s, eq-eqb (place_of shelf key) places h)
 
-      pub in_place_lem : (p : ℕ) → p ≡ place_of shelf key → (p ≡ places → ⊥) → holding_of shelf size key ≡ Holding.In p
+      pub in_place_lem : (p : ℕ) → p ≡ place_of shelf key → (p ≡ places → ⊥) → holding_of shelf size key ≡ Ok p
       unfolding holding_of
       in_place_lem p e h = rw (eq-eqb size store_size w, s, ← e, ne_eqb p places h)
 
@@ -96,9 +106,6 @@ pub record In (shelf : Shelf) (size : ℕ) (key : Key) (p : ℕ) : Type 0 where
   pub taken : (place_at shelf p).taken ≡ true
   pub last : (place_at shelf p).last < sections
   pub most : (n : ℕ) → n < sections → length_at (place_at shelf p) n ≤ berth_size
-
-pub never : {n p : ℕ} → Holding.Refused n ≡ Holding.In p → ⊥
-never e = let z : ◌≡◌ {A = ℕ} 0 1 = cc in omega arith
 
 module _ (shelf : Shelf) (size : ℕ) (key : Key) where
   in-facts : size ≡ store_size → spoiled_of shelf ≡ false → (place_of shelf key ≡ places → ⊥) → In shelf size key (place_of shelf key)
@@ -115,7 +122,7 @@ module _ (shelf : Shelf) (size : ℕ) (key : Key) where
         most = g.most;
       }
 
-  pub held : (p : ℕ) → holding_of shelf size key ≡ Holding.In p → In shelf size key p
+  pub held : (p : ℕ) → holding_of shelf size key ≡ Ok p → In shelf size key p
   held p e =
       ⊎_elim
       (λ w.
@@ -125,7 +132,7 @@ module _ (shelf : Shelf) (size : ℕ) (key : Key) where
       ⊎_elim
       (λ q. absurd (never (sym (in-14 shelf size key w s q) ∙ e)))
       (λ h.
-      let q : Holding.In (place_of shelf key) ≡ Holding.In p = sym (in_place_lem shelf size key w s (place_of shelf key) refl h) ∙ e in
+      let q : ◌≡◌ {A = Result ℕ Refusal} (Ok (place_of shelf key)) (Ok p) = sym (in_place_lem shelf size key w s (place_of shelf key) refl h) ∙ e in
       let r : place_of shelf key ≡ p = cc in
       subst (In shelf size key) r (in-facts w s h))
       (same_or (place_of shelf key) places)))
@@ -133,46 +140,35 @@ module _ (shelf : Shelf) (size : ℕ) (key : Key) where
       (same_or size store_size)
 
 -- a table of refusals that begins with those of every question
-module _ {A : Type 0} (refused : ℕ → A) (more : List Row) (other : A) where
-  pub still : (rs : List Row) (p number : ℕ) → first Holding.Refused rs (Holding.In p) ≡ Holding.Refused number → first refused (rs ++ more) other ≡ refused number
-  still [] p number e = absurd (never (sym e))
-  still (r ∷ rs) p number e =
-      by r.when
-      (λ t. let q : Holding.Refused r.no ≡ Holding.Refused number = rw t at e in let n : r.no ≡ number = cc in rw t (ap refused n))
-      (λ f. rw f (still rs p number (rw f at e)))
-
-  pub past : (rs : List Row) (p q : ℕ) → first Holding.Refused rs (Holding.In q) ≡ Holding.In p → first refused (rs ++ more) other ≡ first refused more other
-  past [] p q e = refl
-  past (r ∷ rs) p q e = by r.when (λ t. absurd (never (rw t at e))) (λ f. rw f (past rs p q (rw f at e)))
-
-  pub asked-refused : (shelf : Shelf) (size : ℕ) (key : Key) (number : ℕ) → holding_of shelf size key ≡ Holding.Refused number
-      → first refused (unasked_by shelf size key ++ more) other ≡ refused number
+module _ {A : Type 0} (refused : Refusal → A) (more : List Row) (other : A) where
+  pub asked-refused : (shelf : Shelf) (size : ℕ) (key : Key) (r : Refusal) → holding_of shelf size key ≡ Err r
+      → first refused (unasked_by shelf size key ++ more) other ≡ refused r
   unfolding holding_of
-  asked-refused shelf size key number e = still (unasked_by shelf size key) (place_of shelf key) number e
+  asked-refused shelf size key r e = still refused more other (unasked_by shelf size key) (place_of shelf key) r e
 
-  pub asked-held : (shelf : Shelf) (size : ℕ) (key : Key) (p : ℕ) → holding_of shelf size key ≡ Holding.In p
+  pub asked-held : (shelf : Shelf) (size : ℕ) (key : Key) (p : ℕ) → holding_of shelf size key ≡ Ok p
       → first refused (unasked_by shelf size key ++ more) other ≡ first refused more other
   unfolding holding_of
-  asked-held shelf size key p e = past (unasked_by shelf size key) p (place_of shelf key) e
+  asked-held shelf size key p e = past refused more other (unasked_by shelf size key) p (place_of shelf key) e
 
-abbrev refuse : List ℕ → ℕ → Copy
-refuse out number = copy (Copied.Refused number) out
+abbrev refuse : List ℕ → Refusal → Copy
+refuse out r = copy (Err r) out
 
 module _ (shelf : Shelf) (store : List ℕ) (key : Key) where
-  module _ (number : ℕ) (e : holding_of shelf (length store) key ≡ Holding.Refused number) where
-    pub copy-refused : (n : ℕ) (out : List ℕ) → copy_of shelf store key n out ≡ copy (Copied.Refused number) out
+  module _ (r : Refusal) (e : holding_of shelf (length store) key ≡ Err r) where
+    pub copy-refused : (n : ℕ) (out : List ℕ) → copy_of shelf store key n out ≡ copy (Err r) out
     unfolding copy_of
-    copy-refused n out = asked-refused (refuse out) (uncopied (asked shelf store key) n out) (copy_from (asked shelf store key) store (place_of shelf key) n out) shelf (length store) key number e
+    copy-refused n out = asked-refused (refuse out) (uncopied (asked shelf store key) n out) (copy_from (asked shelf store key) store (place_of shelf key) n out) shelf (length store) key r e
 
-    pub whole-refused : whole_of shelf store key ≡ Whole.Refused number
+    pub whole-refused : whole_of shelf store key ≡ Err r
     unfolding whole_of
-    whole-refused = asked-refused Whole.Refused [] _ shelf (length store) key number e
+    whole-refused = asked-refused Err [] _ shelf (length store) key r e
 
-    pub missing-refused : missing_of shelf store key ≡ Missing.Refused number
+    pub missing-refused : missing_of shelf store key ≡ Err r
     unfolding missing_of
-    missing-refused = asked-refused Missing.Refused [] _ shelf (length store) key number e
+    missing-refused = asked-refused Err [] _ shelf (length store) key r e
 
-  module _ (p : ℕ) (e : holding_of shelf (length store) key ≡ Holding.In p) where
+  module _ (p : ℕ) (e : holding_of shelf (length store) key ≡ Ok p) where
     at_place : place_of shelf key ≡ p
     at_place = (held shelf (length store) key p e).at
 
@@ -185,14 +181,14 @@ module _ (shelf : Shelf) (store : List ℕ) (key : Key) where
         ∙ ap (λ q. first (refuse out) (uncopied (place_at shelf q) n out) (copy_from (place_at shelf q) store q n out)) at_place
 
     module _ (n : ℕ) (out : List ℕ) (count : ℕ) (c : count ≡ length_at (place_at shelf p) n) where
-      pub copy-16 : count ≡ 0 → copy_of shelf store key n out ≡ copy (Copied.Refused 16) out
+      pub copy-16 : count ≡ 0 → copy_of shelf store key n out ≡ copy (Err SectionNotHeld) out
       copy-16 z = copy-held n out ∙ rw (← c, eq-eqb count 0 z)
 
-      pub copy-15 : (count ≡ 0 → ⊥) → length out < count → copy_of shelf store key n out ≡ copy (Copied.Refused 15) out
+      pub copy-15 : (count ≡ 0 → ⊥) → length out < count → copy_of shelf store key n out ≡ copy (Err OutputTooSmall) out
       copy-15 z h = copy-held n out ∙ rw (← c, ne_eqb count 0 z, lt-ltb (length out) count h)
 
       pub copy_done : (count ≡ 0 → ⊥) → count ≤ length out → (sections ≤ n → count ≡ 0)
-          → copy_of shelf store key n out ≡ copy (Copied.Bytes count) (copied_in store p n count out)
+          → copy_of shelf store key n out ≡ copy (Ok count) (copied_in store p n count out)
       unfolding copied_in goes_in
       copy_done z h past =
           let l : n < sections = by (ltb n sections) (λ t. ltb-true _ _ t) (λ f. absurd (z (past (ltb-false _ _ f)))) in
@@ -208,31 +204,27 @@ module _ (shelf : Shelf) (store : List ℕ) (key : Key) where
             le-leb count (length out) h,
           )
 
-    pub whole-held : whole_of shelf store key ≡ (if complete (place_at shelf p) then Whole.Complete else Whole.Incomplete)
+    pub whole-held : whole_of shelf store key ≡ Ok (complete (place_at shelf p))
     unfolding whole_of
     whole-held =
-        asked-held Whole.Refused [] (if complete (asked shelf store key) then Whole.Complete else Whole.Incomplete) shelf (length store) key p e
-        ∙ ap (λ q. if complete (place_at shelf q) then Whole.Complete else Whole.Incomplete) at_place
+        asked-held Err [] (Ok (complete (asked shelf store key))) shelf (length store) key p e ∙ ap (λ q. Ok (complete (place_at shelf q))) at_place
 
-    pub missing-held : missing_of shelf store key ≡ (if complete (place_at shelf p) then Missing.Nothing else Missing.Number (lowest_missing (place_at shelf p)))
+    pub missing-held : missing_of shelf store key ≡ Ok (if complete (place_at shelf p) then None else Some (lowest_missing (place_at shelf p)))
     unfolding missing_of
     missing-held =
-        asked-held Missing.Refused [] (if complete (asked shelf store key) then Missing.Nothing else Missing.Number (lowest_missing (asked shelf store key)))
+        asked-held Err [] (Ok (if complete (asked shelf store key) then None else Some (lowest_missing (asked shelf store key))))
         shelf (length store) key p e
-        ∙ ap (λ q. if complete (place_at shelf q) then Missing.Nothing else Missing.Number (lowest_missing (place_at shelf q))) at_place
+        ∙ ap (λ q. Ok (if complete (place_at shelf q) then None else Some (lowest_missing (place_at shelf q)))) at_place
 
     -- by the first gap
+    pub whole-by-gap : {l n : ℕ} → l ≡ (place_at shelf p).last → n ≡ lowest_missing (place_at shelf p) → Ok (ltb l n) ≡ whole_of shelf store key
+    whole-by-gap e g = rw (e, g) (ap Ok (sym (by_gap (place_at shelf p))) ∙ sym whole-held)
+
     module _ (n : ℕ) (g : n ≡ lowest_missing (place_at shelf p)) where
       module _ (h : n ≤ (place_at shelf p).last) where
-        pub whole-lacks : whole_of shelf store key ≡ Whole.Incomplete
-        whole-lacks = whole-held ∙ rw (gap-incomplete (place_at shelf p) (rw (← g) h))
-
-        pub missing-lowest : missing_of shelf store key ≡ Missing.Number n
+        pub missing-lowest : missing_of shelf store key ≡ Ok (Some n)
         missing-lowest = missing-held ∙ rw (gap-incomplete (place_at shelf p) (rw (← g) h), g)
 
       module _ (h : (place_at shelf p).last < n) where
-        pub whole-complete : whole_of shelf store key ≡ Whole.Complete
-        whole-complete = whole-held ∙ rw (gap-complete (place_at shelf p) (rw (← g) h))
-
-        pub missing-nothing : missing_of shelf store key ≡ Missing.Nothing
+        pub missing-nothing : missing_of shelf store key ≡ Ok None
         missing-nothing = missing-held ∙ rw (gap-complete (place_at shelf p) (rw (← g) h))

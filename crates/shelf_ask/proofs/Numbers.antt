@@ -22,7 +22,7 @@ use Rattle.shelf.proofs.Lists.{length-listed, listed_same}
 use Rattle.shelf.proofs.Numbers.{at_count, spoiled-count, taken_at, table_at, held_at, length-at, among-place, among-last, among-mask, among-length}
 use Rattle.shelf.proofs.Equal.{lowest-alike}
 use Rattle.shelf_ask.specs.Ask.{holding_of, lowest_missing}
-use Rattle.shelf_ask.specs.declared.Holding.{Holding}
+use Rattle.std.specs.Prelude.{Ok}
 use Rattle.shelf_ask.proofs.Held.{In, held}
 
 -- the place of a key in a record that is not spoiled
@@ -31,7 +31,7 @@ place_read words key s e =
     let n = spoiled-count words s in
     e ∙ among-place words key n ∙ ap (λ x. place_of x key) (sym (at_count words n))
 
-module _ (words : List ℕ) (size : ℕ) (key : Key) (p : ℕ) (e : holding_of (shelf_at words) size key ≡ Holding.In p) where
+module _ (words : List ℕ) (size : ℕ) (key : Key) (p : ℕ) (e : holding_of (shelf_at words) size key ≡ Ok p) where
   is : In (shelf_at words) size key p
   is = held (shelf_at words) size key p e
 
@@ -104,7 +104,7 @@ pub lengths_read :
     (size : ℕ)
     (key : Key)
     (p : ℕ)
-    (e : holding_of (shelf_at words) size key ≡ Holding.In p)
+    (e : holding_of (shelf_at words) size key ≡ Ok p)
     {l : List ℕ}
     → l ≡ lengths_among words p
     → l ≡ (place_at (shelf_at words) p).lengths

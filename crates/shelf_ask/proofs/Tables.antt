@@ -17,6 +17,11 @@ use lib.Dec.{ltb}
 use lib.ListN.{length, get_or, get_or-eq_default}
 use borrow.Author.Tests.{eq-eqb, ne_eqb, lt-ltb, le-ltb, ltb-true, ltb-false}
 use Rattle.base.specs.Choice.{◌if◌}
+use Rattle.std.specs.Prelude.{Result, Ok, Err}
+use Rattle.refusal.specs.Refusal.{number}
+use Rattle.refusal.proofs.Numbers.{in_byte}
+use Rattle.refusal.specs.declared.Refusal.{Refusal}
+use Rattle.refusal.specs.declared.Refusal.TheVariants.{TableNotHeld, StoreSize, ShelfSpoiled}
 use Rattle.base.proofs.Cases.{by, same_or}
 use Rattle.berth.specs.Berth.{places, store_size}
 use Rattle.answers.specs.Answers.{told, out, puts}
@@ -29,42 +34,39 @@ use Rattle.shelf.specs.Layout.{shelf_at, shelf_in, place_in, table_in, lengths_i
 use Rattle.shelf.specs.Calls.{key_among, length_among}
 use Rattle.shelf.proofs.Lists.{length-listed, listed_same}
 use Rattle.shelf.proofs.Numbers.{at_count, spoiled-count, place_at_lem, taken_at, table_at, among-key, found-key, among-version, among-last, among-length}
-use Rattle.shelf_ask.specs.Ask.{unlent_no}
+use Rattle.shelf_ask.specs.Ask.{unlent_of}
 use Rattle.shelf_ask.specs.Tables.{place_table, untold, taken_of, table_told, SameTold}
 use Rattle.shelf_ask.specs.Calls.{table_among}
 use Rattle.shelf_ask.specs.Answer.{table_lent}
-use Rattle.shelf_ask.specs.declared.Holding.{Holding}
 use Rattle.shelf_ask.proofs.Held.{unlent-refused, never, still, past}
 
 module _ (shelf : Shelf) (size p : ℕ) where
-  pub taken_refused : {n : ℕ} → n ≡ unlent_no shelf size → (n ≡ 0 → ⊥) → Holding.Refused n ≡ taken_of shelf size p
+  pub taken_refused : {r : Refusal} → Err r ≡ unlent_of shelf size → Err r ≡ taken_of shelf size p
   unfolding taken_of
-  taken_refused e d =
-      ap Holding.Refused e
-      ∙ sym (unlent-refused shelf size Holding.Refused (14 if not (ltb p places && (place_at shelf p).taken) ∷ []) (Holding.In p) (λ z. d (e ∙ z)))
+  taken_refused e = sym (unlent-refused shelf size Err (TableNotHeld if not (ltb p places && (place_at shelf p).taken) ∷ []) (Ok p) e)
 
-  taken-17 : (size ≡ store_size → ⊥) → taken_of shelf size p ≡ Holding.Refused 17
+  taken-17 : (size ≡ store_size → ⊥) → taken_of shelf size p ≡ Err StoreSize
   unfolding taken_of
   taken-17 h = rw (ne_eqb size store_size h)
 
   module _ (w : size ≡ store_size) where
-    taken-18 : spoiled_of shelf ≡ true → taken_of shelf size p ≡ Holding.Refused 18
+    taken-18 : spoiled_of shelf ≡ true → taken_of shelf size p ≡ Err ShelfSpoiled
     unfolding taken_of
     taken-18 h = rw (eq-eqb size store_size w, h)
 
     module _ (s : spoiled_of shelf ≡ false) where
-      pub taken_none : places ≤ p → taken_of shelf size p ≡ Holding.Refused 14
+      pub taken_none : places ≤ p → taken_of shelf size p ≡ Err TableNotHeld
       unfolding taken_of
       taken_none l = rw (eq-eqb size store_size w, s, le-ltb p places l)
 
-      pub taken-14 : (place_at shelf p).taken ≡ false → taken_of shelf size p ≡ Holding.Refused 14
+      pub taken-14 : (place_at shelf p).taken ≡ false → taken_of shelf size p ≡ Err TableNotHeld
       unfolding taken_of
       taken-14 h =
           by (ltb p places)
           (λ t. rw (eq-eqb size store_size w, s, t, h))
           (λ f. taken_none (ltb-false _ _ f))
 
-      pub taken-place : p < places → (place_at shelf p).taken ≡ true → taken_of shelf size p ≡ Holding.In p
+      pub taken-place : p < places → (place_at shelf p).taken ≡ true → taken_of shelf size p ≡ Ok p
       unfolding taken_of
       taken-place l h = rw (eq-eqb size store_size w, s, lt-ltb p places l, h)
 
@@ -77,7 +79,7 @@ pub record TakenIn (shelf : Shelf) (size p q : ℕ) : Type 0 where
   pub same : p ≡ q
 
 module _ (shelf : Shelf) (size p : ℕ) where
-  pub taken-says : (q : ℕ) → taken_of shelf size p ≡ Holding.In q → TakenIn shelf size p q
+  pub taken-says : (q : ℕ) → taken_of shelf size p ≡ Ok q → TakenIn shelf size p q
   taken-says q e =
       ⊎_elim
       (λ w.
@@ -88,20 +90,20 @@ module _ (shelf : Shelf) (size p : ℕ) where
       (λ i.
       by (place_at shelf p).taken
       (λ t.
-      let r : Holding.In p ≡ Holding.In q = sym (taken-place shelf size p w s (ltb-true _ _ i) t) ∙ e in
+      let r : ◌≡◌ {A = Result ℕ Refusal} (Ok p) (Ok q) = sym (taken-place shelf size p w s (ltb-true _ _ i) t) ∙ e in
       record { whole = w; sound = s; place = ltb-true _ _ i; taken = t; same = (cc) })
       (λ f. absurd (never (sym (taken-14 shelf size p w s f) ∙ e))))
       (λ i. absurd (never (sym (taken_none shelf size p w s (ltb-false _ _ i)) ∙ e)))))
       (λ w. absurd (never (sym (taken-17 shelf size p w) ∙ e)))
       (same_or size store_size)
 
-  pub told-refused : (n : ℕ) → taken_of shelf size p ≡ Holding.Refused n → table_told shelf size p ≡ told n []
+  pub told-refused : (r : Refusal) → taken_of shelf size p ≡ Err r → table_told shelf size p ≡ told (number r) []
   unfolding taken_of table_told
-  told-refused n e = still (λ n. told n []) [] (told 0 (table_numbers (place_table (place_at shelf p)))) (untold shelf size p) p n e
+  told-refused r e = still (λ r. told (number r) []) [] (told 0 (table_numbers (place_table (place_at shelf p)))) (untold shelf size p) p r e
 
-  pub told-table : (q : ℕ) → taken_of shelf size p ≡ Holding.In q → table_told shelf size p ≡ told 0 (table_numbers (place_table (place_at shelf p)))
+  pub told-table : (q : ℕ) → taken_of shelf size p ≡ Ok q → table_told shelf size p ≡ told 0 (table_numbers (place_table (place_at shelf p)))
   unfolding taken_of table_told
-  told-table q e = past (λ n. told n []) [] (told 0 (table_numbers (place_table (place_at shelf p)))) (untold shelf size p) q p e
+  told-table q e = past (λ r. told (number r) []) [] (told 0 (table_numbers (place_table (place_at shelf p)))) (untold shelf size p) q p e
 
 apart : true ≡ false → ⊥
 apart e = let z : ◌≡◌ {A = ℕ} 0 1 = cc in omega arith
@@ -156,7 +158,7 @@ module _ (words : List ℕ) (p : ℕ) (short : get_or words (64 + 4 * p) 0 < 655
       (λ l. ltb-true _ _ l)
       (λ f. absurd (apart (sym t ∙ none-past (ltb-false _ _ f))))
 
-  pub head-place : (size : ℕ) → size ≡ store_size → {n : ℕ} → n ≡ key_among words p → n / 256 % 256 ≡ 1 → taken_of (shelf_at words) size p ≡ Holding.In p
+  pub head-place : (size : ℕ) → size ≡ store_size → {n : ℕ} → n ≡ key_among words p → n / 256 % 256 ≡ 1 → taken_of (shelf_at words) size p ≡ Ok p
   head-place size w e h = let t = head-taken e h in taken-place (shelf_at words) size p w s (below t) t
 
   same-table : p < 4 → table_among words p ≡ place_table (table_in words p)
@@ -176,15 +178,15 @@ module _ (words : List ℕ) (p : ℕ) (short : get_or words (64 + 4 * p) 0 < 655
       same-table h ∙ ap place_table (sym e)
 
 module _ (words store : List ℕ) (p : ℕ) (fields : List ℕ) where
-  pub lent-refused : (n : ℕ) → taken_of (shelf_at words) (length store) p ≡ Holding.Refused n → out n fields ≡ table_lent words store p fields
+  pub lent-refused : (r : Refusal) → taken_of (shelf_at words) (length store) p ≡ Err r → out (number r) fields ≡ table_lent words store p fields
   unfolding table_lent
-  lent-refused n e =
-      puts-refused n fields
-      ∙ ap (λ t. puts t fields) (sym (told-refused (shelf_at words) (length store) p n e))
+  lent-refused r e =
+      puts-refused (number r) fields
+      ∙ ap (λ t. puts t fields) (sym (told-refused (shelf_at words) (length store) p r e))
 
   lent-put :
       (q : ℕ)
-      → taken_of (shelf_at words) (length store) p ≡ Holding.In q
+      → taken_of (shelf_at words) (length store) p ≡ Ok q
       → {code : ℕ}
       {left : List ℕ}
       → out code left ≡ table_put (place_table (place_at (shelf_at words) p)) fields
@@ -194,7 +196,7 @@ module _ (words store : List ℕ) (p : ℕ) (fields : List ℕ) where
 
   pub lent-table :
       (q : ℕ)
-      → taken_of (shelf_at words) (length store) p ≡ Holding.In q
+      → taken_of (shelf_at words) (length store) p ≡ Ok q
       → get_or words (64 + 4 * p) 0 < 65536
       → {t : Table}
       → t ≡ table_among words q
@@ -231,7 +233,7 @@ module _ (a b : Shelf) (size : ℕ) (w : size ≡ store_size) (s : spoiled_of a 
   told-taken x q p l t = told-table x size p p (taken-place x size p w q l t)
 
   told_free : (x : Shelf) → spoiled_of x ≡ false → (p : ℕ) → (place_at x p).taken ≡ false → table_told x size p ≡ told 14 []
-  told_free x q p f = told-refused x size p 14 (taken-14 x size p w q f)
+  told_free x q p f = told-refused x size p TableNotHeld (taken-14 x size p w q f)
 
   pub same_tables : Same a b → (p : ℕ) → p < places → table_told a size p ≡ table_told b size p
   same_tables same p h =
@@ -275,36 +277,19 @@ sixteen words p n h =
     rw (at_count words n, place_at_lem words p h)
     (by (taken_in words p) (λ t. rw t (length-listed 16 (length_in words p))) (λ f. rw f))
 
-other-than-0 : {k n : ℕ} → Holding.Refused k ≡ Holding.Refused n → n ≡ 0 → 0 < k → ⊥
-other-than-0 {k} {n} e z l = let q : k ≡ n = cc in omega arith
-
 module _ (words : List ℕ) (size p : ℕ) where
   abbrev shelf : Shelf
   shelf = shelf_at words
 
-  -- a refusal is no 0
-  refused-by : (n : ℕ) → taken_of shelf size p ≡ Holding.Refused n → n ≡ 0 → ⊥
-  refused-by n e z =
-      ⊎_elim
-      (λ w.
-      by (spoiled_of shelf)
-      (λ t. other-than-0 (sym (taken-18 shelf size p w t) ∙ e) z (omega arith))
-      (λ s.
-      by (ltb p places)
-      (λ i.
-      by (place_at shelf p).taken
-      (λ t. never (sym e ∙ taken-place shelf size p w s (ltb-true _ _ i) t))
-      (λ f. other-than-0 (sym (taken-14 shelf size p w s f) ∙ e) z (omega arith)))
-      (λ i. other-than-0 (sym (taken_none shelf size p w s (ltb-false _ _ i)) ∙ e) z (omega arith))))
-      (λ w. other-than-0 (sym (taken-17 shelf size p w) ∙ e) z (omega arith))
-      (same_or size store_size)
-
   pub whole-told : (table_told shelf size p).number ≡ 0 → length (table_told shelf size p).values ≡ 23
   whole-told e = go (taken_of shelf size p) refl
     where
-      go : (h : Holding) → taken_of shelf size p ≡ h → length (table_told shelf size p).values ≡ 23
-      go (Holding.Refused n) q = absurd (refused-by n q (ap (λ t. t.number) (sym (told-refused shelf size p n q)) ∙ e))
-      go (Holding.In k) q =
+      go : (h : Result ℕ Refusal) → taken_of shelf size p ≡ h → length (table_told shelf size p).values ≡ 23
+      go (Err r) q =
+          let z : number r ≡ 0 = ap (λ t. t.number) (sym (told-refused shelf size p r q)) ∙ e in
+          let l : 0 < number r = (in_byte r).0 in
+          absurd (omega arith)
+      go (Ok k) q =
           let i = taken-says shelf size p k q in
           let l : length (place_at shelf p).lengths ≡ 16 = sixteen words p (spoiled-count words i.sound) i.place in
           ap (λ t. length t.values) (told-table shelf size p k q) ∙ rw l

@@ -11,7 +11,7 @@ ghost use Rattle.shelf_ask.specs.Ask.{unlent_of, holding_of, copy, copy_of, whol
 ghost use Rattle.answers.specs.Answers.{out as out_of};
 ghost use Rattle.shelf_ask.specs.Tables.{taken_of};
 ghost use Rattle.shelf_ask.specs.Calls.{table_among};
-ghost use Rattle.shelf_ask.specs.Answer.{whole_lent, complete_lent, missing_lent, copy_lent, table_lent};
+ghost use Rattle.shelf_ask.specs.Answer.{whole_code, missing_code, whole_lent, complete_lent, missing_lent, copy_lent, table_lent};
 
 use berth::{PLACES, STORE};
 use key::Key;
@@ -117,33 +117,47 @@ const NUMBER: u32 = 512;
 
 const BIT_16: u32 = 65536;
 
-// Whether a table is complete, in a number whose low 8 bits are the refusal.
-pub fn complete_code(words: &[u16], store: &[u8], key: Key) -> u16
-    ensures { result ≡ whole_lent words.now store.now key }
+// Whether a table is complete, as a number whose low 8 bits are the refusal.
+fn whole_code_of(answer: Result<bool, Refusal>) -> u16
+    ensures { result ≡ whole_code answer }
 {
-    match complete(words, store, key) {
+    match answer {
         Err(refusal) => refusal as u16,
         Ok(true) => COMPLETE,
         Ok(false) => INCOMPLETE,
     }
 }
 
+// Whether a table is complete, in that number.
+pub fn complete_code(words: &[u16], store: &[u8], key: Key) -> u16
+    ensures { result ≡ whole_lent words.now store.now key }
+{
+    whole_code_of(complete(words, store, key))
+}
+
 // Whether a table is held and complete: no refusal is a yes.
 pub fn is_complete(words: &[u16], store: &[u8], key: Key) -> bool
     ensures { result ≡ complete_lent words.now store.now key }
 {
-    complete(words, store, key) == Ok(true)
+    complete(words, store, key).unwrap_or(false)
 }
 
-// The lowest missing number of a table, in a number whose low 8 bits are the refusal.
-pub fn missing_code(words: &[u16], store: &[u8], key: Key) -> u32
-    ensures { result ≡ missing_lent words.now store.now key }
+// The lowest missing number of a table, as a number whose low 8 bits are the refusal.
+fn missing_code_of(answer: Result<Option<u8>, Refusal>) -> u32
+    ensures { result ≡ missing_code answer }
 {
-    match lowest_missing(words, store, key) {
+    match answer {
         Err(refusal) => refusal as u32,
         Ok(None) => NOTHING,
         Ok(Some(n)) => NUMBER + BIT_16 * u32::from(n),
     }
+}
+
+// The lowest missing number of a table, in that number.
+pub fn missing_code(words: &[u16], store: &[u8], key: Key) -> u32
+    ensures { result ≡ missing_lent words.now store.now key }
+{
+    missing_code_of(lowest_missing(words, store, key))
 }
 
 // Copies a section out, and answers its size from bit 8 up.

@@ -1,22 +1,27 @@
 -- `shelf_ask::complete` meets its promise.
-use mathlib.Core.Path.{sym, ◌∙◌}
-use Rattle.base.proofs.Tests.{told}
-use Rattle.shelf_ask.proofs.Held.{whole-refused, whole-lacks, whole-complete}
+use borrow.Author.Rules.{rules}
+use mathlib.Core.Path.{◌≡◌, sym, ◌∙◌}
+use lib.ListN.{length}
+use Rattle.std.specs.Prelude.{Ok}
+use Rattle.shelf.specs.Layout.{shelf_at}
+use Rattle.refusal.proofs.Numbers.{handed_on}
+use Rattle.shelf_ask.specs.Ask.{holding_of}
+use Rattle.shelf_ask.proofs.Held.{whole-refused, whole-by-gap}
 use Rattle.shelf_ask.proofs.Numbers.{last-read, last-low, gap-read}
 use Rattle.shelf_ask.proofs.complete.Goals as goal
 
-pub first_gap-requires : goal.first_gap-requires
-first_gap-requires c = last-low _ _ _ _ (told c.held_in-holding.ensures c.in-In.is) (c.wide-last.ensures ∙ c.last_of.ensures)
+pub returns-in_err-p : goal.returns-in_err-p
+returns-in_err-p c = handed_on c.from_residual.result c.from_residual.ensures.1 ∙ sym (whole-refused _ _ _ _ (search rules))
 
-pub returns-in-Refused : goal.returns-in-Refused
-returns-in-Refused c = sym (whole-refused _ _ _ _ (told c.held_in-holding.ensures c.in-Refused.is))
+pub first_gap-gap-requires : goal.first_gap-gap-requires
+first_gap-gap-requires c =
+    let a = c.args in
+    let e : holding_of (shelf_at a.words.now) (length a.store.now) a.key ≡ Ok c.in_ok-p.p = search rules in
+    last-low _ _ _ _ e (c.from-last.ensures ∙ c.last_of.ensures)
 
-pub returns-then-first_gap-last : goal.returns-then-first_gap-last
-returns-then-first_gap-last c = let e = (told c.held_in-holding.ensures c.in-In.is) in
-    let l = c.wide-last.ensures ∙ c.last_of.ensures in
-    sym (whole-lacks _ _ _ _ e _ (gap-read _ _ _ _ e c.mask_of.ensures l c.first_gap.ensures) (rw (← last-read _ _ _ _ e l) c.if-first_gap-last.true))
-
-pub returns-else-first_gap-last : goal.returns-else-first_gap-last
-returns-else-first_gap-last c = let e = (told c.held_in-holding.ensures c.in-In.is) in
-    let l = c.wide-last.ensures ∙ c.last_of.ensures in
-    sym (whole-complete _ _ _ _ e _ (gap-read _ _ _ _ e c.mask_of.ensures l c.first_gap.ensures) (rw (← last-read _ _ _ _ e l) c.if-first_gap-last.false))
+pub returns : goal.returns
+returns c =
+    let a = c.args in
+    let e : holding_of (shelf_at a.words.now) (length a.store.now) a.key ≡ Ok c.in_ok-p.p = search rules in
+    let l = c.from-last.ensures ∙ c.last_of.ensures in
+    whole-by-gap _ _ _ _ e (last-read _ _ _ _ e l) (gap-read _ _ _ _ e c.mask_of.ensures l c.first_gap-gap.ensures)
