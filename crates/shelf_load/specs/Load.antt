@@ -11,7 +11,7 @@ use Rattle.shelf.specs.Record.{Place}
 use Rattle.shelf.specs.Record.{Shelf}
 use Rattle.shelf.specs.Record.{key_of}
 use Rattle.file.specs.Scan.{scan_of}
-use Rattle.file.specs.declared.Scanned.{Scanned}
+use Rattle.file.specs.declared.Table.{Table}
 
 -- what a call leaves: the answer, the record, the store
 pub record After : Type 0 where
@@ -38,19 +38,19 @@ module _ (shelf : Shelf) (store file : List ℕ) where
   no r = record { said = Err r; shelf = shelf; store = store }
 
   -- 13, 9; else the lowest free place gets the table, and the berth of each of its sections that section and zeros
-  unfoldable pub table_of : Scanned → After
-  table_of scanned =
+  unfoldable pub table_of : Table → After
+  table_of table =
       first no
-      (KeyHeld if not (eqb (place_of shelf (key_of scanned.header)) places) ∷ NoFreePlace if eqb (free_of shelf) places ∷ [])
+      (KeyHeld if not (eqb (place_of shelf (key_of table.header)) places) ∷ NoFreePlace if eqb (free_of shelf) places ∷ [])
       (record {
         said = Ok tt;
-        shelf = with_place shelf (free_of shelf) (loaded_place scanned.header scanned.lengths);
-        store = stored_below sections file scanned.starts scanned.lengths store (free_of shelf);
+        shelf = with_place shelf (free_of shelf) (loaded_place table.header table.lengths);
+        store = stored_below sections file table.starts table.lengths store (free_of shelf);
       })
 
   -- the file's table, or its first fault from the left
-  abbrev pub answered : Result Scanned Refusal → After
-  answered (Ok scanned) = table_of scanned
+  abbrev pub answered : Result Table Refusal → After
+  answered (Ok table) = table_of table
   answered (Err r) = no r
 
   -- what a load leaves: 17, 18, then what the file says

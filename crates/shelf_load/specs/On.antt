@@ -7,7 +7,7 @@ use Rattle.shelf.specs.Record.{key_of, free_of}
 use Rattle.shelf.specs.Layout.{shelf_at}
 use Rattle.shelf_write.specs.Writes.{held_in, head_in}
 use Rattle.file.specs.Scan.{scan_of}
-use Rattle.file.specs.declared.Scanned.{Scanned}
+use Rattle.file.specs.declared.Table.{Table}
 use Rattle.shelf_load.specs.Load.{load_of}
 
 -- what a call leaves: the answer, the numbers, the store
@@ -31,13 +31,13 @@ abbrev pub loaded_in : List ℕ → ℕ → Header → List ℕ → List ℕ
 loaded_in words p h lengths = held_below sections (head_in words p (key_of h) h.version h.last) p lengths
 
 -- .. where it is loaded
-abbrev pub table_by : List ℕ → ℕ → Scanned → Result (Unit {0}) Refusal → List ℕ
-table_by words p scanned (Ok done) = loaded_in words p scanned.header scanned.lengths
-table_by words p scanned (Err r) = words
+abbrev pub table_by : List ℕ → ℕ → Table → Result (Unit {0}) Refusal → List ℕ
+table_by words p table (Ok done) = loaded_in words p table.header table.lengths
+table_by words p table (Err r) = words
 
 -- the numbers after a load of what a scan found
-abbrev pub words_by : List ℕ → ℕ → Result Scanned Refusal → Result (Unit {0}) Refusal → List ℕ
-words_by words p (Ok scanned) said = table_by words p scanned said
+abbrev pub words_by : List ℕ → ℕ → Result Table Refusal → Result (Unit {0}) Refusal → List ℕ
+words_by words p (Ok table) said = table_by words p table said
 words_by words p (Err r) said = words
 
 unfoldable pub load_on : List ℕ → List ℕ → List ℕ → Leaving

@@ -5,7 +5,7 @@ use Rattle.berth.specs.Berth.{berth_size, sections}
 use Rattle.berth.specs.Calls.{put_in}
 use Rattle.shelf.specs.Record.{free_of}
 use Rattle.shelf.specs.Layout.{shelf_at}
-use Rattle.file.specs.declared.Scanned.{Scanned}
+use Rattle.file.specs.declared.Table.{Table}
 use Rattle.shelf_load.specs.Load.{table_of}
 use Rattle.shelf_load.specs.On.{Leaving, leaving, table_by}
 
@@ -34,9 +34,9 @@ unfoldable pub each_stored : List ℕ → ℕ → List ℕ → List ℕ → List
 each_stored store p file starts lengths count = if ltb sections count then store else placed_below count store p file starts lengths
 
 -- the table of a file, loaded on lent numbers
-unfoldable pub table_on : List ℕ → List ℕ → List ℕ → Scanned → Leaving
-table_on words store file scanned =
+unfoldable pub table_on : List ℕ → List ℕ → List ℕ → Table → Leaving
+table_on words store file table =
     leaving
-    (table_of (shelf_at words) store file scanned).said
-    (table_by words (free_of (shelf_at words)) scanned (table_of (shelf_at words) store file scanned).said)
-    (table_of (shelf_at words) store file scanned).store
+    (table_of (shelf_at words) store file table).said
+    (table_by words (free_of (shelf_at words)) table (table_of (shelf_at words) store file table).said)
+    (table_of (shelf_at words) store file table).store

@@ -10,7 +10,7 @@ ghost use Rattle.answers.specs.Answers.{lent};
 ghost use Rattle.shelf_load.specs.Answer.{load_lent};
 
 use berth::{PLACES, SECTIONS, STORE};
-use file::Scanned;
+use file::Table;
 use refusal::Refusal;
 
 // Whether there is a section of that size which lies, from its start on, in a file of a length.
@@ -73,14 +73,14 @@ fn load_table(
     words: &mut [u16],
     store: &mut [u8],
     file: &[u8],
-    scanned: Scanned,
+    table: Table,
 ) -> Result<(), Refusal>
     requires words_len { (length words.old ≡ count) × (length store.old ≡ store_size) }
-    requires within { Within file.now scanned.starts scanned.lengths scanned.header.last }
+    requires within { Within file.now table.starts table.lengths table.header.last }
     ensures { leaving result words.new store.new
-        ≡ table_on words.old store.old file.now scanned }
+        ≡ table_on words.old store.old file.now table }
 {
-    let header = scanned.header;
+    let header = table.header;
     let key = header.key;
     if shelf::place_of(words, key) != PLACES {
         return Err(Refusal::KeyHeld);
@@ -89,8 +89,8 @@ fn load_table(
     if p == PLACES {
         return Err(Refusal::NoFreePlace);
     }
-    let starts = scanned.starts;
-    let lengths = scanned.lengths;
+    let starts = table.starts;
+    let lengths = table.lengths;
     let sections = usize::from(header.last) + 1;
     // The numbers come first, as with an offer.
     shelf_write::put_head(words, p, key, header.version, header.last);
@@ -111,8 +111,8 @@ pub fn load_file(words: &mut [u16], store: &mut [u8], file: &[u8]) -> Result<(),
         return Err(Refusal::ShelfSpoiled);
     }
     // The whole file is read before anything is written.
-    let scanned = file::read_file(file)?;
-    load_table(words, store, file, scanned)
+    let table = file::read_file(file)?;
+    load_table(words, store, file, table)
 }
 
 // Loads a file, and answers in a number: 0, or the refusal.
