@@ -5,26 +5,21 @@ ghost use Rattle.std.specs.Prelude.{◌≡◌};
 ghost use Rattle.answers.specs.Answers.{out as out_of};
 ghost use Rattle.file_table.specs.Answer.{file_table_lent};
 
-use file::Scan;
 use tables::Table;
 
 // Puts the numbers of the file's table at the front of the buffer, or answers the refusal.
 pub fn table_code(file: &[u8], fields: &mut [u16]) -> u8
     ensures { out_of result fields.new ≡ file_table_lent file.now fields.old }
 {
-    let scanned = file::read_file(file);
-    let answer = scanned.answer;
-    let lengths = scanned.lengths;
-    match answer {
-        Scan::Refused(n) => n,
-        Scan::Table(header) => {
-            let key = header.key;
-            let version = u16::from(header.version);
-            let last = u16::from(header.last);
+    match file::read_file(file) {
+        Err(refusal) => u8::from(refusal),
+        Ok(found) => {
+            let header = found.header;
+            let lengths = found.lengths;
             let table = Table {
-                key,
-                version,
-                last,
+                key: header.key,
+                version: u16::from(header.version),
+                last: u16::from(header.last),
                 lengths,
             };
             tables::put_table(table, fields)
