@@ -26,12 +26,13 @@ use Rattle.key.specs.declared.Key.{Key}
 use Rattle.shelf.specs.Record.{Place}
 use Rattle.shelf.specs.Record.{Shelf}
 use Rattle.shelf_ask.specs.Ask.{unasked, holding_of}
-use Rattle.shelf_ask.specs.declared.Holding.{Holding}
+use Rattle.std.specs.Prelude.{Ok, Err}
+use Rattle.refusal.specs.Refusal.{number_of}
+use Rattle.refusal.specs.declared.Refusal.{Refusal}
 use Rattle.shelf_ask.proofs.ExactlyWhen.{asked-table, asked-decided}
 use Rattle.shelf_ask.proofs.Held.{held}
 use Rattle.shelf_ask.proofs.Alike.{by-holding, holding-same}
-use Rattle.shelf_release.specs.Release.{After, number_of, release_of}
-use Rattle.shelf_release.specs.declared.Released.{Released}
+use Rattle.shelf_release.specs.Release.{After, release_of}
 use Rattle.shelf_release.proofs.Steps.{refuse, done, release-refused, release-done}
 
 module _ (shelf : Shelf) (store : List ℕ) (key : Key) where
@@ -55,16 +56,16 @@ module _ (shelf : Shelf) (store : List ℕ) (key : Key) where
   release-answered =
       silent (refuse shelf store key) (unasked shelf store key) (done shelf store key (place_of shelf key)) (asked-table shelf store key) (asked-decided shelf store key)
 
-  pub release-untouched : (number : ℕ) → (release_of shelf store key).said ≡ Released.Refused number
+  pub release-untouched : (r : Refusal) → (release_of shelf store key).said ≡ Err r
       → ((release_of shelf store key).shelf ≡ shelf) × ((release_of shelf store key).store ≡ store)
   unfolding release_of
-  release-untouched number e =
-      among (refuse shelf store key) (λ a. a.said ≡ Released.Refused number → (a.shelf ≡ shelf) × (a.store ≡ store))
+  release-untouched r e =
+      among (refuse shelf store key) (λ a. a.said ≡ Err r → (a.shelf ≡ shelf) × (a.store ≡ store))
       (unasked shelf store key) (done shelf store key (place_of shelf key))
       (λ _. (refl, refl), (λ _. (refl, refl), (λ _. (refl, refl), tt)))
       (λ b. let z : ◌≡◌ {A = ℕ} 0 1 = cc in absurd (omega arith)) e
 
-  module _ (p : ℕ) (e : holding_of shelf (length store) key ≡ Holding.In p) where
+  module _ (p : ℕ) (e : holding_of shelf (length store) key ≡ Ok p) where
     pub released-zeros : (n : ℕ) → n < sections → standing (release_of shelf store key).store p n berth_size ≡ zeros berth_size
     released-zeros n h =
         let w = held shelf (length store) key p e in

@@ -18,10 +18,10 @@ use Rattle.shelf_write.specs.Calls.{freed_put}
 use Rattle.shelf.proofs.Numbers.{spoiled-count}
 use Rattle.shelf_write.proofs.Lent.{freed-put, freed-lent}
 use Rattle.shelf_ask.specs.Ask.{holding_of}
-use Rattle.shelf_ask.specs.declared.Holding.{Holding}
+use Rattle.std.specs.Prelude.{Result, Ok, Err}
+use Rattle.refusal.specs.declared.Refusal.{Refusal}
 use Rattle.shelf_ask.proofs.Held.{held}
 use Rattle.shelf_ask.proofs.Alike.{by-holding}
-use Rattle.shelf_release.specs.declared.Released.{Released}
 use Rattle.shelf_release.specs.Release.{After, release_of}
 use Rattle.shelf_release.specs.On.{Leaving, leaving, words_by, release_on}
 use Rattle.shelf_release.proofs.Steps.{release-refused, release-done}
@@ -30,23 +30,23 @@ module _ (words store : List ℕ) (key : Key) where
   abbrev by_answer : After → Leaving
   by_answer a = leaving a.said (words_by words (place_of (shelf_at words) key) a.said) a.store
 
-  pub lent-refused : (n : ℕ) → holding_of (shelf_at words) (length store) key ≡ Holding.Refused n → leaving (Released.Refused n) words store ≡ release_on words store key
+  pub lent-refused : (r : Refusal) → holding_of (shelf_at words) (length store) key ≡ Err r → leaving (Err r) words store ≡ release_on words store key
   unfolding release_on
-  lent-refused n e = ap by_answer (sym (release-refused (shelf_at words) store key n e))
+  lent-refused r e = ap by_answer (sym (release-refused (shelf_at words) store key r e))
 
-  module _ (p : ℕ) (e : holding_of (shelf_at words) (length store) key ≡ Holding.In p) where
+  module _ (p : ℕ) (e : holding_of (shelf_at words) (length store) key ≡ Ok p) where
     pub lent-done :
         {left kept : List ℕ}
         → left ≡ wiped_where_in (λ _. true) store p
         → kept ≡ freed_put words p
-        → leaving Released.Done kept left ≡ release_on words store key
+        → leaving (Ok tt) kept left ≡ release_on words store key
     unfolding release_on
     lent-done w k =
         let h = held (shelf_at words) (length store) key p e in
         let a = w ∙ sym (wiped-where (λ _. true) store p (is-place (length store) p h.whole h.place)) in
         let b = k ∙ freed-put words (spoiled-count words h.sound) p h.place in
         rw (a, b)
-        (ap (λ q. leaving Released.Done (freed_in words q) (wiped_where (λ _. true) sections store p)) (sym h.at)
+        (ap (λ q. leaving (Ok tt) (freed_in words q) (wiped_where (λ _. true) sections store p)) (sym h.at)
         ∙ ap by_answer (sym (release-done (shelf_at words) store key p e)))
 
   pub release-said : (release_on words store key).said ≡ (release_of (shelf_at words) store key).said
@@ -67,7 +67,7 @@ module _ (words store : List ℕ) (key : Key) where
       (λ n e. rw (release-refused (shelf_at words) store key n e))
 
   pub release-unique :
-      (x y : Released)
+      (x y : Result (Unit {0}) Refusal)
       (held kept left stored : List ℕ)
       → leaving x held left ≡ release_on words store key
       → leaving y kept stored ≡ release_on words store key

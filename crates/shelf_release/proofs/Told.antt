@@ -8,12 +8,15 @@ use native.Mathlib.Omega.{arith}
 use borrow.Author.Tests.{ne_eqb}
 use Rattle.answers.specs.Answers.{lent}
 use Rattle.key.specs.declared.Key.{Key}
-use Rattle.shelf_release.specs.declared.Released.{Released}
+use Rattle.std.specs.Prelude.{Result, Ok, Err}
+use Rattle.refusal.specs.Refusal.{number}
+use Rattle.refusal.specs.declared.Refusal.{Refusal}
+use Rattle.refusal.proofs.Numbers.{in_byte, back}
 use Rattle.shelf_release.specs.On.{leaving, release_on}
 use Rattle.shelf_release.specs.Answer.{released_code, released_in, release_out, release_lent}
 
 pub told :
-    {said : Released}
+    {said : Result (Unit {0}) Refusal}
     {code : ℕ}
     {held left : List ℕ}
     (words store : List ℕ) (key : Key)
@@ -24,6 +27,6 @@ unfolding release_lent
 told words store key e q = rw q (ap release_out e)
 
 -- a refusal is not 0
-pub released-back : (r : Released) → ((n : ℕ) → r ≡ Released.Refused n → 0 < n) → released_in (released_code r) ≡ r
-released-back Released.Done h = refl
-released-back (Released.Refused n) h = let l : 0 < n = h n refl in rw (ne_eqb n 0 (λ z. omega arith))
+pub released-back : (r : Result (Unit {0}) Refusal) → released_in (released_code r) ≡ r
+released-back (Ok done) = refl
+released-back (Err r) = let l : 0 < number r = (in_byte r).0 in rw (ne_eqb (number r) 0 (λ z. omega arith)) (ap Err (back r))
