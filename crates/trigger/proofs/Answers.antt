@@ -8,7 +8,7 @@ use Rattle.trigger_faults.specs.Fields.{faults}
 use Rattle.trigger.specs.declared.Extent.{Extent}
 use Rattle.trigger.specs.declared.Target.{Target}
 use Rattle.trigger.specs.declared.Trigger.{Trigger}
-use Rattle.trigger.specs.declared.Answer.{Answer}
+use Rattle.std.specs.Prelude.{Ok, Err}
 use Rattle.trigger.specs.Trigger.{trigger_of, read_of}
 use Rattle.trigger.specs.Answer.{numbers_of, trigger_told, trigger_back, answer_back, NumbersBack, ReadingComesBack}
 
@@ -32,6 +32,6 @@ numbers_back t more = by-target t.idlength t.description t.id t.user more t.targ
 pub reading_comes_back : (s : List ℕ) → ReadingComesBack s
 unfolding read_of
 reading_comes_back s =
-    among Answer.Refused (λ a. answer_back (trigger_told a) ≡ a) (faults s) (Answer.Trigger (trigger_of s))
+    among Err (λ a. answer_back (trigger_told a) ≡ a) (faults s) (Ok (trigger_of s))
     (refl, (refl, (refl, (refl, (refl, (refl, (refl, (refl, (refl, (refl, (refl, (refl, (refl, tt)))))))))))))
-    (ap Answer.Trigger (ap trigger_back (sym (append-nil (numbers_of (trigger_of s)))) ∙ numbers_back (trigger_of s) []))
+    (ap Ok (ap trigger_back (sym (append-nil (numbers_of (trigger_of s)))) ∙ numbers_back (trigger_of s) []))

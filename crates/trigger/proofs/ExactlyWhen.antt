@@ -16,17 +16,19 @@ use Rattle.base.specs.Bytes.{byte, word}
 use Rattle.base.specs.Tables.{said, Agree, Decides}
 use Rattle.base.proofs.Tables.{words, less, same, not_so, and_so, passed, among}
 use Rattle.base.proofs.Below.{some-found, some-which}
-use Rattle.trigger.specs.declared.Answer.{Answer}
+use Rattle.refusal.specs.Refusal.{number, number_of}
+use Rattle.std.specs.Prelude.{Result, Ok, Err}
+use Rattle.refusal.specs.declared.Refusal.{Refusal}
 use Rattle.trigger_faults.specs.Fields.{wrong_length, is_uri, some_high, id_length, target_at, user_at, faults}
 use Rattle.trigger.specs.Trigger.{trigger_of, read_of}
-use Rattle.trigger.specs.Answer.{trigger_told}
+use Rattle.trigger.specs.declared.Trigger.{Trigger}
 use Rattle.trigger.specs.Theorems.{High, type_in, target_length, WrongLength, table, NoneBefore, refusal_of, Refused20, Refused21, Refused22, Refused23, Refused24, Refused25, Refused26, NotRefused, RefusedRange}
 use Rattle.trigger.specs.Repeats.{Given, alone}
 use Rattle.trigger.proofs.Repeats.{given_so, given-alone}
 
-abbrev TwentyOn : Answer → Type 0
-TwentyOn (Answer.Trigger t) = Unit {0}
-TwentyOn (Answer.Refused n) = (20 ≤ n) × (n ≤ 26)
+abbrev TwentyOn : Result Trigger Refusal → Type 0
+TwentyOn (Ok t) = Unit {0}
+TwentyOn (Err r) = (20 ≤ number r) × (number r ≤ 26)
 
 pub high-so : (s : List ℕ) (at n : ℕ) → Decides (some_high s at n) (High s at n)
 unfolding some_high
@@ -98,7 +100,7 @@ module _ (s : List ℕ) where
   exactly : (n : ℕ) → 0 < n → (refusal_of s ≡ n) ↔ Given n (table s)
   unfolding read_of
   exactly n p =
-      given_so Answer.Refused (λ a. (trigger_told a).number) (λ n. refl) (faults s) (Answer.Trigger (trigger_of s)) (table s) decided n (omega arith)
+      given_so Err number_of (λ r. refl) (faults s) (Ok (trigger_of s)) (table s) decided n (omega arith)
 
   once : (n : ℕ) → 0 < n → alone n (table s) ≡ true → (refusal_of s ≡ n) ↔ (NoneBefore s n × said n (table s))
   once n p a = Iff.trans (exactly n p) (given-alone n (table s) a)
@@ -128,9 +130,9 @@ module _ (s : List ℕ) where
   unfolding read_of
   not_refused =
       Iff.trans
-      (passed Answer.Refused (λ a. (trigger_told a).number) (λ n. refl) (faults s) (Answer.Trigger (trigger_of s)) (table s) decided 0 refl)
+      (passed Err number_of (λ r. refl) (faults s) (Ok (trigger_of s)) (table s) decided 0 refl)
       (λ w. w.0, λ n. (n, refl))
 
   pub refused_range : RefusedRange s
   unfolding read_of
-  refused_range n e = subst TwentyOn e (among Answer.Refused TwentyOn (faults s) (Answer.Trigger (trigger_of s)) (omega arith) tt)
+  refused_range r e = subst TwentyOn e (among Err TwentyOn (faults s) (Ok (trigger_of s)) (omega arith) tt)

@@ -12,7 +12,7 @@ use lib.ListN.{length}
 use Rattle.base.specs.Bytes.{byte, word}
 use Rattle.base.specs.Octets.{Octets}
 use Rattle.base.proofs.Bytes.{length_part, octets-part}
-use Rattle.trigger.specs.declared.Answer.{Answer}
+use Rattle.std.specs.Prelude.{Ok}
 use Rattle.trigger_faults.specs.Fields.{wrong_length, is_uri, id_length, target_at, user_at}
 use Rattle.trigger.specs.Trigger.{target_of, trigger_of, read_of}
 use Rattle.trigger.specs.Layout.{Application, Message, Fit, name_bytes, aim_type, aim_bytes, laid, bytes_of, answer_of}
@@ -141,10 +141,10 @@ module _ (m : Message) (f : Fit m) where
       laid-says (name_bytes m.application) (aim_type m.aim) (aim_bytes m.aim) m.user
       ∙ rw (name-fro m.application, aim-fro m.aim f.aim)
 
-  reads : read_of (bytes_of m) ≡ Answer.Trigger (answer_of m)
+  reads : read_of (bytes_of m) ≡ Ok (answer_of m)
   reads =
       clean-reads (bytes_of m) bytes-clean
-      ∙ ap Answer.Trigger (clean-answer (bytes_of m) bytes-clean ∙ ap answer_of says)
+      ∙ ap Ok (clean-answer (bytes_of m) bytes-clean ∙ ap answer_of says)
 
 pub bytes_say : (m : Message) → BytesSay m
 bytes_say = says
@@ -188,5 +188,5 @@ read_bytes s o t e =
 pub exactly : (s : List ℕ) → Exactly s
 exactly s o t = (
   λ e. let w = read_bytes s o t e in (message_of s, w.0, w.1, w.2),
-  λ w. ap read_of w.2 ∙ bytes_read w.0 w.1 ∙ ap Answer.Trigger (sym w.3),
+  λ w. ap read_of w.2 ∙ bytes_read w.0 w.1 ∙ ap Ok (sym w.3),
 )

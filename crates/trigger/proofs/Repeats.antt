@@ -8,13 +8,15 @@ use mathlib.Core.Logic.{◌↔◌, ⊎_elim, inl, inr}
 use Prim.Native.Nat.{ℕ}
 use lib.Dec.{eqb}
 use borrow.Author.Tests.{eqb-true, eqb-false}
+use Rattle.refusal.specs.Refusal.{number}
+use Rattle.refusal.specs.declared.Refusal.{Refusal}
 use Rattle.base.specs.Choice.{Row, first}
 use Rattle.base.specs.Tables.{Rule, None, above, said, Agree}
 use Rattle.base.proofs.Tables.{number-first, denied}
 use Rattle.base.proofs.Cases.{by, unlike, and_left, and_right}
 use Rattle.trigger.specs.Repeats.{Given, lacks, alone}
 
-numbers-so : (rs : List Row) (ws : List Rule) → Agree rs ws → (other n : ℕ) → (other ≡ n → ⊥) → (first (λ k. k) rs other ≡ n) ↔ Given n ws
+numbers-so : (rs : List Row) (ws : List Rule) → Agree rs ws → (other n : ℕ) → (other ≡ n → ⊥) → (first number rs other ≡ n) ↔ Given n ws
 numbers-so [] [] g other n o = (λ e. o e, λ h. absurd h)
 numbers-so [] (w ∷ ws) g other n o = absurd g
 numbers-so (r ∷ rs) [] g other n o = absurd g
@@ -34,7 +36,7 @@ numbers-so (r ∷ rs) (w ∷ ws) g other n o =
     (λ t. rw t (λ e. absurd (eqb-false _ _ y (sym g.0 ∙ e)), λ h. absurd (h.0 (g.1.0 t))))
     (λ f. rw f (λ e. (denied r.when g.1 f, rest.0 e), λ h. rest.1 h.1))))
 
-pub given_so : {A : Type 0} (refused : ℕ → A) (number_of : A → ℕ) → ((n : ℕ) → number_of (refused n) ≡ n)
+pub given_so : {A : Type 0} (refused : Refusal → A) (number_of : A → ℕ) → ((r : Refusal) → number_of (refused r) ≡ number r)
     → (rs : List Row) (other : A) (ws : List Rule) → Agree rs ws → (n : ℕ) → (number_of other ≡ n → ⊥)
     → (number_of (first refused rs other) ≡ n) ↔ Given n ws
 given_so refused number_of told rs other ws g n o =

@@ -1,10 +1,11 @@
 -- The number and the values of a trigger's reading: a number of refusal, and the eleven numbers that cross the boundary.
-use Rattle.std.specs.Prelude.{ℕ, ◌≡◌, List, [], ◌∷◌, ◌++◌, eqb, get_or, if◌then◌else◌}
+use Rattle.std.specs.Prelude.{ℕ, ◌≡◌, List, [], ◌∷◌, ◌++◌, eqb, get_or, if◌then◌else◌, Result, Ok, Err}
+use Rattle.refusal.specs.Refusal.{number, refusal_of}
+use Rattle.refusal.specs.declared.Refusal.{Refusal}
 use Rattle.answers.specs.Answers.{Told, told}
 use Rattle.trigger.specs.Trigger.{extent, read_of}
 use Rattle.trigger.specs.declared.Target.{Target}
 use Rattle.trigger.specs.declared.Trigger.{Trigger}
-use Rattle.trigger.specs.declared.Answer.{Answer}
 
 -- a target's kind, its type, and up to three numbers of it
 abbrev pub target_numbers : Target → List ℕ
@@ -23,9 +24,9 @@ numbers_of t =
     ∷ (target_numbers t.target ++ (t.user.place ∷ t.user.length ∷ []))
 
 -- a refusal has no values
-abbrev pub trigger_told : Answer → Told
-trigger_told (Answer.Trigger t) = told 0 (numbers_of t)
-trigger_told (Answer.Refused n) = told n []
+abbrev pub trigger_told : Result Trigger Refusal → Told
+trigger_told (Ok t) = told 0 (numbers_of t)
+trigger_told (Err r) = told (number r) []
 
 -- what a host takes out of the numbers
 abbrev pub target_back : ℕ → ℕ → ℕ → ℕ → ℕ → Target
@@ -48,8 +49,8 @@ trigger_back l =
       user = extent (get_or l 9 0) (get_or l 10 0);
     }
 
-abbrev pub answer_back : Told → Answer
-answer_back t = if eqb t.number 0 then Answer.Trigger (trigger_back t.values) else Answer.Refused t.number
+abbrev pub answer_back : Told → Result Trigger Refusal
+answer_back t = if eqb t.number 0 then Ok (trigger_back t.values) else Err (refusal_of t.number)
 
 -- each value comes back out of a trigger's numbers, whatever stands behind them
 abbrev pub NumbersBack : Type 0

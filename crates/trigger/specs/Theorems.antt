@@ -1,17 +1,17 @@
 -- What is proved of triggers, in words of the payload `s`: each is a theorem of `proofs/` by the same name in small letters.
-use Rattle.std.specs.Prelude.{ℕ, ◌+◌, ◌<◌, ◌≤◌, ◌≡◌, Bool, true, List, [], ◌∷◌, ◌↔◌, ◌⊎◌, length}
+use Rattle.std.specs.Prelude.{ℕ, ◌+◌, ◌<◌, ◌≤◌, ◌≡◌, Bool, true, List, [], ◌∷◌, ◌↔◌, ◌⊎◌, length, Result, Ok, Err}
+use Rattle.refusal.specs.Refusal.{number, number_of}
+use Rattle.refusal.specs.declared.Refusal.{Refusal}
 use Rattle.base.specs.Bytes.{byte, word, part}
 use Rattle.base.specs.Octets.{Octets}
 use Rattle.base.specs.Tables.{Rule, ◌says◌, None, above}
 use Rattle.trigger_faults.specs.Fields.{id_length, target_at, user_at}
 use Rattle.trigger.specs.Trigger.{read_of}
-use Rattle.trigger.specs.Answer.{trigger_told}
 use Rattle.trigger.specs.Belongs.{belongs_of}
 use Rattle.trigger.specs.Layout.{Application, Aim, Message, Fit, name_bytes, aim_bytes, bytes_of, answer_of}
 use Rattle.trigger.specs.Message.{message_of}
 use Rattle.trigger.specs.Places.{Placed}
 use Rattle.trigger.specs.Repeats.{Given}
-use Rattle.trigger.specs.declared.Answer.{Answer}
 use Rattle.trigger.specs.declared.Trigger.{Trigger}
 
 -- some byte of n from a place is above 127
@@ -79,7 +79,7 @@ module _ (s : List ℕ) where
 
   -- the number of the payload's reading
   abbrev pub refusal_of : ℕ
-  refusal_of = (trigger_told (read_of s)).number
+  refusal_of = number_of (read_of s)
 
   -- 20 stands in the table at each field's end: it is given exactly when a row of it is so, and none above that row
   abbrev pub Refused20 : Type 0
@@ -110,24 +110,24 @@ module _ (s : List ℕ) where
 
   -- no other number is given
   abbrev pub RefusedRange : Type 0
-  RefusedRange = (n : ℕ) → read_of s ≡ Answer.Refused n → (20 ≤ n) × (n ≤ 26)
+  RefusedRange = (r : Refusal) → read_of s ≡ Err r → (20 ≤ number r) × (number r ≤ 26)
 
   -- of bytes, what is read as a trigger is the bytes of one that fits, and the answer is that one's
   abbrev pub ReadBytes : Type 0
   ReadBytes =
-      Octets s → (t : Trigger) → read_of s ≡ Answer.Trigger t → Fit (message_of s) × (s ≡ bytes_of (message_of s)) × (t ≡ answer_of (message_of s))
+      Octets s → (t : Trigger) → read_of s ≡ Ok t → Fit (message_of s) × (s ≡ bytes_of (message_of s)) × (t ≡ answer_of (message_of s))
 
   -- a payload of bytes is read as a trigger exactly when it is the bytes of a message that fits, and the answer is that message's
   abbrev pub Exactly : Type 0
-  Exactly = Octets s → (t : Trigger) → (read_of s ≡ Answer.Trigger t) ↔ ((m : Message) × Fit m × (s ≡ bytes_of m) × (t ≡ answer_of m))
+  Exactly = Octets s → (t : Trigger) → (read_of s ≡ Ok t) ↔ ((m : Message) × Fit m × (s ≡ bytes_of m) × (t ≡ answer_of m))
 
   -- the places of every trigger that is read of bytes are true
   abbrev pub AllPlaced : Type 0
-  AllPlaced = Octets s → (t : Trigger) → read_of s ≡ Answer.Trigger t → Placed s t
+  AllPlaced = Octets s → (t : Trigger) → read_of s ≡ Ok t → Placed s t
 
   -- two answers that keep the promise of `trigger::read_trigger` are equal
   abbrev pub OneReading : Type 0
-  OneReading = (x y : Answer) → x ≡ read_of s → y ≡ read_of s → x ≡ y
+  OneReading = (x y : Result Trigger Refusal) → x ≡ read_of s → y ≡ read_of s → x ≡ y
 
   -- the bytes that a trigger names its application by
   abbrev pub name_shown : Trigger → List ℕ
@@ -142,7 +142,7 @@ module _ (s : List ℕ) where
 
     -- of a trigger that was read from the payload, which is of bytes
     abbrev pub ReadBelongs : Type 0
-    ReadBelongs = Octets s → read_of s ≡ Answer.Trigger t → (belongs_of s t id ≡ true) ↔ ((t.idlength ≡ 0) ⊎ (name_shown t ≡ id))
+    ReadBelongs = Octets s → read_of s ≡ Ok t → (belongs_of s t id ≡ true) ↔ ((t.idlength ≡ 0) ⊎ (name_shown t ≡ id))
 
     -- two answers that keep the promise of `trigger::belongs` are equal
     abbrev pub OneBelonging : Type 0
@@ -154,7 +154,7 @@ module _ (m : Message) where
   BytesSay = Fit m → message_of (bytes_of m) ≡ m
 
   abbrev pub BytesRead : Type 0
-  BytesRead = Fit m → read_of (bytes_of m) ≡ Answer.Trigger (answer_of m)
+  BytesRead = Fit m → read_of (bytes_of m) ≡ Ok (answer_of m)
 
   -- the places where the target's bytes and the user data begin, and what stands there
   abbrev pub aimed : ℕ

@@ -1,5 +1,6 @@
 -- Document 01, "A trigger" (A/93, clause 6): what a payload says, read as a trigger.
-use Rattle.std.specs.Prelude.{ℕ, ◌+◌, ◌-◌, List, eqb, if◌then◌else◌}
+use Rattle.std.specs.Prelude.{ℕ, ◌+◌, ◌-◌, List, eqb, if◌then◌else◌, Result, Ok, Err}
+use Rattle.refusal.specs.declared.Refusal.{Refusal}
 use Rattle.base.specs.Choice.{first}
 use Rattle.base.specs.Bytes.{byte, word}
 use Rattle.trigger_faults.specs.Fields.{id_length, target_at, user_at, faults}
@@ -7,7 +8,6 @@ use Rattle.trigger.specs.declared.Extent.{Extent}
 use Rattle.trigger.specs.declared.Module.{Module}
 use Rattle.trigger.specs.declared.Target.{Target}
 use Rattle.trigger.specs.declared.Trigger.{Trigger}
-use Rattle.trigger.specs.declared.Answer.{Answer}
 
 -- n bytes from a place
 abbrev pub extent : ℕ → ℕ → Extent
@@ -55,5 +55,5 @@ trigger_of s =
     }
 
 -- the first fault from the left, or the trigger
-unfoldable pub read_of : List ℕ → Answer
-read_of s = first Answer.Refused (faults s) (Answer.Trigger (trigger_of s))
+unfoldable pub read_of : List ℕ → Result Trigger Refusal
+read_of s = first Err (faults s) (Ok (trigger_of s))

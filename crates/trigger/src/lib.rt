@@ -2,29 +2,29 @@
 // application. Texts and bytes are answered as places in the payload, so nothing is copied.
 #![tactic(auto)]
 
-ghost use Rattle.std.specs.Prelude.{◌≡◌, ◌+◌, ◌≤◌, length};
+ghost use Rattle.std.specs.Prelude.{◌≡◌, ◌+◌, ◌≤◌, length, Ok};
 ghost use Rattle.base.specs.Bytes.{word, same};
-ghost use Rattle.trigger_faults.specs.Fields.{target_at, user_at};
-ghost use Rattle.trigger_faults.specs.Parts.{head_fault, target_fault, Sound};
+ghost use Rattle.trigger_faults.specs.Parts.{head_fault, target_fault, placed_in, Sound};
 ghost use Rattle.trigger.specs.Belongs.{belongs_of};
 ghost use Rattle.trigger.specs.Trigger.{description_of, id_of, module_of, target_of, trigger_of, read_of};
 
+use refusal::Refusal;
 use trigger_faults::{
-    ABSOLUTE_URI, HTTP_URI, LENGTH, LID_URI, MODULE, NAME_AT, Parts, TAP, TARGET_HEAD,
+    ABSOLUTE_URI, HTTP_URI, LENGTH, LID_URI, MODULE, NAME_AT, Placed, TAP, TARGET_HEAD, word_at,
 };
 
 // Where an application id begins, behind its description.
 const ID_AT: usize = 5;
 
 // Bytes of the payload, by place and length.
-#[derive(Drop)]
+#[derive(Clone, Copy, Debug, PartialEq, Eq)]
 pub struct Extent {
     pub place: usize,
     pub length: usize,
 }
 
 // A module's numbers: its download's, its group's and its own.
-#[derive(Drop)]
+#[derive(Clone, Copy, Debug, PartialEq, Eq)]
 pub struct Module {
     pub download: u16,
     pub group: u16,
@@ -32,13 +32,13 @@ pub struct Module {
 }
 
 // A target of a type that A/93 keeps for later.
-#[derive(Drop)]
+#[derive(Clone, Copy, Debug, PartialEq, Eq)]
 pub struct Reserved {
     pub kind: u8,
     pub bytes: Extent,
 }
 
-#[derive(Drop)]
+#[derive(Clone, Copy, Debug, PartialEq, Eq)]
 pub enum Target {
     None,
     Module(Module),
@@ -50,7 +50,7 @@ pub enum Target {
 }
 
 // What a trigger says. The application id's length is as it was read: 0 where the trigger is for every application.
-#[derive(Drop)]
+#[derive(Clone, Copy, Debug, PartialEq, Eq)]
 pub struct Trigger {
     pub idlength: u16,
     pub description: u16,
@@ -59,23 +59,9 @@ pub struct Trigger {
     pub user: Extent,
 }
 
-#[derive(Drop)]
-pub enum Answer {
-    Trigger(Trigger),
-    Refused(u8),
-}
-
-// The 16-bit number at a place.
-fn word_at(payload: &[u8], at: usize) -> u16
-    requires { at + 2 ≤ length payload.now }
-    ensures { result ≡ word payload.now at }
-{
-    (payload[at] as u16) * 256 + (payload[at + 1] as u16)
-}
-
 // The description of a payload whose application id has a length.
 fn description_of(payload: &[u8], given: u16) -> u16
-    requires { (head_fault payload.now ≡ 0) × (given ≡ word payload.now 1) }
+    requires { (head_fault payload.now ≡ Ok tt) × (given ≡ word payload.now 1) }
     ensures { result ≡ description_of payload.now }
 {
     if given == 0 {
@@ -119,7 +105,7 @@ fn module_at(payload: &[u8], at: usize) -> Module
 
 // The target whose type stands at a place.
 fn target_of(payload: &[u8], at: usize) -> Target
-    requires { target_fault payload.now at ≡ 0 }
+    requires { target_fault payload.now at ≡ Ok tt }
     ensures { result ≡ target_of payload.now at }
 {
     let kind = payload[at];
@@ -140,16 +126,16 @@ fn target_of(payload: &[u8], at: usize) -> Target
 }
 
 // The trigger that a payload without a fault is, by the places of its target's type and of its user data's length.
-fn trigger_of(payload: &[u8], at: usize, tail: usize) -> Trigger
-    requires { Sound payload.now × (at ≡ target_at payload.now) × (tail ≡ user_at payload.now) }
+fn trigger_of(payload: &[u8], placed: Placed) -> Trigger
+    requires { Sound payload.now × (placed ≡ placed_in payload.now) }
     ensures { result ≡ trigger_of payload.now }
 {
     let idlength = word_at(payload, 1);
     let description = description_of(payload, idlength);
     let id = id_of(idlength);
-    let target = target_of(payload, at);
-    let length = usize::from(word_at(payload, tail));
-    let place = tail + LENGTH;
+    let target = target_of(payload, placed.target);
+    let length = usize::from(word_at(payload, placed.user));
+    let place = placed.user + LENGTH;
     let user = Extent { place, length };
     Trigger {
         idlength,
@@ -161,14 +147,11 @@ fn trigger_of(payload: &[u8], at: usize, tail: usize) -> Trigger
 }
 
 // The trigger that a payload is, or the first fault from the left.
-pub fn read_trigger(payload: &[u8]) -> Answer
+pub fn read_trigger(payload: &[u8]) -> Result<Trigger, Refusal>
     ensures { result ≡ read_of payload.now }
 {
-    let parts = trigger_faults::parts_of(payload);
-    match parts {
-        Parts::Faulty(n) => Answer::Refused(n),
-        Parts::Placed(at, tail) => Answer::Trigger(trigger_of(payload, at, tail)),
-    }
+    let placed = trigger_faults::parts_of(payload)?;
+    Ok(trigger_of(payload, placed))
 }
 
 // Whether two runs of bytes are the same. All are looked at: a loop without an exit is one of wide steps.

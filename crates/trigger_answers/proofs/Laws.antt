@@ -12,19 +12,21 @@ use native.Mathlib.Omega.{arith}
 use lib.Dec.{ltb, leb, eqb}
 use lib.ListN.{length, drop, get_or, length-append}
 use borrow.Author.Tests.{lt-ltb, le-leb, lt-leb, leb-true, eq-eqb, ne_eqb, ltb-true, ltb-false}
+use Rattle.std.specs.Prelude.{Result, Ok, Err}
+use Rattle.refusal.specs.Refusal.{number}
+use Rattle.refusal.specs.declared.Refusal.{Refusal}
+use Rattle.refusal.proofs.Numbers.{in_byte}
 use Rattle.base.specs.Octets.{Octets}
 use Rattle.base.proofs.Cases.{by, and_left}
 use Rattle.answers.specs.Answers.{Out, out, puts}
 use Rattle.answers.proofs.Puts.{puts-untouched, puts-values}
 use Rattle.trigger.specs.declared.Target.{Target}
 use Rattle.trigger.specs.declared.Trigger.{Trigger}
-use Rattle.trigger.specs.declared.Answer.{Answer}
 use Rattle.trigger.specs.Trigger.{extent, read_of}
 use Rattle.trigger.specs.Belongs.{belongs_of}
 use Rattle.trigger.specs.Answer.{target_numbers, numbers_of, trigger_told, trigger_back}
 use Rattle.trigger.proofs.Answers.{numbers_back}
 use Rattle.trigger.proofs.Places.{all_placed}
-use Rattle.trigger.proofs.ExactlyWhen.{refused_range}
 use Rattle.trigger_answers.specs.Aim.{aim_of}
 use Rattle.trigger_answers.specs.Lent.{trigger_lent, can_be_read_by, belongs_lent, ReadUntouched, ReadAccepted, ReadComesBack, ByItsNumbers}
 
@@ -41,12 +43,12 @@ pub eleven : (t : Trigger) → length (numbers_of t) ≡ 11
 eleven t = rw (aim-numbers t.target)
 
 module _ (s fields : List ℕ) where
-  module _ (n : ℕ) (e : read_of s ≡ Answer.Refused n) where
-    pub lent-refused : out n fields ≡ trigger_lent s fields
+  module _ (r : Refusal) (e : read_of s ≡ Err r) where
+    pub lent-refused : out (number r) fields ≡ trigger_lent s fields
     unfolding trigger_lent
-    lent-refused = let low : 20 ≤ n = (refused_range s n e).0 in rw (e, ne_eqb n 0 (omega arith))
+    lent-refused = let low : 0 < number r = (in_byte r).0 in rw (e, ne_eqb (number r) 0 (omega arith))
 
-  module _ (t : Trigger) (e : read_of s ≡ Answer.Trigger t) where
+  module _ (t : Trigger) (e : read_of s ≡ Ok t) where
     pub lent-short : length fields < 11 → out 15 fields ≡ trigger_lent s fields
     unfolding trigger_lent
     lent-short h = rw (e, eleven t, lt-ltb (length fields) 11 h)
@@ -63,15 +65,15 @@ module _ (s fields : List ℕ) where
   left = trigger_lent s fields
 
   -- what is so of each way out is so of the call
-  each_way : (p : Out → Type 0) → ((n : ℕ) → 20 ≤ n → read_of s ≡ Answer.Refused n → p (out n fields))
-      → ((t : Trigger) → read_of s ≡ Answer.Trigger t → length fields < 11 → p (out 15 fields))
-      → ((t : Trigger) → read_of s ≡ Answer.Trigger t → 11 ≤ length fields → p (out 0 (numbers_of t ++ drop 11 fields)))
+  each_way : (p : Out → Type 0) → ((r : Refusal) → 0 < number r → read_of s ≡ Err r → p (out (number r) fields))
+      → ((t : Trigger) → read_of s ≡ Ok t → length fields < 11 → p (out 15 fields))
+      → ((t : Trigger) → read_of s ≡ Ok t → 11 ≤ length fields → p (out 0 (numbers_of t ++ drop 11 fields)))
       → p left
   each_way p a b c = go (read_of s) refl
     where
-      go : (r : Answer) → read_of s ≡ r → p left
-      go (Answer.Refused n) e = subst p (lent-refused n e) (a n (refused_range s n e).0 e)
-      go (Answer.Trigger t) e =
+      go : (x : Result Trigger Refusal) → read_of s ≡ x → p left
+      go (Err r) e = subst p (lent-refused r e) (a r (in_byte r).0 e)
+      go (Ok t) e =
           by (ltb (length fields) 11)
           (λ x. let h : length fields < 11 = ltb-true _ _ x in subst p (lent-short t e h) (b t e h))
           (λ x. let h : 11 ≤ length fields = ltb-false _ _ x in subst p (lent-put t e h refl) (c t e h))
@@ -82,7 +84,7 @@ module _ (s fields : List ℕ) where
 
   pub read_accepted : ReadAccepted s fields
   read_accepted = (
-    each_way (λ o. o.code ≡ 0 → ((t : Trigger) × (read_of s ≡ Answer.Trigger t)) × (11 ≤ length fields))
+    each_way (λ o. o.code ≡ 0 → ((t : Trigger) × (read_of s ≡ Ok t)) × (11 ≤ length fields))
         (λ n l e z. absurd (omega arith))
         (λ t e h z. absurd (omega arith))
         (λ t e h z. ((t, e), h)),
@@ -91,10 +93,10 @@ module _ (s fields : List ℕ) where
 
   pub read_comes_back : ReadComesBack s fields
   read_comes_back =
-      each_way (λ o. o.code ≡ 0 → read_of s ≡ Answer.Trigger (trigger_back o.out))
+      each_way (λ o. o.code ≡ 0 → read_of s ≡ Ok (trigger_back o.out))
       (λ n l e z. absurd (omega arith))
       (λ t e h z. absurd (omega arith))
-      (λ t e h z. e ∙ ap Answer.Trigger (sym (numbers_back t (drop 11 fields))))
+      (λ t e h z. e ∙ ap Ok (sym (numbers_back t (drop 11 fields))))
 
 -- the three ways out of `can_be_read`
 module _ (size : ℕ) (fields : List ℕ) where

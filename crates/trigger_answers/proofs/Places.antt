@@ -6,7 +6,7 @@ use Prim.Native.Nat.{ℕ, ◌+◌, ◌≤◌}
 use native.Mathlib.Omega.{arith}
 use lib.ListN.{length}
 use Rattle.base.specs.Octets.{Octets}
-use Rattle.trigger.specs.declared.Answer.{Answer}
+use Rattle.std.specs.Prelude.{Ok}
 use Rattle.trigger.specs.declared.Target.{Target}
 use Rattle.trigger.specs.declared.Trigger.{Trigger}
 use Rattle.trigger.specs.Trigger.{read_of}
@@ -24,7 +24,7 @@ narrow-target from to (Target.LidUri e) h l = (omega arith, omega arith)
 narrow-target from to (Target.HttpUri e) h l = (omega arith, omega arith)
 narrow-target from to (Target.Reserved r) h l = (omega arith, omega arith)
 
-pub narrow : (s : List ℕ) → Octets s → (t : Trigger) → read_of s ≡ Answer.Trigger t → NarrowTrigger t
+pub narrow : (s : List ℕ) → Octets s → (t : Trigger) → read_of s ≡ Ok t → NarrowTrigger t
 narrow s o t e =
     let p = all_placed s o t e in
     let small : length s ≤ 4096 = (reads-clean s t e).0.head.small in

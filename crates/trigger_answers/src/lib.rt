@@ -7,7 +7,8 @@ ghost use Rattle.trigger.specs.Answer.{numbers_of};
 ghost use Rattle.trigger_answers.specs.Aim.{aim_of, Narrow, NarrowTarget, NarrowTrigger};
 ghost use Rattle.trigger_answers.specs.Lent.{trigger_lent, can_be_read_by, belongs_lent};
 
-use trigger::{Answer, Extent, Target, Trigger};
+use refusal::Refusal;
+use trigger::{Extent, Target, Trigger};
 
 // How many numbers a trigger is answered in.
 const NUMBERS: usize = 11;
@@ -130,12 +131,11 @@ fn put(t: Trigger, fields: &mut [u16])
 pub fn trigger_read(payload: &[u8], fields: &mut [u16]) -> u8
     ensures { out_of result fields.new ≡ trigger_lent payload.now fields.old }
 {
-    let answer = trigger::read_trigger(payload);
-    match answer {
-        Answer::Refused(n) => n,
-        Answer::Trigger(t) => {
+    match trigger::read_trigger(payload) {
+        Err(refusal) => u8::from(refusal),
+        Ok(t) => {
             if fields.len() < NUMBERS {
-                return answers::OUTPUT_TOO_SMALL;
+                return Refusal::OutputTooSmall as u8;
             }
             put(t, fields);
             0

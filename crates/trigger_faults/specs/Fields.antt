@@ -1,6 +1,7 @@
 -- Document 01, "A trigger" (A/93, clause 6) and "Numbers of refusal": when each is given, field by field.
 -- A field's 20 precedes its rule; 23 precedes the target bytes' 20, and 24 follows it.
 use Rattle.std.specs.Prelude.{ℕ, ◌+◌, List, [], ◌∷◌, ◌++◌, Bool, not, ◌&&◌, ◌||◌, length, ltb, leb, eqb}
+use Rattle.refusal.specs.declared.Refusal.TheVariants.{TriggerCutOff, TriggerOtherEvent, TriggerForbiddenIdLength, TriggerWrongTargetLength, TriggerHighUriByte, TriggerBytesLeft, TriggerTooLong}
 use Rattle.base.specs.Choice.{Row, ◌if◌}
 use Rattle.base.specs.Bytes.{byte, word}
 use Rattle.base.specs.Below.{some}
@@ -27,29 +28,29 @@ some_high s at n = some n (λ k. ltb 127 (byte s (at + k)))
 -- 26; event type 8; application id length 16; description 16 and id, which that length counts
 abbrev pub head_faults : List ℕ → List Row
 head_faults s =
-    26 if ltb 4096 (length s)
-    ∷ 20 if cut s 1
-    ∷ 21 if not (eqb (byte s 0) 0)
-    ∷ 20 if cut s 3
-    ∷ 22 if eqb (word s 1) 1
-    ∷ 20 if cut s (3 + word s 1)
+    TriggerTooLong if ltb 4096 (length s)
+    ∷ TriggerCutOff if cut s 1
+    ∷ TriggerOtherEvent if not (eqb (byte s 0) 0)
+    ∷ TriggerCutOff if cut s 3
+    ∷ TriggerForbiddenIdLength if eqb (word s 1) 1
+    ∷ TriggerCutOff if cut s (3 + word s 1)
     ∷ []
 
 -- target type 8 and target length 16, from a place; target bytes
 abbrev pub target_faults : List ℕ → ℕ → List Row
 target_faults s at =
-    20 if cut s (at + 3)
-    ∷ 23 if wrong_length (byte s at) (word s (at + 1))
-    ∷ 20 if cut s (at + 3 + word s (at + 1))
-    ∷ 24 if (is_uri (byte s at) && some_high s (at + 3) (word s (at + 1)))
+    TriggerCutOff if cut s (at + 3)
+    ∷ TriggerWrongTargetLength if wrong_length (byte s at) (word s (at + 1))
+    ∷ TriggerCutOff if cut s (at + 3 + word s (at + 1))
+    ∷ TriggerHighUriByte if (is_uri (byte s at) && some_high s (at + 3) (word s (at + 1)))
     ∷ []
 
 -- user data length 16, from a place; user bytes; end
 abbrev pub user_faults : List ℕ → ℕ → List Row
 user_faults s at =
-    20 if cut s (at + 2)
-    ∷ 20 if cut s (at + 2 + word s at)
-    ∷ 25 if ltb (at + 2 + word s at) (length s)
+    TriggerCutOff if cut s (at + 2)
+    ∷ TriggerCutOff if cut s (at + 2 + word s at)
+    ∷ TriggerBytesLeft if ltb (at + 2 + word s at) (length s)
     ∷ []
 
 -- the application id's length; the places of the target's type and of the user data's length

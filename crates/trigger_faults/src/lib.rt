@@ -6,20 +6,7 @@ ghost use Rattle.base.specs.Bytes.{word};
 ghost use Rattle.trigger_faults.specs.Fields.{wrong_length, is_uri, some_high};
 ghost use Rattle.trigger_faults.specs.Parts.{head_fault, target_fault, user_fault, parts_of};
 
-// Refusals.
-const CUT_OFF: u8 = 20;
-
-const OTHER_EVENT: u8 = 21;
-
-const FORBIDDEN_ID_LENGTH: u8 = 22;
-
-const WRONG_TARGET_LENGTH: u8 = 23;
-
-const HIGH_URI_BYTE: u8 = 24;
-
-const BYTES_LEFT: u8 = 25;
-
-const TOO_LONG: u8 = 26;
+use refusal::Refusal;
 
 const LARGEST: usize = 4096;
 
@@ -52,20 +39,19 @@ pub const LID_URI: u8 = 4;
 
 pub const HTTP_URI: u8 = 5;
 
-#[derive(Drop)]
-pub enum Parts {
-    // The number of the first fault.
-    Faulty(u8),
-    // Where the target's type and where the user data's length stands, in a payload without a fault.
-    Placed(usize, usize),
+// Where the target's type and where the user data's length stands, in a payload without a fault.
+#[derive(Clone, Copy, Debug, PartialEq, Eq)]
+pub struct Placed {
+    pub target: usize,
+    pub user: usize,
 }
 
-// The 16-bit number at a place.
-fn word_at(payload: &[u8], at: usize) -> u16
+// The 16-bit number at a place, high byte first.
+pub fn word_at(payload: &[u8], at: usize) -> u16
     requires { at + 2 ≤ length payload.now }
     ensures { result ≡ word payload.now at }
 {
-    (payload[at] as u16) * 256 + (payload[at + 1] as u16)
+    u16::from_be_bytes([payload[at], payload[at + 1]])
 }
 
 // Whether a target type forbids a length.
@@ -106,97 +92,88 @@ fn is_high(payload: &[u8], at: usize, count: usize) -> bool
     high
 }
 
-// The fault of a payload up to its application id, or 0.
-fn head_fault(payload: &[u8]) -> u8
+// The first fault of a payload up to its application id, where one is.
+fn head_fault(payload: &[u8]) -> Result<(), Refusal>
     ensures { result ≡ head_fault payload.now }
 {
     let size = payload.len();
     if LARGEST < size {
-        return TOO_LONG;
+        return Err(Refusal::TriggerTooLong);
     }
     if size < 1 {
-        return CUT_OFF;
+        return Err(Refusal::TriggerCutOff);
     }
     if payload[0] != TRIGGER_EVENT {
-        return OTHER_EVENT;
+        return Err(Refusal::TriggerOtherEvent);
     }
     if size < NAME_AT {
-        return CUT_OFF;
+        return Err(Refusal::TriggerCutOff);
     }
     let length = usize::from(word_at(payload, 1));
     if length == 1 {
-        return FORBIDDEN_ID_LENGTH;
+        return Err(Refusal::TriggerForbiddenIdLength);
     }
     if size < NAME_AT + length {
-        return CUT_OFF;
+        return Err(Refusal::TriggerCutOff);
     }
-    0
+    Ok(())
 }
 
-// The fault of a target whose type stands at a place, or 0.
-fn target_fault(payload: &[u8], at: usize) -> u8
+// The first fault of a target whose type stands at a place, where one is.
+fn target_fault(payload: &[u8], at: usize) -> Result<(), Refusal>
     requires { at ≤ 65538 }
     ensures { result ≡ target_fault payload.now at }
 {
     let size = payload.len();
     if size < at + TARGET_HEAD {
-        return CUT_OFF;
+        return Err(Refusal::TriggerCutOff);
     }
     let kind = payload[at];
     let length = usize::from(word_at(payload, at + 1));
     let after = at + TARGET_HEAD + length;
     let wrong = is_wrong_length(kind, length);
     if wrong {
-        return WRONG_TARGET_LENGTH;
+        return Err(Refusal::TriggerWrongTargetLength);
     }
     if size < after {
-        return CUT_OFF; // in the target's bytes
+        return Err(Refusal::TriggerCutOff); // in the target's bytes
     }
     if is_uri(kind) {
         if is_high(payload, at + TARGET_HEAD, length) {
-            return HIGH_URI_BYTE;
+            return Err(Refusal::TriggerHighUriByte);
         }
     }
-    0
+    Ok(())
 }
 
-// The fault of user data whose length stands at a place, or 0.
-fn user_fault(payload: &[u8], at: usize) -> u8
+// The first fault of user data whose length stands at a place, where one is.
+fn user_fault(payload: &[u8], at: usize) -> Result<(), Refusal>
     requires { at ≤ 131076 }
     ensures { result ≡ user_fault payload.now at }
 {
     let size = payload.len();
     if size < at + LENGTH {
-        return CUT_OFF;
+        return Err(Refusal::TriggerCutOff);
     }
     let length = usize::from(word_at(payload, at));
     let end = at + LENGTH + length;
     if size < end {
-        return CUT_OFF;
+        return Err(Refusal::TriggerCutOff);
     }
     if end < size {
-        return BYTES_LEFT;
+        return Err(Refusal::TriggerBytesLeft);
     }
-    0
+    Ok(())
 }
 
 // The places of a payload's parts, or the first fault from the left.
-pub fn parts_of(payload: &[u8]) -> Parts
+pub fn parts_of(payload: &[u8]) -> Result<Placed, Refusal>
     ensures { result ≡ parts_of payload.now }
 {
-    let head = head_fault(payload);
-    if head != 0 {
-        return Parts::Faulty(head);
-    }
-    let at = NAME_AT + usize::from(word_at(payload, 1));
-    let aim = target_fault(payload, at);
-    if aim != 0 {
-        return Parts::Faulty(aim);
-    }
-    let tail = at + TARGET_HEAD + usize::from(word_at(payload, at + 1));
-    let left = user_fault(payload, tail);
-    if left != 0 {
-        return Parts::Faulty(left);
-    }
-    Parts::Placed(at, tail)
+    head_fault(payload)?;
+    let target = NAME_AT + usize::from(word_at(payload, 1));
+    target_fault(payload, target)?;
+    let user = target + TARGET_HEAD + usize::from(word_at(payload, target + 1));
+    user_fault(payload, user)?;
+    Ok(Placed { target, user })
 }

@@ -6,19 +6,19 @@ use Rattle.trigger_answers.proofs.Laws.{lent-refused, lent-short, lent-put}
 use Rattle.trigger_answers.proofs.trigger_read.Goals as goal
 
 pub returns-then-fields-lt-NUMBERS : goal.returns-then-fields-lt-NUMBERS
-returns-then-fields-lt-NUMBERS c = lent-short _ _ _ (sym c.in-Trigger.ensures) c.if-fields-lt-NUMBERS.true
+returns-then-fields-lt-NUMBERS c = lent-short _ _ _ (sym c.in-Ok.ensures) c.if-fields-lt-NUMBERS.true
 
 pub put-requires : goal.put-requires
 put-requires c = (
   narrow c.args.payload.now (λ k. omega (arith, c.type_inv.payload k)) _
-      (sym c.in-Trigger.ensures),
+      (sym c.in-Ok.ensures),
   c.if-fields-lt-NUMBERS.false,
 )
 
-pub returns-in-Refused : goal.returns-in-Refused
-returns-in-Refused c = lent-refused _ _ _ (sym c.in-Refused.ensures)
+pub returns-in-Err : goal.returns-in-Err
+returns-in-Err c = rw c.from.ensures (lent-refused _ _ _ (sym c.in-Err.ensures))
 
 pub returns-else-fields-lt-NUMBERS : goal.returns-else-fields-lt-NUMBERS
-returns-else-fields-lt-NUMBERS c = lent-put _ _ _ (sym c.in-Trigger.ensures)
+returns-else-fields-lt-NUMBERS c = lent-put _ _ _ (sym c.in-Ok.ensures)
     c.if-fields-lt-NUMBERS.false
     c.put.ensures

@@ -1,7 +1,8 @@
 -- `trigger_faults::target_fault` meets its contract: at each return the tests that led there decide the row. Assumes nothing.
-use mathlib.Core.Path.{◌≡◌, ◌∙◌}
+use mathlib.Core.Path.{◌≡◌}
 use Prim.Native.Nat.{◌+◌}
 use Rattle.base.specs.Bytes.{word}
+use borrow.Author.Rules.{rules}
 use Rattle.base.proofs.Tests.{tests}
 use Rattle.trigger_faults.specs.Parts.{target_fault}
 use Rattle.trigger_faults.proofs.target_fault.Goals as goal
@@ -12,25 +13,25 @@ returns-then-size-at c = search tests
 
 pub returns-then-wrong : goal.returns-then-wrong
 unfolding target_fault
-returns-then-wrong c = let given : c.wide-length.result ≡ word c.args.payload.now (c.args.at + 1) = c.wide-length.ensures ∙ c.word_at.ensures in
+returns-then-wrong c = let given : c.from-length.result ≡ word c.args.payload.now (c.args.at + 1) = search rules in
     rw (← given, ← c.is_wrong_length-wrong.ensures, c.if-wrong.true) (search tests)
 
 pub returns-then-size-after : goal.returns-then-size-after
 unfolding target_fault
-returns-then-size-after c = let given : c.wide-length.result ≡ word c.args.payload.now (c.args.at + 1) = c.wide-length.ensures ∙ c.word_at.ensures in
+returns-then-size-after c = let given : c.from-length.result ≡ word c.args.payload.now (c.args.at + 1) = search rules in
     rw (← given, ← c.is_wrong_length-wrong.ensures, c.if-wrong.false) (search tests)
 
 pub returns-then-is_high : goal.returns-then-is_high
 unfolding target_fault
-returns-then-is_high c = let given : c.wide-length.result ≡ word c.args.payload.now (c.args.at + 1) = c.wide-length.ensures ∙ c.word_at.ensures in
+returns-then-is_high c = let given : c.from-length.result ≡ word c.args.payload.now (c.args.at + 1) = search rules in
     rw (← given, ← c.is_wrong_length-wrong.ensures, c.if-wrong.false, ← c.is_uri.ensures, c.if-is_uri.true, ← c.is_high.ensures, c.if-is_high.true) (search tests)
 
 pub returns-else-is_high : goal.returns-else-is_high
 unfolding target_fault
-returns-else-is_high c = let given : c.wide-length.result ≡ word c.args.payload.now (c.args.at + 1) = c.wide-length.ensures ∙ c.word_at.ensures in
+returns-else-is_high c = let given : c.from-length.result ≡ word c.args.payload.now (c.args.at + 1) = search rules in
     rw (← given, ← c.is_wrong_length-wrong.ensures, c.if-wrong.false, ← c.is_uri.ensures, c.if-is_uri.true, ← c.is_high.ensures, c.if-is_high.false) (search tests)
 
 pub returns-else-is_uri : goal.returns-else-is_uri
 unfolding target_fault
-returns-else-is_uri c = let given : c.wide-length.result ≡ word c.args.payload.now (c.args.at + 1) = c.wide-length.ensures ∙ c.word_at.ensures in
+returns-else-is_uri c = let given : c.from-length.result ≡ word c.args.payload.now (c.args.at + 1) = search rules in
     rw (← given, ← c.is_wrong_length-wrong.ensures, c.if-wrong.false, ← c.is_uri.ensures, c.if-is_uri.false) (search tests)
