@@ -1,13 +1,14 @@
 -- What the steps of the code come to.
 --   same-other       runs of two lengths are not the same
---   filled, wiped-back, put_back, viewed          a part is filled, comes back to the store, is looked at
---   has-place, has-berth, is-place, is-berth      what the tests for a place and for a berth say
---   wiped-done, put-done, stands-done, copied-done, seen-length      a call that names a berth
+--   wiped-back, put_back                          a part comes back to the store
+--   has-place, began, nowhere, is-place, is-berth    what the tests for a place and for a berth say
+--   wiped-done, put-done, stands-done, copied-done   a call that names a berth
 --   put-long, put-nowhere, wiped-nowhere, stands-long, stands-nowhere, copied-long, copied-narrow, copied-nowhere    one that does not
---   wiped-none, wiped-one, wiped-skipped, wiped-end, wiped-where, wiped-nothing, wiped-whole, wiped-each    the berths of a place
+--   so_far-none, so_far-one, so_far-skipped, so_far-all, wiped-where, wiped-nothing, wiped-whole, placeless, wiped-each    the berths of a place
+use Rattle.std.specs.Prelude.{Option, Some, None, if◌then◌else◌}
 use mathlib.Core.Path.{◌≡◌, refl, sym, ap, ◌∙◌}
 use mathlib.Core.Bool.{Bool, true, false, ◌&&◌}
-use mathlib.Core.List.{List, ◌++◌, append-nil}
+use mathlib.Core.List.{List, ◌++◌}
 use Prim.Native.Nat.{ℕ, zero, suc, ◌+◌, ◌-◌, ◌*◌, ◌≤◌, ◌<◌}
 use native.Mathlib.Omega.{arith}
 use native.Mathlib.Numerals.{add-one}
@@ -15,22 +16,16 @@ use lib.Dec.{eqb, ltb, leb}
 use borrow.Rule.Slice.PartMut.{mid_of, put_mid, mid_len}
 use lib.Seq.{drop-drop}
 use Rattle.berth.specs.Berth.{berth_size, store_size, places, sections, begins_at, laid, padded, put, wiped, wiped_where, standing}
-use Rattle.berth.specs.Calls.{is_place, is_berth, goes_in, put_in, wiped_in, wiped_where_in, stands_in, copied_in}
-use Rattle.berth.proofs.Berths.{standing-length, where-same}
+use Rattle.berth.specs.Calls.{is_place, is_berth, goes_in, begin_in, put_in, wiped_in, wiped_where_in, stands_in, copied_in}
+use Rattle.berth.proofs.Berths.{where-length, where-same}
 use Rattle.berth.proofs.Laid.{zeros-length, zeros-add, laid-length, laid_none, laid_beside}
-use lib.ListN.{length, drop, replicate, drop_of_length-le}
+use lib.ListN.{length, drop}
 use borrow.Author.Tests.{eq-eqb, ne_eqb, eqb-true, ltb-true, lt-ltb, le-leb, lt-leb}
 use Rattle.base.specs.Bytes.{part, same, zeros}
 use Rattle.base.specs.Below.{every}
 use Rattle.base.specs.Bits.{bit}
-use Rattle.base.proofs.Cases.{by, and_left, and_right}
+use Rattle.base.proofs.Cases.{by, unlike, and_left, and_right}
 use Rattle.base.proofs.Below.{every-each}
-
-pub filled : (whole now : List ℕ) (i : ℕ) → i ≤ length whole → length whole ≤ i → now ≡ replicate i 0 ++ drop i whole → now ≡ zeros (length whole)
-unfolding zeros
-filled whole now i h l e =
-    let n : i ≡ length whole = omega arith in
-    e ∙ ap (λ t. replicate i 0 ++ t) (drop_of_length-le whole l) ∙ append-nil _ ∙ ap (λ k. replicate k 0) n
 
 module _ (a b : List ℕ) where
   pub same-other : (length a ≡ length b → ⊥) → false ≡ same a b
@@ -53,19 +48,15 @@ module _ (old : List ℕ) (from size : ℕ) (h : from + size ≤ length old) whe
   -- the section, and then the zeros after it
   module _ (section : List ℕ) (l : length section ≤ size) where
     pub put_back : (copied rest : List ℕ)
-        → copied ≡ section ++ drop (length section) (mid_of from (from + length section - from) old)
+        → copied ≡ section
         → rest ≡ zeros (length (mid_of (from + length section) (from + size - (from + length section)) (put_mid from (from + length section - from) old copied)))
         → put_mid (from + length section) (from + size - (from + length section)) (put_mid from (from + length section - from) old copied) rest
         ≡ laid old from (padded size section)
     unfolding padded
-    put_back copied rest e f =
+    put_back copied rest c f =
         let at = from + length section in
         let end = from + size in
         let first = put_mid from (at - from) old copied in
-        let a : length (mid_of from (at - from) old) ≡ at - from = mid_len from at old (omega arith) in
-        let c : copied ≡ section =
-        e ∙ ap (λ t. section ++ t) (drop_of_length-le (mid_of from (at - from) old) {i = length section} (omega arith))
-        ∙ append-nil section in
         let k : length section ≡ at - from = omega arith in
         let m : first ≡ laid old from section =
         lent_back old from at copied (omega arith) (ap length c ∙ k) ∙ ap (laid old from) c in
@@ -81,35 +72,38 @@ and_none : (a : Bool) → a && false ≡ false
 and_none true = refl
 and_none false = refl
 
--- what the test for a place says, and the test for a berth
-pub record HasPlace (size p : ℕ) : Type 0 where
-  pub whole : size ≡ store_size
-  pub place : p < places
-
-pub record HasBerth (size p n : ℕ) : Type 0 where
+-- what is so of a berth that a store has, which begins at a place
+pub record Began (size p n from : ℕ) : Type 0 where
   pub whole : size ≡ store_size
   pub place : p < places
   pub number : n < sections
+  pub at : from ≡ begins_at berth_size p n
+  pub room : from + berth_size ≤ size
 
-pub has-place : {r : Bool} {size p : ℕ} → r ≡ is_place size p → r ≡ true → HasPlace size p
+pub has-place : {size p : ℕ} → is_place size p ≡ true → (size ≡ store_size) × (p < places)
 unfolding is_place
-has-place {r} {size} {p} e t =
-    let a : is_place size p ≡ true = sym e ∙ t in
-    record {
-      whole = eqb-true _ _ (and_left (eqb size store_size) (ltb p places) a);
-      place = ltb-true _ _ (and_right (eqb size store_size) (ltb p places) a);
-    }
+has-place {size} {p} e = (eqb-true _ _ (and_left (eqb size store_size) (ltb p places) e), ltb-true _ _ (and_right (eqb size store_size) (ltb p places) e))
 
-pub has-berth : {r : Bool} {size p n : ℕ} → r ≡ is_berth size p n → r ≡ true → HasBerth size p n
-unfolding is_berth
-has-berth {r} {size} {p} {n} e t =
-    let b : is_berth size p n ≡ true = sym e ∙ t in
-    let a : HasPlace size p = has-place {r = true} (sym (and_left (is_place size p) (ltb n sections) b)) refl in
-    record {
-      whole = a.whole;
-      place = a.place;
-      number = ltb-true _ _ (and_right (is_place size p) (ltb n sections) b);
-    }
+pub began : {size p n from : ℕ} → Some from ≡ begin_in size p n → Began size p n from
+unfolding begin_in is_berth
+began {size} {p} {n} {from} e =
+    by (is_berth size p n)
+    (λ t.
+    let q : Some from ≡ Some (begins_at berth_size p n) = rw t at e in
+    let at : from ≡ begins_at berth_size p n = cc in
+    let a = has-place (and_left (is_place size p) (ltb n sections) t) in
+    let whole : size ≡ store_size = a.0 in
+    let place : p < places = a.1 in
+    let number : n < sections = ltb-true _ _ (and_right (is_place size p) (ltb n sections) t) in
+    record { whole = whole; place = place; number = number; at = at; room = omega arith })
+    (λ t. let q : Some from ≡ None = rw t at e in cc)
+
+pub nowhere : (size p n : ℕ) → None ≡ begin_in size p n → is_berth size p n ≡ false
+unfolding begin_in
+nowhere size p n e =
+    by (is_berth size p n)
+    (λ t. let q : ◌≡◌ {A = Option ℕ} None (Some (begins_at berth_size p n)) = rw t at e in cc)
+    (λ t. t)
 
 pub is-place : (size p : ℕ) → size ≡ store_size → p < places → is_place size p ≡ true
 unfolding is_place
@@ -119,36 +113,31 @@ pub is-berth : (size p n : ℕ) → size ≡ store_size → p < places → n < s
 unfolding is_berth
 is-berth size p n e h l = rw (is-place size p e h, lt-ltb n sections l)
 
-pub viewed : (store : List ℕ) (p n count from : ℕ) → from ≡ begins_at berth_size p n → part store from (from + count - from) ≡ standing store p n count
-unfolding standing
-viewed store p n count from at = let k : from + count - from ≡ count = omega arith in rw (k, at)
-
 -- a call that names a berth
-module _ (store : List ℕ) (p n : ℕ) (b : is_berth (length store) p n ≡ true) where
-  module _ (from : ℕ) (at : from ≡ begins_at berth_size p n) where
-    pub wiped-done : laid store from (zeros berth_size) ≡ wiped_in store p n
-    unfolding wiped_in wiped
-    wiped-done = rw (at, b)
+module _ (store : List ℕ) (p n from : ℕ) (w : Began (length store) p n from) where
+  named : is_berth (length store) p n ≡ true
+  named = is-berth (length store) p n w.whole w.place w.number
 
-    pub put-done : (section : List ℕ) → length section ≤ berth_size → laid store from (padded berth_size section) ≡ put_in store p n section
-    unfolding put_in put goes_in
-    put-done section h = rw (at, b, le-leb _ _ h)
+  pub wiped-done : laid store from (zeros berth_size) ≡ wiped_in store p n
+  unfolding wiped_in wiped
+  wiped-done = rw (w.at, named)
 
-  module _ (count : ℕ) (h : count ≤ berth_size) (seen : List ℕ) (v : seen ≡ standing store p n count) where
-    pub seen-length : length seen ≡ count
-    seen-length =
-        let w : HasBerth (length store) p n = has-berth (sym b) refl in
-        ap length v ∙ standing-length store w.whole p n w.place w.number count h
+  pub put-done : (section : List ℕ) → length section ≤ berth_size → laid store from (padded berth_size section) ≡ put_in store p n section
+  unfolding put_in put goes_in
+  put-done section h = rw (w.at, named, le-leb _ _ h)
 
-    pub stands-done : (section : List ℕ) → same seen section ≡ stands_in store p n count section
+  module _ (count : ℕ) (h : count ≤ berth_size) where
+    seen : part store from (from + count - from) ≡ standing store p n count
+    unfolding standing
+    seen = let k : from + count - from ≡ count = omega arith in rw (k, w.at)
+
+    pub stands-done : (section : List ℕ) → same (part store from (from + count - from)) section ≡ stands_in store p n count section
     unfolding stands_in goes_in
-    stands-done section = rw (v, b, le-leb _ _ h)
+    stands-done section = rw (seen, named, le-leb _ _ h)
 
-    pub copied-done : (out : List ℕ) → count ≤ length out → seen ++ drop (length seen) out ≡ copied_in store p n count out
+    pub copied-done : (out : List ℕ) → count ≤ length out → part store from (from + count - from) ++ drop count out ≡ copied_in store p n count out
     unfolding copied_in goes_in
-    copied-done out l =
-        ap (λ t. seen ++ drop t out) seen-length
-        ∙ rw (v, b, le-leb _ _ h, le-leb _ _ l)
+    copied-done out l = rw (seen, named, le-leb _ _ h, le-leb _ _ l)
 
 -- a call that names none, or brings too much
 module _ (store : List ℕ) (p n : ℕ) where
@@ -189,22 +178,6 @@ module _ (store : List ℕ) (p n : ℕ) where
 
 -- the berths of a place that a test picks, one by one
 module _ (picks : ℕ → Bool) (old : List ℕ) (p : ℕ) where
-  pub wiped-none : old ≡ wiped_where picks 0 old p
-  unfolding wiped_where
-  wiped-none = refl
-
-  pub wiped-one : (store : List ℕ) (k : ℕ) → is_berth (length store) p k ≡ true → picks k ≡ true → store ≡ wiped_where picks k old p
-      → wiped_in store p k ≡ wiped_where picks (k + 1) old p
-  unfolding wiped_where wiped_in
-  wiped-one store k b t e = rw (add-one, t, b) (ap (λ s. wiped s p k) e)
-
-  pub wiped-skipped : (store : List ℕ) (k : ℕ) → picks k ≡ false → store ≡ wiped_where picks k old p → store ≡ wiped_where picks (k + 1) old p
-  unfolding wiped_where
-  wiped-skipped store k t e = rw (add-one, t) e
-
-  pub wiped-end : (store : List ℕ) (k : ℕ) → k ≡ sections → store ≡ wiped_where picks k old p → store ≡ wiped_where picks sections old p
-  wiped-end store k e q = q ∙ ap (λ n. wiped_where picks n old p) e
-
   pub wiped-where : is_place (length old) p ≡ true → wiped_where picks sections old p ≡ wiped_where_in picks old p
   unfolding wiped_where_in
   wiped-where e = rw e
@@ -212,6 +185,33 @@ module _ (picks : ℕ → Bool) (old : List ℕ) (p : ℕ) where
   pub wiped-nothing : is_place (length old) p ≡ false → wiped_where_in picks old p ≡ old
   unfolding wiped_where_in
   wiped-nothing e = rw e
+
+  -- .. of a store that is whole and has the place; of another, nothing
+  unfoldable pub wiped_so_far : ℕ → List ℕ
+  wiped_so_far k = if is_place (length old) p then wiped_where picks k old p else old
+
+  pub so_far-none : old ≡ wiped_so_far 0
+  unfolding wiped_so_far wiped_where
+  so_far-none = by (is_place (length old) p) (λ t. rw t) (λ t. rw t)
+
+  pub so_far-one : (store : List ℕ) (k : ℕ) → k < sections → picks k ≡ true → store ≡ wiped_so_far k → wiped_in store p k ≡ wiped_so_far (k + 1)
+  unfolding wiped_so_far wiped_where wiped_in is_berth
+  so_far-one store k h t e =
+      by (is_place (length old) p)
+      (λ y.
+      let whole = has-place y in
+      let q : store ≡ wiped_where picks k old p = rw y at e in
+      let long : length store ≡ length old = ap length q ∙ where-length picks old whole.0 p whole.1 k (omega arith) ∙ sym whole.0 in
+      rw (y, long, y, lt-ltb k sections h, add-one, t) (ap (λ s. wiped s p k) q))
+      (λ y. let q : store ≡ old = rw y at e in rw (y, q, y))
+
+  pub so_far-skipped : (store : List ℕ) (k : ℕ) → picks k ≡ false → store ≡ wiped_so_far k → store ≡ wiped_so_far (k + 1)
+  unfolding wiped_so_far wiped_where
+  so_far-skipped store k t e = by (is_place (length old) p) (λ y. rw (y, add-one, t) (rw y at e)) (λ y. rw y (rw y at e))
+
+  pub so_far-all : (store : List ℕ) (k : ℕ) → k ≡ sections → store ≡ wiped_so_far k → store ≡ wiped_where_in picks old p
+  unfolding wiped_so_far wiped_where_in
+  so_far-all store k q e = e ∙ ap wiped_so_far q
 
 -- all of the first k berths at once
 wiped-all : (store : List ℕ) (p k : ℕ) → length store ≡ store_size → p < places → k ≤ sections
@@ -228,13 +228,17 @@ wiped-all store p (suc k) e h l =
     ∙ ap (laid store at) (zeros-add (berth_size * k) berth_size ∙ ap zeros m)
 
 -- .. from where the first of them begins
-pub wiped-whole : (store : List ℕ) (p from : ℕ) → from ≡ begins_at berth_size p 0 → is_place (length store) p ≡ true
+pub wiped-whole : (store : List ℕ) (p from : ℕ) → Began (length store) p 0 from
     → laid store from (zeros (berth_size * sections)) ≡ wiped_where_in (λ _. true) store p
-wiped-whole store p from at e =
-    let b : HasPlace (length store) p = has-place (sym e) refl in
-    ap (λ t. laid store t (zeros (berth_size * sections))) at
+wiped-whole store p from b =
+    ap (λ t. laid store t (zeros (berth_size * sections))) b.at
     ∙ sym (wiped-all store p sections b.whole b.place (omega arith))
-    ∙ wiped-where (λ _. true) store p e
+    ∙ wiped-where (λ _. true) store p (is-place (length store) p b.whole b.place)
+
+-- a store that has no first berth of a place does not have the place
+pub placeless : (size p : ℕ) → is_berth size p 0 ≡ false → is_place size p ≡ false
+unfolding is_berth
+placeless size p e = by (is_place size p) (λ t. let q : true ≡ false = rw t at e in absurd (unlike q)) (λ t. t)
 
 each_set : every sections (bit 65535) ≡ true
 unfolding every

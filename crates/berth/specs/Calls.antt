@@ -1,7 +1,7 @@
 -- What this layer's calls do, on any store and any numbers: a call that names no berth of a whole store changes nothing.
-use Rattle.std.specs.Prelude.{ℕ, List, ◌++◌, Bool, ◌&&◌, ltb, leb, eqb, length, drop, if◌then◌else◌}
+use Rattle.std.specs.Prelude.{ℕ, List, ◌++◌, Bool, ◌&&◌, ltb, leb, eqb, length, drop, if◌then◌else◌, Option, Some, None}
 use Rattle.base.specs.Bytes.{same}
-use Rattle.berth.specs.Berth.{berth_size, places, sections, store_size, put, wiped, wiped_where, standing}
+use Rattle.berth.specs.Berth.{berth_size, places, sections, store_size, begins_at, put, wiped, wiped_where, standing}
 
 -- a store of that size is whole, and has place p
 unfoldable pub is_place : ℕ → ℕ → Bool
@@ -10,6 +10,10 @@ is_place size p = eqb size store_size && ltb p places
 -- .. and in it berth n
 unfoldable pub is_berth : ℕ → ℕ → ℕ → Bool
 is_berth size p n = is_place size p && ltb n sections
+
+-- where that begins
+unfoldable pub begin_in : ℕ → ℕ → ℕ → Option ℕ
+begin_in size p n = if is_berth size p n then Some (begins_at berth_size p n) else None
 
 -- .. and so many bytes go into it
 unfoldable pub goes_in : ℕ → ℕ → ℕ → ℕ → Bool

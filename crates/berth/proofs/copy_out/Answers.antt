@@ -1,9 +1,10 @@
 -- `berth::copy_out` meets its promise.
-use mathlib.Core.Path.{sym, ◌∙◌}
+use mathlib.Core.Path.{sym, ap, ◌∙◌}
+use mathlib.Core.List.{◌++◌}
 use native.Mathlib.Omega.{arith}
-use Rattle.base.proofs.Tests.{told}
-use Rattle.berth.proofs.Steps.{has-berth, seen-length, copied-done, copied-long, copied-narrow, copied-nowhere}
+use lib.ListN.{drop}
 use borrow.Author.Rules.{rules}
+use Rattle.berth.proofs.Steps.{began, nowhere, copied-done, copied-long, copied-narrow, copied-nowhere}
 use Rattle.berth.proofs.copy_out.Goals as goal
 
 pub returns-then-count-gt-BERTH : goal.returns-then-count-gt-BERTH
@@ -12,17 +13,15 @@ returns-then-count-gt-BERTH c = sym (copied-long _ _ _ _ _ c.if-count-gt-BERTH.t
 pub returns-then-out-count : goal.returns-then-out-count
 returns-then-out-count c = sym (copied-narrow _ _ _ _ _ c.if-out-count.true)
 
-pub view-requires : goal.view-requires
-view-requires c = let b = has-berth c.is_berth.ensures c.if-is_berth.true in (b.whole, b.place, b.number, search rules)
+pub overflow_add-from : goal.overflow_add-from
+overflow_add-from c = let b = began c.in-Some.ensures in omega (arith, b.whole, b.room, c.if-count-gt-BERTH.false)
 
-pub copy-requires : goal.copy-requires
-copy-requires c = let n = seen-length _ _ _ (told c.is_berth.ensures c.if-is_berth.true) _ (search rules) _ c.view.ensures in
-    omega (arith, n)
+pub slice_bounds-copy_from_slice-end-in-Some-2 : goal.slice_bounds-copy_from_slice-end-in-Some-2
+slice_bounds-copy_from_slice-end-in-Some-2 c = let b = began c.in-Some.ensures in omega (arith, b.room, c.if-count-gt-BERTH.false)
 
-pub returns-then-is_berth : goal.returns-then-is_berth
-returns-then-is_berth c = c.copy.ensures
-    ∙ copied-done _ _ _ (told c.is_berth.ensures c.if-is_berth.true) _ (search rules) _ c.view.ensures _
-    (search rules)
+pub returns-in-Some : goal.returns-in-Some
+returns-in-Some c = ap (λ front. front ++ drop c.args.count c.args.out.now) c.copy_from_slice.ensures.after
+    ∙ copied-done _ _ _ _ (began c.in-Some.ensures) _ c.if-count-gt-BERTH.false _ c.if-out-count.false
 
-pub returns-else-is_berth : goal.returns-else-is_berth
-returns-else-is_berth c = sym (copied-nowhere _ _ _ _ _ (told c.is_berth.ensures c.if-is_berth.false))
+pub returns-in_default : goal.returns-in_default
+returns-in_default c = sym (copied-nowhere _ _ _ _ _ (nowhere _ _ _ (search rules)))

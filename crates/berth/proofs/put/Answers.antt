@@ -1,24 +1,31 @@
--- `berth::put` meets its promise.
+-- `berth::put` meets its promise: the section is copied to the front of the berth, and the part after it comes back as zeros.
 use mathlib.Core.Path.{sym, ◌∙◌}
 use native.Mathlib.Omega.{arith}
 use borrow.Author.Rules.{rules}
-use Rattle.base.proofs.Tests.{told}
-use Rattle.berth.proofs.Steps.{has-berth, put-done, put-long, put-nowhere}
+use Rattle.base.specs.Bytes.{zeros}
+use Rattle.berth.proofs.Steps.{began, nowhere, put_back, put-done, put-long, put-nowhere}
 use Rattle.berth.proofs.put.Goals as goal
 
 pub returns-then-section-gt-BERTH : goal.returns-then-section-gt-BERTH
 returns-then-section-gt-BERTH c = sym (put-long _ _ _ _ c.if-section-gt-BERTH.true)
 
-pub begins_at-from-requires : goal.begins_at-from-requires
-begins_at-from-requires c = let b = has-berth c.is_berth.ensures c.if-is_berth.true in (b.place, b.number)
+pub overflow_add-rest : goal.overflow_add-rest
+overflow_add-rest c = let b = began c.in-Some.ensures in omega (arith, b.whole, b.room, c.if-section-gt-BERTH.false)
 
-pub put_from-requires : goal.put_from-requires
-put_from-requires c = let b = has-berth c.is_berth.ensures c.if-is_berth.true in
-    omega (arith, b.whole, b.place, b.number, c.begins_at-from.ensures)
+pub slice_bounds-copy_from_slice-end : goal.slice_bounds-copy_from_slice-end
+slice_bounds-copy_from_slice-end c = let b = began c.in-Some.ensures in omega (arith, b.room, c.if-section-gt-BERTH.false)
 
-pub returns-then-is_berth : goal.returns-then-is_berth
-returns-then-is_berth c = c.put_from.ensures
-    ∙ put-done _ _ _ (told c.is_berth.ensures c.if-is_berth.true) _ c.begins_at-from.ensures _ (search rules)
+pub overflow_add-from : goal.overflow_add-from
+overflow_add-from c = let b = began c.in-Some.ensures in omega (arith, b.whole, b.room)
 
-pub returns-else-is_berth : goal.returns-else-is_berth
-returns-else-is_berth c = sym (put-nowhere _ _ _ _ (told c.is_berth.ensures c.if-is_berth.false))
+pub slice_bounds-fill-end : goal.slice_bounds-fill-end
+slice_bounds-fill-end c = let b = began c.in-Some.ensures in omega (arith, b.room)
+
+pub returns-in-Some : goal.returns-in-Some
+unfolding zeros
+returns-in-Some c = let b = began c.in-Some.ensures in
+    put_back _ _ _ b.room _ c.if-section-gt-BERTH.false _ _ c.copy_from_slice.ensures.after (c.fill.ensures.after (λ _ e. e))
+    ∙ put-done _ _ _ _ b _ c.if-section-gt-BERTH.false
+
+pub returns-in_default : goal.returns-in_default
+returns-in_default c = sym (put-nowhere _ _ _ _ (nowhere _ _ _ (search rules)))

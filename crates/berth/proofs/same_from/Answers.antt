@@ -1,11 +1,10 @@
 -- `berth::same_from` meets its promise: the answer is yes exactly while every byte passed is the same.
-use borrow.Author.Rules.{rules}
 use mathlib.Core.Path.{sym}
 use Rattle.base.proofs.Below.{every-none, every-next}
 use Rattle.berth.proofs.same_from.Goals as goal
 
 pub loop-i-init : goal.loop-i-init
-loop-i-init c = (search rules, sym (every-none _))
+loop-i-init c = sym (every-none _)
 
 pub loop-i-preserved : goal.loop-i-preserved
-loop-i-preserved c = (search rules, rw c.loop-i.invariant.1 (sym (every-next _ _)))
+loop-i-preserved c = rw c.loop-i.invariant (sym (every-next _ _))

@@ -1,20 +1,21 @@
 -- `berth::wipe` meets its promise.
 use mathlib.Core.Path.{sym, ◌∙◌}
 use native.Mathlib.Omega.{arith}
-use Rattle.base.proofs.Tests.{told}
-use Rattle.berth.proofs.Steps.{has-berth, wiped-done, wiped-nowhere}
+use borrow.Author.Rules.{rules}
+use Rattle.berth.proofs.Steps.{began, nowhere, wiped-back, wiped-done, wiped-nowhere}
+use Rattle.base.specs.Bytes.{zeros}
 use Rattle.berth.proofs.wipe.Goals as goal
 
-pub begins_at-from-requires : goal.begins_at-from-requires
-begins_at-from-requires c = let b = has-berth c.is_berth.ensures c.if-is_berth.true in (b.place, b.number)
+pub overflow_add-from : goal.overflow_add-from
+overflow_add-from c = let b = began c.in-Some.ensures in omega (arith, b.whole, b.room)
 
-pub wipe_from-requires : goal.wipe_from-requires
-wipe_from-requires c = let b = has-berth c.is_berth.ensures c.if-is_berth.true in
-    omega (arith, b.whole, b.place, b.number, c.begins_at-from.ensures)
+pub slice_bounds-fill-end : goal.slice_bounds-fill-end
+slice_bounds-fill-end c = (began c.in-Some.ensures).room
 
-pub returns-then-is_berth : goal.returns-then-is_berth
-returns-then-is_berth c = c.wipe_from.ensures
-    ∙ wiped-done _ _ _ (told c.is_berth.ensures c.if-is_berth.true) _ c.begins_at-from.ensures
+pub returns-in-Some : goal.returns-in-Some
+unfolding zeros
+returns-in-Some c = let b = began c.in-Some.ensures in
+    wiped-back _ _ _ b.room _ (c.fill.ensures.after (λ _ e. e)) ∙ wiped-done _ _ _ _ b
 
-pub returns-else-is_berth : goal.returns-else-is_berth
-returns-else-is_berth c = sym (wiped-nowhere _ _ _ (told c.is_berth.ensures c.if-is_berth.false))
+pub returns-in_default : goal.returns-in_default
+returns-in_default c = sym (wiped-nowhere _ _ _ (nowhere _ _ _ (search rules)))

@@ -2,20 +2,20 @@
 use mathlib.Core.Path.{sym, ◌∙◌}
 use native.Mathlib.Omega.{arith}
 use borrow.Author.Rules.{rules}
-use Rattle.base.proofs.Tests.{told}
-use Rattle.berth.proofs.Steps.{has-place, wiped-whole, wiped-nothing}
+use Rattle.base.specs.Bytes.{zeros}
+use Rattle.berth.proofs.Steps.{began, nowhere, placeless, wiped-back, wiped-whole, wiped-nothing}
 use Rattle.berth.proofs.wipe_all.Goals as goal
 
-pub begins_at-from-requires : goal.begins_at-from-requires
-begins_at-from-requires c = let b = has-place c.is_place.ensures c.if-is_place.true in (b.place, search rules)
+pub overflow_add-from : goal.overflow_add-from
+overflow_add-from c = let b = began c.in-Some.ensures in omega (arith, b.whole, b.room)
 
-pub wipe_from-requires : goal.wipe_from-requires
-wipe_from-requires c = let b = has-place c.is_place.ensures c.if-is_place.true in
-    omega (arith, b.whole, b.place, c.begins_at-from.ensures)
+pub slice_bounds-fill-end : goal.slice_bounds-fill-end
+slice_bounds-fill-end c = let b = began c.in-Some.ensures in omega (arith, b.whole, b.place, b.at)
 
-pub returns-then-is_place : goal.returns-then-is_place
-returns-then-is_place c = c.wipe_from.ensures
-    ∙ wiped-whole _ _ _ c.begins_at-from.ensures (told c.is_place.ensures c.if-is_place.true)
+pub returns-in-Some : goal.returns-in-Some
+unfolding zeros
+returns-in-Some c = let b = began c.in-Some.ensures in
+    wiped-back _ _ _ (omega (arith, b.whole, b.place, b.at)) _ (c.fill.ensures.after (λ _ e. e)) ∙ wiped-whole _ _ _ b
 
-pub returns-else-is_place : goal.returns-else-is_place
-returns-else-is_place c = sym (wiped-nothing _ _ _ (told c.is_place.ensures c.if-is_place.false))
+pub returns-in_default : goal.returns-in_default
+returns-in_default c = sym (wiped-nothing _ _ _ (placeless _ _ (nowhere _ _ _ (search rules))))
