@@ -8,25 +8,26 @@ use Prim.Native.Nat.{ℕ, zero, suc, ◌+◌, ◌-◌, ◌*◌, ◌<◌, ◌≤�
 use native.Mathlib.Omega.{arith}
 use lib.ListN.{length, drop, set}
 use lib.Seq.{sets, sets-eq, length-sets}
+use Rattle.std.specs.Prelude.{Ok, Err, Some, None}
+use Rattle.refusal.specs.declared.Refusal.{Refusal}
+use Rattle.refusal.specs.declared.Refusal.TheVariants.{ProgrammePassesEnd}
 use Rattle.answers.specs.Answers.{Out, out}
 use Rattle.programme.specs.Table.{content_descriptors_at}
-use Rattle.programme.specs.Reading.{item_at}
+use Rattle.programme.specs.Reading.{Step, item_at}
 use Rattle.programme_items.specs.Items.{onward, numbers_of, all_numbers}
 use Rattle.programme_items.specs.Parts.{lies_of, numbers_to, chain, told_by}
 use Rattle.programme.specs.declared.Item.{Item}
-use Rattle.programme.specs.declared.Step.{Step}
 use Rattle.programme_items.specs.declared.Parts.{Parts}
-use Rattle.programme_items.specs.declared.Lies.{Lies}
 use Rattle.programme.proofs.Items.{item_to, item-early, item-cut}
 use Rattle.programme_items.proofs.Places.{parts-there, lies-item, lies-none}
 
 module _ (s : List ℕ) (at : ℕ) where
-  pub chain-none : (n m : ℕ) → Step.Refused m ≡ item_at s at → chain n s at ≡ []
+  pub chain-none : (n : ℕ) (m : Refusal) → Err m ≡ item_at s at → chain n s at ≡ []
   unfolding chain
   chain-none zero m e = refl
   chain-none (suc n) m e = rw (sym e)
 
-  pub chain_next : (n : ℕ) → 0 < n → (i : Item) → Step.Item i ≡ item_at s at → chain n s at ≡ i ∷ chain (n - 1) s i.next
+  pub chain_next : (n : ℕ) → 0 < n → (i : Item) → Ok (Some i) ≡ item_at s at → chain n s at ≡ i ∷ chain (n - 1) s i.next
   unfolding chain
   chain_next zero h i e = absurd (omega arith)
   chain_next (suc n) h i e = let z : suc n - 1 ≡ n = omega arith in rw (sym e, z)
@@ -41,9 +42,9 @@ chain-short zero s at = omega arith
 chain-short (suc n) s at = go (λ to. chain-short n s to) (item_at s at)
   where
     go : ((to : ℕ) → length (chain n s to) ≤ n) → (x : Step) → length (onward x (λ i. chain n s i.next)) ≤ suc n
-    go ih (Step.Item i) = let h : length (chain n s i.next) ≤ n = ih i.next in omega arith
-    go ih Step.Over = omega arith
-    go ih (Step.Refused m) = omega arith
+    go ih (Ok (Some i)) = let h : length (chain n s i.next) ≤ n = ih i.next in omega arith
+    go ih (Ok None) = omega arith
+    go ih (Err m) = omega arith
 
 pub all-long : (is : List Item) → length (all_numbers is) ≡ 10 * length is
 unfolding all_numbers
@@ -93,7 +94,7 @@ module _ (s : List ℕ) (at most : ℕ) (f₀ : List ℕ) (r : 10 * most ≤ len
   begins a l = record { late = a; within = l; room = omega arith; long = refl; done = refl }
 
   module _ {f : List ℕ} {place left to : ℕ} (g : Going s at most f₀ f place left to) where
-    pub goes_on : 0 < left → (p : Parts) → Lies.At p ≡ lies_of s place → {f₁ : List ℕ} → f₁ ≡ sets f to (numbers_to s place p.next)
+    pub goes_on : 0 < left → (p : Parts) → Some p ≡ lies_of s place → {f₁ : List ℕ} → f₁ ≡ sets f to (numbers_to s place p.next)
         → Going s at most f₀ f₁ p.next (left - 1) (to + 10)
     goes_on h p e q =
         let t = parts-there s place p e in
@@ -116,15 +117,15 @@ module _ (s : List ℕ) (at most : ℕ) (f₀ : List ℕ) (r : 10 * most ≤ len
     ended : chain left s place ≡ [] → out to f ≡ told_by f₀ (chain most s at)
     ended e = sym (filled_none f to) ∙ ap (λ is. filled is f to) (sym e) ∙ g.done ∙ whole
 
-    pub stops : Lies.Past ≡ lies_of s place → out to f ≡ told_by f₀ (chain most s at)
-    stops e = ended (chain-none s place left 43 (lies-none s place e))
+    pub stops : None ≡ lies_of s place → out to f ≡ told_by f₀ (chain most s at)
+    stops e = ended (chain-none s place left ProgrammePassesEnd (lies-none s place e))
 
     pub ends : left ≤ 0 → out to f ≡ told_by f₀ (chain most s at)
     ends l = ended (chain-zero s place left (omega arith))
 
-  tells_none : Step.Refused 43 ≡ item_at s at → out 0 f₀ ≡ told_by f₀ (chain most s at)
+  tells_none : Err ProgrammePassesEnd ≡ item_at s at → out 0 f₀ ≡ told_by f₀ (chain most s at)
   unfolding all_numbers
-  tells_none e = rw (chain-none s at most 43 e)
+  tells_none e = rw (chain-none s at most ProgrammePassesEnd e)
 
   pub tells-early : at < 17 → out 0 f₀ ≡ told_by f₀ (chain most s at)
   tells-early l = tells_none (item-early s at l)

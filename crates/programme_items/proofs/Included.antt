@@ -9,18 +9,18 @@ use Prim.Native.Nat.{ℕ, ◌+◌, ◌/◌, ◌%◌, ◌<◌, ◌≤◌}
 use native.Mathlib.Omega.{arith}
 use lib.Dec.{eqb}
 use borrow.Author.Tests.{lt-ltb, le-ltb, eq-eqb, ne_eqb}
+use Rattle.std.specs.Prelude.{Some, None}
 use Rattle.programme.specs.Field.{only}
 use Rattle.programme_items.specs.Parts.{up_to, included, included_numbers}
-use Rattle.programme.specs.declared.Run.{Run}
 
 module _ (size from f : ℕ) where
-  pub stops : size < from + included f → Run.Past ≡ up_to size (from + included f)
+  pub stops : size < from + included f → None ≡ up_to size (from + included f)
   unfolding up_to
   stops l = rw (lt-ltb size (from + included f) l)
 
-  pub finishes : (to : ℕ) → to ≡ from + included f → to ≤ size → Run.Ends to ≡ up_to size (from + included f)
+  pub finishes : (to : ℕ) → to ≡ from + included f → to ≤ size → Some to ≡ up_to size (from + included f)
   unfolding up_to
-  finishes to e l = let h : from + included f ≤ size = omega arith in rw (le-ltb size (from + included f) h) (ap Run.Ends e)
+  finishes to e l = let h : from + included f ≤ size = omega arith in rw (le-ltb size (from + included f) h) (ap Some e)
 
 -- a field that is there, and one that is not
 pub whole : {x : ℕ} (n : ℕ) → x ≡ 1 → only (eqb x 1) n ≡ n
@@ -41,13 +41,13 @@ pub missing : {x at n size to : ℕ} → ¬ (x ≡ 1) → to ≡ at → at ≤ s
 missing {x} e q l = record { is = rw (ne_eqb x 1 e) (omega arith); within = omega arith }
 
 -- none of the four flags is 1
-pub record None (f : ℕ) : Type 0 where
+pub record NoneThere (f : ℕ) : Type 0 where
   pub length : eqb (f / 32 % 2) 1 ≡ eqb 0 1
   pub delay : eqb (f / 16 % 2) 1 ≡ eqb 0 1
   pub expires : eqb (f / 8 % 2) 1 ≡ eqb 0 1
   pub size : eqb (f / 4 % 2) 1 ≡ eqb 0 1
 
-pub none : (f : ℕ) → f / 4 % 16 ≡ 0 → None f
+pub none : (f : ℕ) → f / 4 % 16 ≡ 0 → NoneThere f
 none f e =
     record {
       length = ne_eqb (f / 32 % 2) 1 (λ h. omega arith);

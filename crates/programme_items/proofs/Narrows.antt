@@ -7,6 +7,7 @@ use mathlib.Core.List.{List, ◌++◌}
 use Prim.Native.Nat.{ℕ, ◌+◌, ◌-◌, ◌^◌, ◌<◌, ◌≤◌}
 use native.Mathlib.Omega.{arith}
 use Rattle.base.specs.Octets.{Octets}
+use Rattle.std.specs.Prelude.{Ok, Some}
 use Rattle.programme.specs.Field.{number, only, low}
 use Rattle.programme.specs.Table.{flags, playback_length_at, playback_delay_at, expiration_at, content_name_length, content_name_at, content_descriptors_at, num_content_descriptors_at}
 use Rattle.programme.specs.Table.{playback_length_included, playback_delay_included, expiration_included}
@@ -14,7 +15,6 @@ use Rattle.programme.specs.Reading.{item_at}
 use Rattle.programme_items.specs.Items.{numbers_of, item_back}
 use Rattle.programme_items.specs.Parts.{Narrow}
 use Rattle.programme.specs.declared.Item.{Item}
-use Rattle.programme.specs.declared.Step.{Step}
 use Rattle.programme.proofs.Numbers.{two_is, four_is}
 use Rattle.programme.proofs.Items.{item_to}
 use Rattle.programme.proofs.Within.{item-stands}
@@ -48,11 +48,11 @@ module _ (s : List ℕ) (at end : ℕ) (o : Octets s) (rest : List ℕ) where
       }
 
 -- the item at a place
-pub narrow : (s : List ℕ) (at : ℕ) → Octets s → (i : Item) → Step.Item i ≡ item_at s at → (rest : List ℕ) → Narrow (numbers_of i ++ rest)
+pub narrow : (s : List ℕ) (at : ℕ) → Octets s → (i : Item) → Ok (Some i) ≡ item_at s at → (rest : List ℕ) → Narrow (numbers_of i ++ rest)
 narrow s at o i e rest =
     let t = item-stands s at i (sym e) in rw t.says (narrow-to s at t.end o rest t.low)
 
-pub back : (s : List ℕ) (at : ℕ) (i : Item) → Step.Item i ≡ item_at s at → (rest : List ℕ) → item_back (numbers_of i ++ rest) ≡ i
+pub back : (s : List ℕ) (at : ℕ) (i : Item) → Ok (Some i) ≡ item_at s at → (rest : List ℕ) → item_back (numbers_of i ++ rest) ≡ i
 back s at i e rest = let t = item-stands s at i (sym e) in rw t.says (told s at t.end rest)
   where
     told : (s : List ℕ) (at end : ℕ) (rest : List ℕ) → item_back (numbers_of (item_to s at end) ++ rest) ≡ item_to s at end

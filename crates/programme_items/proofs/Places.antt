@@ -12,30 +12,29 @@ use lib.ListN.{length}
 use borrow.Author.Tests.{lt-ltb, le-ltb, ltb-true, ltb-false}
 use Rattle.base.specs.Bytes.{byte}
 use Rattle.base.proofs.Cases.{by}
+use Rattle.std.specs.Prelude.{Ok, Err, Some, None}
+use Rattle.refusal.specs.declared.Refusal.TheVariants.{ProgrammePassesEnd}
 use Rattle.programme.specs.Field.{number}
-use Rattle.programme.specs.Run.{run_of}
+use Rattle.programme.specs.Run.{Run, run_of}
 use Rattle.programme.specs.Reading.{item_run, item_at}
 use Rattle.programme.specs.Table.{flags, content_name_length_at, num_content_descriptors_at, content_descriptors_at}
 use Rattle.programme_items.specs.Parts.{up_to, included, lies_of}
-use Rattle.programme.specs.declared.Run.{Run}
-use Rattle.programme.specs.declared.Step.{Step}
 use Rattle.programme_items.specs.declared.Parts.{Parts}
-use Rattle.programme_items.specs.declared.Lies.{Lies}
 use Rattle.programme.proofs.Runs.{never_ends, run_lies}
 use Rattle.programme.proofs.Items.{item_to, item-cut, item-past, item-reads}
 
 module _ (size place : ℕ) where
-  pub up-past : Run.Past ≡ up_to size place → size < place
+  pub up-past : None ≡ up_to size place → size < place
   unfolding up_to
   up-past e =
-      by (ltb size place) (λ t. ltb-true _ _ t) (λ f. let h : Run.Past ≡ Run.Ends place = e ∙ rw f in never_ends place h)
+      by (ltb size place) (λ t. ltb-true _ _ t) (λ f. let h : None ≡ Some place = e ∙ rw f in never_ends place h)
 
-  pub up_ends : (end : ℕ) → Run.Ends end ≡ up_to size place → (end ≡ place) × (place ≤ size)
+  pub up_ends : (end : ℕ) → Some end ≡ up_to size place → (end ≡ place) × (place ≤ size)
   unfolding up_to
   up_ends end e =
       by (ltb size place)
-      (λ t. let h : Run.Ends end ≡ Run.Past = e ∙ rw t in never_ends end (sym h))
-      (λ f. let h : Run.Ends end ≡ Run.Ends place = e ∙ rw f in (cc, ltb-false _ _ f))
+      (λ t. let h : Some end ≡ None = e ∙ rw t in never_ends end (sym h))
+      (λ f. let h : Some end ≡ Some place = e ∙ rw f in (cc, ltb-false _ _ f))
 
 -- the two bytes of the flags, and the place behind the fields that they include
 pub record Named (s : List ℕ) (at two named : ℕ) : Type 0 where
@@ -54,40 +53,40 @@ module _ {s : List ℕ} {at two named : ℕ} (v : Named s at two named) where
     loop-run = ap (λ p. run_of (byte s p) s (p + 1)) count_at
 
 module _ (s : List ℕ) (at : ℕ) where
-  pub lies-cut : length s < content_descriptors_at s at → Lies.Past ≡ lies_of s at
+  pub lies-cut : length s < content_descriptors_at s at → None ≡ lies_of s at
   lies-cut l = rw (lt-ltb (length s) (content_descriptors_at s at) l)
 
-  pub lies-past : item_run s at ≡ Run.Past → Lies.Past ≡ lies_of s at
+  pub lies-past : item_run s at ≡ None → None ≡ lies_of s at
   lies-past e = by (ltb (length s) (content_descriptors_at s at)) (λ t. rw t) (λ f. rw (f, e))
 
-  module _ (l : content_descriptors_at s at ≤ length s) (end : ℕ) (e : item_run s at ≡ Run.Ends end) where
+  module _ (l : content_descriptors_at s at ≤ length s) (end : ℕ) (e : item_run s at ≡ Some end) where
     pub lies-there : {two named long : ℕ} (v : Named s at two named) → long ≡ byte s named
-        → Lies.At (record { flags = two / 64; named = named; counted = named + 1 + long; next = end }) ≡ lies_of s at
+        → Some (record { flags = two / 64; named = named; counted = named + 1 + long; next = end }) ≡ lies_of s at
     lies-there v n = rw (count_at v n, name-at v, v.flags, le-ltb (length s) (content_descriptors_at s at) l, e)
 
   -- where its parts lie
   pub record There (p : Parts) : Type 0 where
     pub fits : content_descriptors_at s at ≤ length s
-    pub run : item_run s at ≡ Run.Ends p.next
+    pub run : item_run s at ≡ Some p.next
     pub low : content_descriptors_at s at ≤ p.next
     pub high : p.next ≤ length s
     pub flags-are : p.flags ≡ flags s at
     pub named-is : p.named ≡ content_name_length_at s at
     pub counted_is : p.counted ≡ num_content_descriptors_at s at
 
-  pub parts-there : (p : Parts) → Lies.At p ≡ lies_of s at → There p
+  pub parts-there : (p : Parts) → Some p ≡ lies_of s at → There p
   parts-there p e =
       by (ltb (length s) (content_descriptors_at s at))
-      (λ t. let h : Lies.At p ≡ Lies.Past = e ∙ rw t in apart h)
+      (λ t. let h : Some p ≡ None = e ∙ rw t in apart h)
       (λ f. let fits : content_descriptors_at s at ≤ length s = ltb-false _ _ f in go fits f (item_run s at) refl)
     where
-      apart : {P : Type 0} → Lies.At p ≡ Lies.Past → P
+      apart : {P : Type 0} → Some p ≡ None → P
       apart h = absurd (let z : ◌≡◌ {A = ℕ} 0 1 = cc in omega arith)
 
       go : content_descriptors_at s at ≤ length s → ltb (length s) (content_descriptors_at s at) ≡ ltb 1 0 → (x : Run) → item_run s at ≡ x → There p
-      go fits f Run.Past q = let h : Lies.At p ≡ Lies.Past = e ∙ rw (f, q) in apart h
-      go fits f (Run.Ends end) q =
-          let h : Lies.At p ≡ Lies.At (record { flags = flags s at; named = content_name_length_at s at; counted = num_content_descriptors_at s at; next = end }) = e ∙ rw (f, q) in
+      go fits f None q = let h : Some p ≡ None = e ∙ rw (f, q) in apart h
+      go fits f (Some end) q =
+          let h : Some p ≡ Some (record { flags = flags s at; named = content_name_length_at s at; counted = num_content_descriptors_at s at; next = end }) = e ∙ rw (f, q) in
           let same : p ≡ record { flags = flags s at; named = content_name_length_at s at; counted = num_content_descriptors_at s at; next = end } = cc in
           let ends : p.next ≡ end = ap (λ (y : Parts). y.next) same in
           let lies = run_lies _ s (content_descriptors_at s at) end fits q in
@@ -95,7 +94,7 @@ module _ (s : List ℕ) (at : ℕ) where
           let high : end ≤ length s = lies.1 in
           record {
             fits = fits;
-            run = q ∙ ap Run.Ends (sym ends);
+            run = q ∙ ap Some (sym ends);
             low = omega arith;
             high = omega arith;
             flags-are = ap (λ (y : Parts). y.flags) same;
@@ -103,17 +102,17 @@ module _ (s : List ℕ) (at : ℕ) where
             counted_is = ap (λ (y : Parts). y.counted) same;
           }
 
-  pub lies-item : 17 ≤ at → (p : Parts) → Lies.At p ≡ lies_of s at → Step.Item (item_to s at p.next) ≡ item_at s at
+  pub lies-item : 17 ≤ at → (p : Parts) → Some p ≡ lies_of s at → Ok (Some (item_to s at p.next)) ≡ item_at s at
   lies-item a p e = let t = parts-there p e in item-reads s at a t.fits p.next t.run
 
-  pub lies-none : Lies.Past ≡ lies_of s at → Step.Refused 43 ≡ item_at s at
+  pub lies-none : None ≡ lies_of s at → Err ProgrammePassesEnd ≡ item_at s at
   lies-none e =
       by (ltb (length s) (content_descriptors_at s at))
       (λ t. item-cut s at (ltb-true _ _ t))
       (λ f. go f (item_run s at) refl)
     where
-      go : ltb (length s) (content_descriptors_at s at) ≡ ltb 1 0 → (x : Run) → item_run s at ≡ x → Step.Refused 43 ≡ item_at s at
-      go f Run.Past q = item-past s at q
-      go f (Run.Ends end) q =
-          let h : Lies.Past ≡ Lies.At (record { flags = flags s at; named = content_name_length_at s at; counted = num_content_descriptors_at s at; next = end }) = e ∙ rw (f, q) in
+      go : ltb (length s) (content_descriptors_at s at) ≡ ltb 1 0 → (x : Run) → item_run s at ≡ x → Err ProgrammePassesEnd ≡ item_at s at
+      go f None q = item-past s at q
+      go f (Some end) q =
+          let h : None ≡ Some (record { flags = flags s at; named = content_name_length_at s at; counted = num_content_descriptors_at s at; next = end }) = e ∙ rw (f, q) in
           absurd (let z : ◌≡◌ {A = ℕ} 0 1 = cc in omega arith)

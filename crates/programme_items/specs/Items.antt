@@ -1,10 +1,11 @@
 -- The items of a list from a place on, handed out in one call: ten numbers each, as many as there is room for.
-use Rattle.std.specs.Prelude.{ℕ, zero, suc, ◌+◌, ◌-◌, ◌*◌, ◌/◌, List, [], ◌∷◌, ◌++◌, ltb, length, get_or, drop}
+use Rattle.std.specs.Prelude.{ℕ, zero, suc, ◌+◌, ◌-◌, ◌*◌, ◌/◌, List, [], ◌∷◌, ◌++◌, ltb, length, get_or, drop, Result, Ok, Err, Option, Some, None}
+use Rattle.refusal.specs.declared.Refusal.{Refusal}
+use Rattle.refusal.specs.declared.Refusal.TheVariants.{OutputTooSmall}
 use Rattle.base.specs.Choice.{◌if◌, first}
-use Rattle.programme.specs.Reading.{step_of}
+use Rattle.programme.specs.Reading.{Step, step_of}
 use Rattle.programme.specs.declared.Item.{Item}
-use Rattle.programme.specs.declared.Step.{Step}
-use Rattle.programme_items.specs.declared.Walk.{Walk}
+use Rattle.programme_items.specs.declared.Passed.{Passed}
 
 -- an item's ten numbers: its fixed fields and those that its flags include, else 0; where its name begins; how many descriptors it has
 -- and where they begin; the place after it. The byte that counts the descriptors stands between the name and them, and they end with the item.
@@ -33,9 +34,9 @@ item_back l =
 
 -- an item and those that follow it, where a step finds one
 abbrev pub onward : Step → (Item → List Item) → List Item
-onward (Step.Item i) rest = i ∷ rest i
-onward Step.Over rest = []
-onward (Step.Refused n) rest = []
+onward (Ok (Some i)) rest = i ∷ rest i
+onward (Ok None) rest = []
+onward (Err r) rest = []
 
 -- the items from a place on, the one there taken for item k: n at most, up to and with the last of the section, or up to the first that
 -- is refused, without it
@@ -53,6 +54,10 @@ unfoldable pub place_after : ℕ → List Item → ℕ
 place_after at [] = at
 place_after at (i ∷ is) = place_after i.next is
 
+-- what a call answers: how many items were handed out and the place after the last, none where the list has none of that number, or a refusal
+abbrev pub Walk : Type 0
+Walk = Result (Option Passed) Refusal
+
 -- what a call answers, and the lent numbers after it
 pub record Walked : Type 0 where
   pub walk : Walk
@@ -64,14 +69,14 @@ walked w fields = record { walk = w; fields = fields }
 -- the items, put at the front of the numbers
 abbrev pub handed : ℕ → List ℕ → List Item → Walked
 handed at fields is =
-    walked (Walk.Items (record { count = length is; next = place_after at is })) (all_numbers is ++ drop (10 * length is) fields)
+    walked (Ok (Some (record { count = length is; next = place_after at is }))) (all_numbers is ++ drop (10 * length is) fields)
 
 -- by what a step at the place finds; where it finds an item, 15 where fewer than ten numbers are lent
 abbrev pub walk_by : List ℕ → ℕ → ℕ → List ℕ → Step → Walked
-walk_by s at k fields (Step.Refused n) = walked (Walk.Refused n) fields
-walk_by s at k fields Step.Over = walked Walk.Over fields
-walk_by s at k fields (Step.Item i) =
-    first (λ n. walked (Walk.Refused n) fields) (15 if ltb (length fields) 10 ∷ []) (handed at fields (items_from (length fields / 10) s at k))
+walk_by s at k fields (Err r) = walked (Err r) fields
+walk_by s at k fields (Ok None) = walked (Ok None) fields
+walk_by s at k fields (Ok (Some i)) =
+    first (λ r. walked (Err r) fields) (OutputTooSmall if ltb (length fields) 10 ∷ []) (handed at fields (items_from (length fields / 10) s at k))
 
 unfoldable pub walk_of : List ℕ → ℕ → ℕ → List ℕ → Walked
 walk_of s at k fields = walk_by s at k fields (step_of s at k)

@@ -1,25 +1,27 @@
 -- How the code goes about an item: first where its parts lie, and whether one of them passes the end; then its numbers.
-use Rattle.std.specs.Prelude.{ℕ, zero, suc, ◌+◌, ◌-◌, ◌*◌, ◌/◌, ◌%◌, ◌^◌, ◌<◌, ◌≤◌, List, [], ◌∷◌, ◌++◌, ltb, leb, eqb, length, get_or, drop, if◌then◌else◌}
+use Rattle.std.specs.Prelude.{ℕ, zero, suc, ◌+◌, ◌-◌, ◌*◌, ◌/◌, ◌%◌, ◌^◌, ◌<◌, ◌≤◌, List, [], ◌∷◌, ◌++◌, ltb, leb, eqb, length, get_or, drop, if◌then◌else◌, Result, Ok, Err, Option, Some, None}
+use Rattle.refusal.specs.declared.Refusal.{Refusal}
 use Rattle.answers.specs.Answers.{Out, out}
 use Rattle.programme.specs.Field.{only, low}
 use Rattle.programme.specs.Table.{content_linkage, flags, content_name_length_at, content_name_at, num_content_descriptors_at, num_content_descriptors, content_descriptors_at}
 use Rattle.programme.specs.Table.{playback_length, playback_delay, expiration, content_size}
 use Rattle.programme.specs.Reading.{item_run, item_at}
 use Rattle.programme_items.specs.Items.{onward, all_numbers}
-use Rattle.programme.specs.declared.Count.{Count}
-use Rattle.programme.specs.declared.Run.{Run}
 use Rattle.programme.specs.declared.Item.{Item}
-use Rattle.programme_items.specs.declared.Left.{Left}
-use Rattle.programme_items.specs.declared.Lies.{Lies}
+use Rattle.programme.specs.Run.{Run}
+use Rattle.programme_items.specs.declared.Parts.{Parts}
 
--- how many items are left from a number on
-abbrev pub left_by : ℕ → Count → Left
-left_by k (Count.Items n) = if leb n k then Left.Over else Left.Items (n - k)
-left_by k (Count.Refused n) = Left.Refused n
+-- how many items are left from a number on; none where the list has no item of that number
+abbrev pub Left : Type 0
+Left = Result (Option ℕ) Refusal
+
+abbrev pub left_by : ℕ → Result ℕ Refusal → Left
+left_by k (Ok n) = if leb n k then Ok None else Ok (Some (n - k))
+left_by k (Err r) = Err r
 
 -- a place, unless it lies behind the end
 unfoldable pub up_to : ℕ → ℕ → Run
-up_to size place = if ltb size place then Run.Past else Run.Ends place
+up_to size place = if ltb size place then None else Some place
 
 -- how many bytes the fields have that flags include, and their values from a place on
 abbrev pub included : ℕ → ℕ
@@ -43,14 +45,18 @@ module _ (s : List ℕ) (at f : ℕ) where
       ∷ only (eqb (f / 4 % 2) 1) (low s size_at 5 40)
       ∷ []
 
+-- where the parts of an item lie; none where one of them passes the end
+abbrev pub Lies : Type 0
+Lies = Option Parts
+
 -- the flags of an item, the places of its name's length and of its descriptors' number, and where it ends
 abbrev pub parts_by : List ℕ → ℕ → Run → Lies
-parts_by s at Run.Past = Lies.Past
-parts_by s at (Run.Ends end) =
-    Lies.At (record { flags = flags s at; named = content_name_length_at s at; counted = num_content_descriptors_at s at; next = end })
+parts_by s at None = None
+parts_by s at (Some end) =
+    Some (record { flags = flags s at; named = content_name_length_at s at; counted = num_content_descriptors_at s at; next = end })
 
 abbrev pub lies_of : List ℕ → ℕ → Lies
-lies_of s at = if ltb (length s) (content_descriptors_at s at) then Lies.Past else parts_by s at (item_run s at)
+lies_of s at = if ltb (length s) (content_descriptors_at s at) then None else parts_by s at (item_run s at)
 
 -- the numbers of the item at a place that ends at another
 abbrev pub numbers_to : List ℕ → ℕ → ℕ → List ℕ

@@ -2,7 +2,7 @@
 // numbers each, as many as a host lends room for. Where an item's parts lie is found first; then each number is put once.
 #![tactic(auto)]
 
-ghost use Rattle.std.specs.Prelude.{◌≡◌, ◌+◌, ◌*◌, ◌/◌, ◌%◌, ◌<◌, ◌≤◌, min, eqb, length};
+ghost use Rattle.std.specs.Prelude.{Some, ◌≡◌, ◌+◌, ◌*◌, ◌/◌, ◌%◌, ◌<◌, ◌≤◌, min, eqb, length};
 ghost use Rattle.std.proofs.lemmas.List.Edits.{sets};
 ghost use Rattle.answers.specs.Answers.{out as out_of};
 ghost use Rattle.programme.specs.Field.{only, low};
@@ -10,9 +10,9 @@ ghost use Rattle.programme.specs.Reading.{read_of, step_of};
 ghost use Rattle.programme.specs.Count.{count_of};
 ghost use Rattle.programme_items.specs.Items.{item_back, walked, walk_of};
 ghost use Rattle.programme_items.specs.Parts.{left_by, up_to, included, included_numbers, lies_of, numbers_to, chain, told_by, Narrow};
-ghost use Rattle.programme_items.specs.declared.Lies.{Lies};
 
-use programme::{Count, Item, Loop, Run, Step};
+use programme::{Item, Loop};
+use refusal::Refusal;
 
 // Where an item's flags begin and end, counted from its place.
 const FLAGS: usize = 4;
@@ -35,30 +35,14 @@ const ALL_FOUR: usize = 15;
 pub const NUMBERS: usize = 10;
 
 // Items that were handed out: how many, and the place after the last.
-#[derive(Drop)]
+#[derive(Clone, Copy, Debug, PartialEq, Eq)]
 pub struct Passed {
     pub count: usize,
     pub next: usize,
 }
 
-#[derive(Drop)]
-pub enum Walk {
-    Items(Passed),
-    // The section has no item of that number.
-    Over,
-    Refused(u8),
-}
-
-// How many items are left from a number on.
-#[derive(Drop)]
-enum Left {
-    Items(usize),
-    Over,
-    Refused(u8),
-}
-
 // An item's flags, the places of its name's length and of its descriptors' number, and where it ends.
-#[derive(Drop)]
+#[derive(Clone, Copy)]
 struct Parts {
     flags: u16,
     named: usize,
@@ -66,32 +50,15 @@ struct Parts {
     next: usize,
 }
 
-#[derive(Drop)]
-enum Lies {
-    At(Parts),
-    // One of its fields, or its loop, passes the end.
-    Past,
-}
-
 // The value of a field that a flag may include, and the place after it.
-#[derive(Drop)]
+#[derive(Clone, Copy)]
 struct Taken {
     value: u64,
     next: usize,
 }
 
-// The lesser of two numbers.
-fn least(a: usize, b: usize) -> usize
-    ensures { (result ≡ min a b) × (result ≤ a) × (result ≤ b) }
-{
-    if b < a {
-        return b;
-    }
-    a
-}
-
-// Where fields end that flags include, from a place on, or that one of them passes the end: field by field.
-fn past_each(size: usize, from: usize, flags: u16) -> Run
+// Where fields end that flags include, from a place on, field by field; none where one of them passes the end.
+fn past_each(size: usize, from: usize, flags: u16) -> Option<usize>
     requires { (from ≤ size) × (size ≤ 65535) }
     ensures { result ≡ up_to size (from + included flags) }
 {
@@ -99,83 +66,75 @@ fn past_each(size: usize, from: usize, flags: u16) -> Run
     if flags / PLAYBACK_LENGTH % 2 == 1 {
         at += 3;
         if size < at {
-            return Run::Past;
+            return None;
         }
     }
     if flags / PLAYBACK_DELAY % 2 == 1 {
         at += 3;
         if size < at {
-            return Run::Past;
+            return None;
         }
     }
     if flags / EXPIRATION % 2 == 1 {
         at += 4;
         if size < at {
-            return Run::Past;
+            return None;
         }
     }
     if flags / CONTENT_SIZE % 2 == 1 {
         at += 5;
         if size < at {
-            return Run::Past;
+            return None;
         }
     }
-    Run::Ends(at)
+    Some(at)
 }
 
 // The same, with a quick way where none of the four is there and where all are.
-fn past_included(size: usize, from: usize, flags: u16) -> Run
+fn past_included(size: usize, from: usize, flags: u16) -> Option<usize>
     requires { (from ≤ size) × (size ≤ 65535) }
     ensures { result ≡ up_to size (from + included flags) }
 {
     let there = flags / CONTENT_SIZE % 16;
     if there == 0 {
-        return Run::Ends(from);
+        return Some(from);
     }
     if there == 15 {
         let end = from + ALL_FOUR;
         if size < end {
-            return Run::Past;
+            return None;
         }
-        return Run::Ends(end);
+        return Some(end);
     }
     past_each(size, from, flags)
 }
 
-// Where the parts of the item at a place lie, or that one of them passes the end.
-fn lies_at(bytes: &[u8], at: usize) -> Lies
+// Where the parts of the item at a place lie; none where one of its fields, or its loop, passes the end.
+fn lies_at(bytes: &[u8], at: usize) -> Option<Parts>
     requires { (at ≤ length bytes.now) × (length bytes.now ≤ 65535) }
     ensures { result ≡ lies_of bytes.now at }
 {
     let size = bytes.len();
     if size < at + FLAGS_END {
-        return Lies::Past;
+        return None;
     }
     let flags = programme::two(&bytes[at + FLAGS..at + FLAGS_END]) / 64;
-    let optional = past_included(size, at + FLAGS_END, flags);
-    match optional {
-        Run::Past => Lies::Past,
-        Run::Ends(named) => {
-            if size <= named {
-                return Lies::Past;
-            }
-            let counted = named + 1 + usize::from(bytes[named]);
-            if size <= counted {
-                return Lies::Past;
-            }
-            let count = bytes[counted];
-            let run = programme::run_from(bytes, counted + 1, count);
-            match run {
-                Run::Past => Lies::Past,
-                Run::Ends(next) => Lies::At(Parts {
-                    flags,
-                    named,
-                    counted,
-                    next,
-                }),
-            }
-        }
+    let named = past_included(size, at + FLAGS_END, flags)?;
+    if size <= named {
+        return None;
     }
+    let counted = named + 1 + usize::from(bytes[named]);
+    if size <= counted {
+        return None;
+    }
+    let count = bytes[counted];
+    let next = programme::run_from(bytes, counted + 1, count)?;
+    Some(Parts {
+        flags,
+        named,
+        counted,
+        next,
+    })
 }
 
 // The 20 bits behind four reserved ones, where a flag is 1.
@@ -240,7 +199,7 @@ fn put_included(bytes: &[u8], at: usize, flags: u16, fields: &mut [u64], to: usi
 
 // Puts the numbers of the item at a place, whose parts lie so, at a place of the numbers.
 fn put_item(bytes: &[u8], at: usize, parts: Parts, fields: &mut [u64], to: usize)
-    requires parts_value { Lies.At parts ≡ lies_of bytes.now at }
+    requires parts_value { Some parts ≡ lies_of bytes.now at }
     requires bytes_len_bound { (length bytes.now ≤ 65535) × (to + 10 ≤ length fields.old) }
     ensures { fields.new ≡ sets fields.old to (numbers_to bytes.now at parts.next) }
 {
@@ -270,34 +229,26 @@ fn tell_items(bytes: &[u8], at: usize, most: usize, fields: &mut [u64]) -> usize
     let mut left = most;
     let mut to: usize = 0;
     while left > 0 {
-        let lies = lies_at(bytes, place);
-        match lies {
-            Lies::Past => return to,
-            Lies::At(parts) => {
-                let next = parts.next;
-                put_item(bytes, place, parts, fields, to);
-                place = next;
-                to += NUMBERS;
-                left -= 1;
-            }
-        }
+        let Some(parts) = lies_at(bytes, place) else {
+            return to;
+        };
+        put_item(bytes, place, parts, fields, to);
+        place = parts.next;
+        to += NUMBERS;
+        left -= 1;
     }
     to
 }
 
-// How many items are left from a number on.
-fn left_from(payload: &[u8], number: u8) -> Left
+// How many items are left from a number on; none where the list has no item of that number.
+fn left_from(payload: &[u8], number: u8) -> Result<Option<usize>, Refusal>
     ensures { result ≡ left_by number (count_of (read_of payload.now)) }
 {
-    let count = programme::count_items(payload);
-    match count {
-        Count::Refused(n) => Left::Refused(n),
-        Count::Items(items) => {
-            if items <= number {
-                return Left::Over;
-            }
-            Left::Items(usize::from(items - number))
-        }
+    let items = programme::count_items(payload)?;
+    if number < items {
+        Ok(Some(usize::from(items - number)))
+    } else {
+        Ok(None)
     }
 }
 
@@ -328,53 +279,49 @@ fn item_of(numbers: &[u64]) -> Item
     }
 }
 
-// What stands at a place of the payload, taken for item `number` of its list: the item, that it has no item of that number, or the refusal.
-// Any place and any number may be asked.
-pub fn item_at(payload: &[u8], at: usize, number: u8) -> Step
+// What stands at a place of the payload, taken for item `number` of its list: the item, none where it has no item of that number, or the
+// refusal. Any place and any number may be asked.
+pub fn item_at(payload: &[u8], at: usize, number: u8) -> Result<Option<Item>, Refusal>
     ensures { result ≡ step_of payload.now at number }
 {
-    let left = left_from(payload, number);
-    match left {
-        Left::Refused(n) => Step::Refused(n),
-        Left::Over => Step::Over,
-        Left::Items(_) => {
-            let mut numbers = [0u64; NUMBERS];
-            let told = tell_items(payload, at, 1, &mut numbers);
-            if told == 0 {
-                return Step::Refused(programme::PASSES_END);
-            }
-            let item = item_of(&numbers);
-            Step::Item(item)
-        }
+    let left = left_from(payload, number)?;
+    let Some(_) = left else {
+        return Ok(None);
+    };
+    let mut numbers = [0u64; NUMBERS];
+    let told = tell_items(payload, at, 1, &mut numbers);
+    if told == 0 {
+        Err(Refusal::ProgrammePassesEnd)
+    } else {
+        Ok(Some(item_of(&numbers)))
     }
 }
 
 // The items from a place on, the one there taken for item `number` of the list, as many as the numbers have room for: how many they are
-// and the place after the last, that it has no item of that number, or the refusal. Any place and any number may be asked.
-pub fn items_at(payload: &[u8], at: usize, number: u8, fields: &mut [u64]) -> Walk
+// and the place after the last, none where it has no item of that number, or the refusal. Any place and any number may be asked.
+pub fn items_at(
+    payload: &[u8],
+    at: usize,
+    number: u8,
+    fields: &mut [u64],
+) -> Result<Option<Passed>, Refusal>
     ensures { walked result fields.new ≡ walk_of payload.now at number fields.old }
 {
     if fields.len() < NUMBERS {
-        let step = item_at(payload, at, number);
-        return match step {
-            Step::Refused(n) => Walk::Refused(n),
-            Step::Over => Walk::Over,
-            Step::Item(_) => Walk::Refused(answers::OUTPUT_TOO_SMALL),
+        return match item_at(payload, at, number)? {
+            None => Ok(None),
+            Some(_) => Err(Refusal::OutputTooSmall),
         };
     }
-    let left = left_from(payload, number);
-    match left {
-        Left::Refused(n) => Walk::Refused(n),
-        Left::Over => Walk::Over,
-        Left::Items(many) => {
-            let most = least(fields.len() / NUMBERS, many);
-            let told = tell_items(payload, at, most, fields);
-            if told == 0 {
-                return Walk::Refused(programme::PASSES_END);
-            }
-            let count = told / NUMBERS;
-            let next = fields[told - 1] as usize;
-            Walk::Items(Passed { count, next })
-        }
+    let Some(many) = left_from(payload, number)? else {
+        return Ok(None);
+    };
+    let most = (fields.len() / NUMBERS).min(many);
+    let told = tell_items(payload, at, most, fields);
+    if told == 0 {
+        return Err(Refusal::ProgrammePassesEnd);
     }
+    let count = told / NUMBERS;
+    let next = fields[told - 1] as usize;
+    Ok(Some(Passed { count, next }))
 }

@@ -8,11 +8,11 @@ returns-then-at-lt-FIRST_ITEM c = tells-early _ _ _ _ c.requires.1 c.if-at-lt-FI
 pub returns-then-bytes-at : goal.returns-then-bytes-at
 returns-then-bytes-at c = tells-beyond _ _ _ _ c.requires.1 c.if-bytes-at.true
 
-pub returns-in-Past : goal.returns-in-Past
-returns-in-Past c = stops _ _ _ _ c.requires.1 c.loop-left.invariant c.in-Past.ensures
+pub returns-in_default : goal.returns-in_default
+returns-in_default c = stops _ _ _ _ c.requires.1 c.loop-left.invariant c.in_default.ensures
 
 pub loop-left-preserved : goal.loop-left-preserved
-loop-left-preserved c = goes_on _ _ _ _ c.requires.1 c.loop-left.invariant c.loop-left-test.true c.in-At.parts (c.in-At.ensures) c.put_item.ensures
+loop-left-preserved c = goes_on _ _ _ _ c.requires.1 c.loop-left.invariant c.loop-left-test.true c.in-Some.parts c.in-Some.ensures c.put_item.ensures
 
 pub returns : goal.returns
 returns c = ends _ _ _ _ c.requires.1 c.loop-left.invariant c.loop-left-test.false
