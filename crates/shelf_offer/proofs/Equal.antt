@@ -10,14 +10,14 @@ use Rattle.base.proofs.Cases.{by}
 use Rattle.berth.specs.Berth.{places, sections, put, wiped_where}
 use Rattle.section.specs.Section.{read_of, header_of}
 use Rattle.section.specs.declared.Header.{Header}
-use Rattle.section.specs.declared.Reading.{Reading}
-use Rattle.section.specs.declared.Reading.TheVariants as reading
+use Rattle.std.specs.Prelude.{Result, Ok, Err}
+use Rattle.refusal.specs.declared.Refusal.{Refusal}
 use Rattle.shelf.specs.Record.{place_at, with_place, holds, place_of, Same}
 use Rattle.shelf.specs.Record.{Shelf}
 use Rattle.shelf.proofs.Equal.{Four, same-spoiled, same_place, same-free, same-with}
 use Rattle.shelf.proofs.Find.{place-le, place-taken}
 use Rattle.shelf_offer.specs.declared.Step.{Step}
-use Rattle.shelf_offer.specs.declared.Step.TheVariants.{Refuse, Repeats, Begins, BeginsAgain, Adds}
+use Rattle.shelf_offer.specs.declared.Step.TheVariants.{Repeats, Begins, BeginsAgain, Adds}
 use Rattle.shelf_offer.specs.Offer.{After, begun_place, added_place, offer_of}
 use Rattle.shelf.specs.Record.{key_of}
 use Rattle.shelf_offer.specs.Steps.{held_step, new_step, sound_step, reading_step, step_of, done}
@@ -39,22 +39,22 @@ module _ (a b : Shelf) (s : Same a b) (store payload : List ℕ) where
       let q = s.equal (place_of a (key_of h)) l (place-taken a (key_of h) l) in
       rw (← same_place a b s (key_of h), e) (ap (λ x. held_step x store payload (place_of a (key_of h)) h) q))
 
-  same-reading : (r : Reading) → reading_step a store payload r ≡ reading_step b store payload r
-  same-reading (reading.Sound h) = same-sound h
-  same-reading (reading.Refused n) = refl
+  same-reading : (r : Result Header Refusal) → reading_step a store payload r ≡ reading_step b store payload r
+  same-reading (Ok h) = same-sound h
+  same-reading (Err r) = refl
 
   same_step : step_of a store payload ≡ step_of b store payload
   unfolding step_of
   same_step = rw (same-spoiled a b s, same-reading (read_of payload))
 
   module _ (fa : Four a) (fb : Four b) where
-    same-done : (r : Step) → Fits a store payload r → SameAfter (done a store payload r) (done b store payload r)
+    same-done : (r : Result Step Refusal) → Fits a store payload r → SameAfter (done a store payload r) (done b store payload r)
     unfolding done
-    same-done (Refuse n) f = record { said = refl; store = refl; shelf = s }
-    same-done Repeats f = record { said = refl; store = refl; shelf = s }
-    same-done (Begins p) f =
+    same-done (Err r) f = record { said = refl; store = refl; shelf = s }
+    same-done (Ok Repeats) f = record { said = refl; store = refl; shelf = s }
+    same-done (Ok (Begins p)) f =
         record { said = refl; store = refl; shelf = same-with a b s fa fb p f.0.place (begun_place (header_of payload) (length payload)) }
-    same-done (BeginsAgain p) f =
+    same-done (Ok (BeginsAgain p)) f =
         record {
           said = refl;
           store = ap
@@ -62,7 +62,7 @@ module _ (a b : Shelf) (s : Same a b) (store payload : List ℕ) where
               (s.equal p f.0.place f.1);
           shelf = same-with a b s fa fb p f.0.place (begun_place (header_of payload) (length payload));
         }
-    same-done (Adds p) f =
+    same-done (Ok (Adds p)) f =
         record {
           said = refl;
           store = refl;

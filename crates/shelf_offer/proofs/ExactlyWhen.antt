@@ -5,7 +5,9 @@
 --   exactly                   so of every number
 --   accepted                  no number is given exactly when none is so
 -- They are one law of tables (`Tables` of base); `offer-number` says that an offer's number is the table's.
-use Rattle.std.specs.Prelude.{if◌then◌else◌}
+use Rattle.std.specs.Prelude.{if◌then◌else◌, Ok, Err}
+use Rattle.refusal.specs.Refusal.{number as number_for, number_of}
+use Rattle.refusal.specs.declared.Refusal.TheVariants as refusal
 use mathlib.Core.Path.{◌≡◌, refl, sym, ap, ◌∙◌}
 use mathlib.Core.List.{List, [], ◌∷◌, ◌++◌}
 use mathlib.Core.Bool.{false, not, ◌&&◌, ◌||◌}
@@ -23,14 +25,13 @@ use Rattle.base.proofs.Same.{same_refl, same-equal}
 use Rattle.base.proofs.Tables.{words, and_so, not_so, number-first, given, passed}
 use Rattle.berth.specs.Berth.{places, store_size, standing}
 use Rattle.section.specs.Section.{faults, header_of, read_of}
-use Rattle.section.specs.declared.Reading.TheVariants as reading
 use Rattle.section.proofs.ExactlyWhen as section
 use Rattle.shelf.specs.Record.{place_at, length_at, holds, spoiled_of, place_of, free_of}
 use Rattle.key.specs.declared.Key.{Key}
 use Rattle.shelf.specs.Record.{Place}
 use Rattle.shelf.specs.Record.{Shelf}
 use Rattle.shelf.proofs.Words.{Some, Held, HasKey, Spoiled, decided, not-held, none_free}
-use Rattle.shelf_offer.specs.Offer.{number_of, new_of, held_of, sound_of, reading_of, offer_of}
+use Rattle.shelf_offer.specs.Offer.{new_of, held_of, sound_of, reading_of, offer_of}
 use Rattle.shelf.specs.Record.{key_of}
 
 bytes-so : (a b : List ℕ) → Decides (same a b) (a ≡ b)
@@ -43,9 +44,9 @@ agree-append [] (w ∷ ws) g ss vs h = absurd g
 agree-append (r ∷ rs) [] g ss vs h = absurd g
 agree-append (r ∷ rs) (w ∷ ws) g ss vs h = (g.0, g.1, agree-append rs ws g.2 ss vs h)
 
-first-append : (rs ss : List Row) (other : ℕ) → first (λ n. n) (rs ++ ss) other ≡ first (λ n. n) rs (first (λ n. n) ss other)
+first-append : (rs ss : List Row) (other : ℕ) → first number_for (rs ++ ss) other ≡ first number_for rs (first number_for ss other)
 first-append [] ss other = refl
-first-append (r ∷ rs) ss other = ap (λ x. if r.when then r.no else x) (first-append rs ss other)
+first-append (r ∷ rs) ss other = ap (λ x. if r.when then number_for r.refusal else x) (first-append rs ss other)
 
 module _ (shelf : Shelf) (store payload : List ℕ) where
   -- the payload's key, the place that it has, and what stands in the berth of its number
@@ -92,14 +93,14 @@ module _ (shelf : Shelf) (store payload : List ℕ) where
   -- the tests that these words say
   abbrev last-rows : List Row
   last-rows =
-      9 if (eqb (place_of shelf key) places && eqb (free_of shelf) places)
-      ∷ 10 if (not (eqb (place_of shelf key) places)
+      refusal.NoFreePlace if (eqb (place_of shelf key) places && eqb (free_of shelf) places)
+      ∷ refusal.Differs if (not (eqb (place_of shelf key) places)
       && (eqb its.version (header_of payload).version
       && (not (eqb its.last (header_of payload).last) || (holds its number && not (same stored payload)))))
       ∷ []
 
   abbrev rows : List Row
-  rows = 17 if not (eqb (length store) store_size) ∷ 18 if spoiled_of shelf ∷ (faults payload ++ last-rows)
+  rows = refusal.StoreSize if not (eqb (length store) store_size) ∷ refusal.ShelfSpoiled if spoiled_of shelf ∷ (faults payload ++ last-rows)
 
   new-so : Decides (eqb (place_of shelf key) places && eqb (free_of shelf) places) NoFreePlace
   new-so = and_so (eqb (place_of shelf key) places) (eqb (free_of shelf) places) (not-held shelf key) (none_free shelf)
@@ -130,7 +131,7 @@ module _ (shelf : Shelf) (store payload : List ℕ) where
   abbrev pub offered : ℕ
   offered = number_of (offer_of shelf store payload).said
 
-  last-number : number_of (sound_of shelf store payload (header_of payload)).said ≡ first (λ n. n) last-rows 0
+  last-number : number_of (sound_of shelf store payload (header_of payload)).said ≡ first number_for last-rows 0
   unfolding sound_of new_of held_of
   last-number =
       by (eqb (place_of shelf key) places)
@@ -146,14 +147,14 @@ module _ (shelf : Shelf) (store payload : List ℕ) where
       (λ c. rw (a, b, c)))
       (λ b. rw (a, b)))
 
-  reading_number : number_of (reading_of shelf store payload (read_of payload)).said ≡ first (λ n. n) (faults payload ++ last-rows) 0
+  reading_number : number_of (reading_of shelf store payload (read_of payload)).said ≡ first number_for (faults payload ++ last-rows) 0
   unfolding read_of
   reading_number =
-      number-first reading.Refused (λ r. number_of (reading_of shelf store payload r).said) (λ n. refl) (faults payload) (reading.Sound (header_of payload))
-      ∙ ap (first (λ n. n) (faults payload)) last-number
+      number-first Err (λ r. number_of (reading_of shelf store payload r).said) (λ r. refl) (faults payload) (Ok (header_of payload))
+      ∙ ap (first number_for (faults payload)) last-number
       ∙ sym (first-append (faults payload) last-rows 0)
 
-  offer-number : offered ≡ first (λ n. n) rows 0
+  offer-number : offered ≡ first number_for rows 0
   unfolding offer_of
   offer-number =
       by (not (eqb (length store) store_size))
@@ -161,7 +162,7 @@ module _ (shelf : Shelf) (store payload : List ℕ) where
       (λ a. by (spoiled_of shelf) (λ b. rw (a, b)) (λ b. rw (a, b) reading_number))
 
   pub exactly : (n : ℕ) → 0 < n → (offered ≡ n) ↔ (NoneBefore n × said n table)
-  exactly n p = rw offer-number (given (λ n. n) (λ n. n) (λ n. refl) rows 0 table agreed refl n (omega arith))
+  exactly n p = rw offer-number (given number_for (λ n. n) (λ r. refl) rows 0 table agreed refl n (omega arith))
 
   pub refused-17 : (offered ≡ 17) ↔ (NoneBefore 17 × StoreSize)
   refused-17 = exactly 17 (omega arith)
@@ -178,4 +179,4 @@ module _ (shelf : Shelf) (store payload : List ℕ) where
   pub accepted : (offered ≡ 0) ↔ None table
   accepted =
       rw offer-number
-      (Iff.trans (passed (λ n. n) (λ n. n) (λ n. refl) rows 0 table agreed 0 refl) (λ w. w.0, λ n. (n, refl)))
+      (Iff.trans (passed number_for (λ n. n) (λ r. refl) rows 0 table agreed 0 refl) (λ w. w.0, λ n. (n, refl)))

@@ -4,21 +4,22 @@
 --   wrote-added, wrote-begun                   a call that writes
 use mathlib.Core.Path.{◌≡◌, refl, sym, ap, ◌∙◌}
 use mathlib.Core.List.{List}
-use mathlib.Core.Bool.{Bool, true, false}
+use mathlib.Core.Bool.{true, false}
 use Prim.Native.Nat.{ℕ, ◌+◌, ◌*◌, ◌/◌, ◌%◌, ◌<◌, ◌≤◌}
 use native.Mathlib.Omega.{arith}
 use lib.Dec.{eqb}
 use lib.ListN.{length}
 use borrow.Author.Tests.{eq-eqb, ne_eqb, eqb-true, eqb-false}
 use Rattle.base.specs.Bits.{bit}
-use Rattle.base.proofs.Cases.{by, unlike}
+use Rattle.base.proofs.Cases.{by}
 use Rattle.answers.specs.Answers.{lent}
 use Rattle.berth.specs.Berth.{store_size}
 use Rattle.berth.specs.Calls.{put_in, wiped_where_in}
 use Rattle.section.specs.Section.{read_of, header_of}
 use Rattle.section.specs.declared.Header.{Header}
-use Rattle.section.specs.declared.Reading.{Reading}
-use Rattle.section.specs.declared.Reading.TheVariants as reading
+use Rattle.std.specs.Prelude.{Result, Ok, Err}
+use Rattle.refusal.specs.declared.Refusal.{Refusal}
+use Rattle.refusal.specs.declared.Refusal.TheVariants.{StoreSize, ShelfSpoiled}
 use Rattle.section.proofs.Laws.{sound-facts}
 use Rattle.shelf.specs.Record.{Shelf, key_of, spoiled_of}
 use Rattle.key.specs.declared.Key.{Key}
@@ -27,7 +28,7 @@ use Rattle.shelf.proofs.Numbers.{no_record_lem}
 use Rattle.shelf_write.specs.Calls.{held_put, head_put}
 use Rattle.shelf_offer.specs.declared.Offered.{Offered}
 use Rattle.shelf_offer.specs.declared.Step.{Step}
-use Rattle.shelf_offer.specs.declared.Step.TheVariants.{Refuse, Repeats, Begins, BeginsAgain, Adds}
+use Rattle.shelf_offer.specs.declared.Step.TheVariants.{Repeats, Begins, BeginsAgain, Adds}
 use Rattle.shelf_offer.specs.Steps.{sound_step, step_of, step_by, what_by, place_by, answer_by, going_by, begun_by}
 use Rattle.shelf_check.specs.Unless.{unless_spoiled}
 use Rattle.shelf_offer.specs.On.{leaving, offer_on}
@@ -36,9 +37,9 @@ use Rattle.shelf_offer.proofs.On.{repeated, refused, added, began, began-again}
 use Rattle.shelf_offer.proofs.Steps.{step-sound}
 use Rattle.shelf_offer.proofs.Told.{told}
 
-abbrev is-sound : Reading → Bool
-is-sound (reading.Sound h) = true
-is-sound (reading.Refused n) = false
+-- no refusal is an answer
+never : {A : Type 0} {r : Refusal} {a : A} → ◌≡◌ {A = Result A Refusal} (Err r) (Ok a) → ⊥
+never e = let z : ◌≡◌ {A = ℕ} 0 1 = cc in omega arith
 
 by-adds : (what p : ℕ) → what ≡ 3 → step_by what p ≡ Adds p
 unfolding step_by
@@ -54,51 +55,51 @@ by-begins what p d e = rw (ne_eqb what 3 d, ne_eqb what 2 e)
 
 -- what a step writes says which step it is, which number it adds, and in bit 0 nothing
 module _ (n k : ℕ) (l : n < 16) (m : k ≤ 1) where
-  by-what : (r : Step) → (what_by r n ≡ 0 → ⊥) → r ≡ step_by ((what_by r n + k) / 256) (place_by r)
-  by-what (Refuse x) d = absurd (d refl)
-  by-what Repeats d = absurd (d refl)
-  by-what (Begins p) d = sym (by-begins ((256 + k) / 256) p (λ z. omega (arith, m, z)) (λ z. omega (arith, m, z)))
-  by-what (BeginsAgain p) d = sym (by-again ((512 + k) / 256) p (omega (arith, m)))
-  by-what (Adds p) d = sym (by-adds ((768 + 2 * n + k) / 256) p (omega (arith, l, m)))
+  by-what : (r : Result Step Refusal) → (what_by r n ≡ 0 → ⊥) → r ≡ Ok (step_by ((what_by r n + k) / 256) (place_by r))
+  by-what (Err x) d = absurd (d refl)
+  by-what (Ok Repeats) d = absurd (d refl)
+  by-what (Ok (Begins p)) d = ap Ok (sym (by-begins ((256 + k) / 256) p (λ z. omega (arith, m, z)) (λ z. omega (arith, m, z))))
+  by-what (Ok (BeginsAgain p)) d = ap Ok (sym (by-again ((512 + k) / 256) p (omega (arith, m))))
+  by-what (Ok (Adds p)) d = ap Ok (sym (by-adds ((768 + 2 * n + k) / 256) p (omega (arith, l, m))))
 
-  number_by : (r : Step) → (what_by r n + k) / 256 ≡ 3 → (what_by r n + k) / 2 % 16 ≡ n
-  number_by (Refuse x) e = absurd (omega (arith, m, e))
-  number_by Repeats e = absurd (omega (arith, m, e))
-  number_by (Begins p) e = absurd (omega (arith, m, e))
-  number_by (BeginsAgain p) e = absurd (omega (arith, m, e))
-  number_by (Adds p) e = omega (arith, l, m)
+  number_by : (r : Result Step Refusal) → (what_by r n + k) / 256 ≡ 3 → (what_by r n + k) / 2 % 16 ≡ n
+  number_by (Err x) e = absurd (omega (arith, m, e))
+  number_by (Ok Repeats) e = absurd (omega (arith, m, e))
+  number_by (Ok (Begins p)) e = absurd (omega (arith, m, e))
+  number_by (Ok (BeginsAgain p)) e = absurd (omega (arith, m, e))
+  number_by (Ok (Adds p)) e = omega (arith, l, m)
 
-  asked_by : (r : Step) → (what_by r n + k) % 2 ≡ 0 → k ≡ 0
-  asked_by (Refuse x) e = omega (arith, m, e)
-  asked_by Repeats e = omega (arith, m, e)
-  asked_by (Begins p) e = omega (arith, m, e)
-  asked_by (BeginsAgain p) e = omega (arith, m, e)
-  asked_by (Adds p) e = omega (arith, m, e)
+  asked_by : (r : Result Step Refusal) → (what_by r n + k) % 2 ≡ 0 → k ≡ 0
+  asked_by (Err x) e = omega (arith, m, e)
+  asked_by (Ok Repeats) e = omega (arith, m, e)
+  asked_by (Ok (Begins p)) e = omega (arith, m, e)
+  asked_by (Ok (BeginsAgain p)) e = omega (arith, m, e)
+  asked_by (Ok (Adds p)) e = omega (arith, m, e)
 
 module _ (words store payload : List ℕ) where
   abbrev shelf : Shelf
   shelf = shelf_at words
 
-  step-size : (length store ≡ store_size → ⊥) → step_of shelf store payload ≡ Refuse 17
+  step-size : (length store ≡ store_size → ⊥) → step_of shelf store payload ≡ Err StoreSize
   unfolding step_of
   step-size d = rw (ne_eqb (length store) store_size d)
 
-  step-spoiled : length store ≡ store_size → spoiled_of shelf ≡ true → step_of shelf store payload ≡ Refuse 18
+  step-spoiled : length store ≡ store_size → spoiled_of shelf ≡ true → step_of shelf store payload ≡ Err ShelfSpoiled
   unfolding step_of
   step-spoiled w s = rw (eq-eqb (length store) store_size w, s)
 
-  pub no_store : {code : ℕ} → (length store ≡ store_size → ⊥) → code ≡ offered_code (Offered.Refused 17) → lent code words store ≡ offer_lent words store payload
-  no_store d e = told words store payload (refused words store payload 17 (step-size d)) e
+  pub no_store : {code : ℕ} → (length store ≡ store_size → ⊥) → code ≡ offered_code (Err StoreSize) → lent code words store ≡ offer_lent words store payload
+  no_store d e = told words store payload (refused words store payload StoreSize (step-size d)) e
 
-  pub all-spoiled : {code : ℕ} → length store ≡ store_size → spoiled_of shelf ≡ true → code ≡ offered_code (Offered.Refused 18) → lent code words store ≡ offer_lent words store payload
-  all-spoiled w s e = told words store payload (refused words store payload 18 (step-spoiled w s)) e
+  pub all-spoiled : {code : ℕ} → length store ≡ store_size → spoiled_of shelf ≡ true → code ≡ offered_code (Err ShelfSpoiled) → lent code words store ≡ offer_lent words store payload
+  all-spoiled w s e = told words store payload (refused words store payload ShelfSpoiled (step-spoiled w s)) e
 
-  pub no-count : {code : ℕ} → length store ≡ store_size → (length words ≡ 96 → ⊥) → code ≡ offered_code (Offered.Refused 18) → lent code words store ≡ offer_lent words store payload
+  pub no-count : {code : ℕ} → length store ≡ store_size → (length words ≡ 96 → ⊥) → code ≡ offered_code (Err ShelfSpoiled) → lent code words store ≡ offer_lent words store payload
   no-count w d e = all-spoiled w (no_record_lem words d) e
 
   settled :
       {code number : ℕ}
-      (answer : Offered)
+      (answer : Result Offered Refusal)
       → length store ≡ store_size
       → number ≡ offered_code answer
       → code ≡ unless_spoiled (spoiled_of shelf) number
@@ -110,27 +111,27 @@ module _ (words store payload : List ℕ) where
       (λ s. all-spoiled w s (rw s at e))
       (λ s. told words store payload (f s) ((rw s at e) ∙ q))
 
-  pub refused-lent : {code : ℕ} (n : ℕ) → step_of shelf store payload ≡ Refuse n → code ≡ offered_code (Offered.Refused n) → lent code words store ≡ offer_lent words store payload
-  refused-lent n s e = told words store payload (refused words store payload n s) e
+  pub refused-lent : {code : ℕ} (r : Refusal) → step_of shelf store payload ≡ Err r → code ≡ offered_code (Err r) → lent code words store ≡ offer_lent words store payload
+  refused-lent r s e = told words store payload (refused words store payload r s) e
 
   -- a step that writes nothing leaves all as it was
-  still : (r : Step) (n : ℕ) → what_by r n ≡ 0 → step_of shelf store payload ≡ r → leaving (answer_by r) words store ≡ offer_on words store payload
-  still (Refuse x) n z e = refused words store payload x e
-  still Repeats n z e = repeated words store payload e
-  still (Begins p) n z e = absurd (omega (arith, z))
-  still (BeginsAgain p) n z e = absurd (omega (arith, z))
-  still (Adds p) n z e = absurd (omega (arith, z))
+  still : (r : Result Step Refusal) (n : ℕ) → what_by r n ≡ 0 → step_of shelf store payload ≡ r → leaving (answer_by r) words store ≡ offer_on words store payload
+  still (Err x) n z e = refused words store payload x e
+  still (Ok Repeats) n z e = repeated words store payload e
+  still (Ok (Begins p)) n z e = absurd (omega (arith, z))
+  still (Ok (BeginsAgain p)) n z e = absurd (omega (arith, z))
+  still (Ok (Adds p)) n z e = absurd (omega (arith, z))
 
   -- the step that was found is the one that the writing goes by
-  module _ (w : length store ≡ store_size) (header : Header) (e : read_of payload ≡ reading.Sound header) {r : Step} (f : spoiled_of shelf ≡ false → r ≡ sound_step shelf store payload header) where
-    pub step-found : {t : Step} → r ≡ t → spoiled_of shelf ≡ false → step_of shelf store payload ≡ t
+  module _ (w : length store ≡ store_size) (header : Header) (e : read_of payload ≡ Ok header) {r : Result Step Refusal} (f : spoiled_of shelf ≡ false → r ≡ sound_step shelf store payload header) where
+    pub step-found : {t : Result Step Refusal} → r ≡ t → spoiled_of shelf ≡ false → step_of shelf store payload ≡ t
     step-found q u = sym (step-sound shelf store payload w u header e (f u)) ∙ q
 
     module _ {what : ℕ} (i : what ≡ what_by r header.number) where
       -- it settles the offer
       pub settles :
           {code number : ℕ}
-          {answer : Offered}
+          {answer : Result Offered Refusal}
           → answer ≡ answer_by r
           → number ≡ offered_code answer
           → what ≡ 0
@@ -147,8 +148,8 @@ module _ (words store payload : List ℕ) where
           → k ≤ 1
           → (k ≡ 0 → spoiled_of shelf ≡ false)
           → ((what + k) % 2 ≡ 0 → spoiled_of shelf ≡ false)
-          × (((h : Header) → read_of payload ≡ reading.Sound h → spoiled_of shelf ≡ false → step_of shelf store payload ≡ step_by ((what + k) / 256) p)
-          × ((what + k) / 256 ≡ 3 → (read_of payload ≡ reading.Sound (header_of payload)) × ((what + k) / 2 % 16 ≡ (header_of payload).number)))
+          × (((h : Header) → read_of payload ≡ Ok h → spoiled_of shelf ≡ false → step_of shelf store payload ≡ Ok (step_by ((what + k) / 256) p))
+          × ((what + k) / 256 ≡ 3 → (read_of payload ≡ Ok (header_of payload)) × ((what + k) / 2 % 16 ≡ (header_of payload).number)))
       leads {k} {p} q d m s =
           let g = sound-facts payload header e in
           let n = header.number in
@@ -156,15 +157,15 @@ module _ (words store payload : List ℕ) where
             λ z. s (asked_by n k l m r (let z' : (what_by r n + k) % 2 ≡ 0 = rw i at z in z')),
             (
               (λ h j u. step-found refl u ∙ by-what n k l m r (λ z. d (i ∙ z)) ∙ rw (i, q)),
-              λ z. (e ∙ ap reading.Sound g.header, rw i (number_by n k l m r (let z' : (what_by r n + k) / 256 ≡ 3 = rw i at z in z')) ∙ ap (λ x. x.number) g.header),
+              λ z. (e ∙ ap Ok g.header, rw i (number_by n k l m r (let z' : (what_by r n + k) / 256 ≡ 3 = rw i at z in z')) ∙ ap (λ x. x.number) g.header),
             ),
           )
 
   -- a payload that is not sound leads nowhere
-  pub leads-nowhere : (what p : ℕ) {n : ℕ} → read_of payload ≡ reading.Refused n → (h : Header) → read_of payload ≡ reading.Sound h → spoiled_of shelf ≡ false → step_of shelf store payload ≡ step_by what p
-  leads-nowhere what p i h j u = absurd (unlike (ap is-sound (sym j ∙ i)))
+  pub leads-nowhere : (what p : ℕ) {r : Refusal} → read_of payload ≡ Err r → (h : Header) → read_of payload ≡ Ok h → spoiled_of shelf ≡ false → step_of shelf store payload ≡ Ok (step_by what p)
+  leads-nowhere what p i h j u = absurd (never (sym i ∙ j))
 
-  module _ (what p : ℕ) (s : step_of shelf store payload ≡ step_by what p) where
+  module _ (what p : ℕ) (s : step_of shelf store payload ≡ Ok (step_by what p)) where
     pub wrote-added :
         {n code : ℕ}
         {left kept : List ℕ}
@@ -172,9 +173,9 @@ module _ (words store payload : List ℕ) where
         → n ≡ (header_of payload).number
         → kept ≡ held_put words p n (length payload)
         → left ≡ put_in store p n payload
-        → code ≡ offered_code Offered.Added
+        → code ≡ offered_code (Ok Offered.Added)
         → lent code kept left ≡ offer_lent words store payload
-    wrote-added e m k l c = told words store payload (added words store payload p (s ∙ by-adds what p e) m k l) c
+    wrote-added e m k l c = told words store payload (added words store payload p (s ∙ ap Ok (by-adds what p e)) m k l) c
 
     module _ (h : Header) (g : h ≡ header_of payload) where
       pub wrote-begun :
@@ -191,16 +192,16 @@ module _ (words store payload : List ℕ) where
           → kept ≡ held_put head p n (length payload)
           → left ≡ put_in wiped p n payload
           → answer ≡ begun_by what
-          → code ≡ offered_code answer
+          → code ≡ offered_code (Ok answer)
           → lent code kept left ≡ offer_lent words store payload
       unfolding going_by begun_by
       wrote-begun d m q i j v k l a c =
           by (eqb what 2)
           (λ t.
           told words store payload
-          (began-again words store payload p (s ∙ by-again what p (eqb-true what 2 t)) (rw g at m) (rw g at q) (rw g at i) (rw t at j) v k l)
-          (c ∙ ap offered_code (rw t at a)))
+          (began-again words store payload p (s ∙ ap Ok (by-again what p (eqb-true what 2 t))) (rw g at m) (rw g at q) (rw g at i) (rw t at j) v k l)
+          (c ∙ ap (λ x. offered_code (Ok x)) (rw t at a)))
           (λ t.
           told words store payload
-          (began words store payload p (s ∙ by-begins what p d (eqb-false what 2 t)) (rw g at m) (rw g at q) (rw g at i) (rw t at j) v k l)
-          (c ∙ ap offered_code (rw t at a)))
+          (began words store payload p (s ∙ ap Ok (by-begins what p d (eqb-false what 2 t))) (rw g at m) (rw g at q) (rw g at i) (rw t at j) v k l)
+          (c ∙ ap (λ x. offered_code (Ok x)) (rw t at a)))

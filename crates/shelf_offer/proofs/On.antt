@@ -26,9 +26,11 @@ use Rattle.shelf_write.specs.Calls.{held_put, head_put}
 use Rattle.shelf.proofs.Numbers.{at_count, spoiled-count, taken_at, table_at, held_at, among-place, among-free, among-mask}
 use Rattle.shelf.proofs.Find.{place-taken}
 use Rattle.shelf_write.proofs.Lent as lent
+use Rattle.std.specs.Prelude.{Result, Ok, Err}
+use Rattle.refusal.specs.declared.Refusal.{Refusal}
 use Rattle.shelf_offer.specs.declared.Offered.{Offered}
 use Rattle.shelf_offer.specs.declared.Step.{Step}
-use Rattle.shelf_offer.specs.declared.Step.TheVariants.{Refuse, Repeats, Begins, BeginsAgain, Adds}
+use Rattle.shelf_offer.specs.declared.Step.TheVariants.{Repeats, Begins, BeginsAgain, Adds}
 use Rattle.shelf_offer.specs.Offer.{begun_place, offer_of}
 use Rattle.shelf_offer.specs.Steps.{step_of, done, written}
 use Rattle.shelf_offer.specs.On.{Leaving, leaving, begun_words, words_by, offer_on}
@@ -61,17 +63,17 @@ module _ (words store payload : List ℕ) where
   size = length payload
 
   -- a step writes what the answer of what it does says
-  written-said : (s : Step) → Fits shelf store payload s → written words payload s ≡ words_by words payload (done shelf store payload s).said
+  written-said : (s : Result Step Refusal) → Fits shelf store payload s → written words payload s ≡ words_by words payload (done shelf store payload s).said
   unfolding done written
-  written-said (Refuse n) f = refl
-  written-said Repeats f = refl
-  written-said (Begins p) f = rw f.1
-  written-said (BeginsAgain p) f = rw f.2
-  written-said (Adds p) f = rw f.2
+  written-said (Err r) f = refl
+  written-said (Ok Repeats) f = refl
+  written-said (Ok (Begins p)) f = rw f.1
+  written-said (Ok (BeginsAgain p)) f = rw f.2
+  written-said (Ok (Adds p)) f = rw f.2
 
   -- what was decided, done
   pub decided :
-      {r : Step}
+      {r : Result Step Refusal}
       {x : Leaving}
       → step_of shelf store payload ≡ r
       → x ≡ leaving (done shelf store payload r).said (written words payload r) (done shelf store payload r).store
@@ -84,13 +86,13 @@ module _ (words store payload : List ℕ) where
       ∙ ap (λ v. leaving (done shelf store payload s).said v (done shelf store payload s).store) (written-said s (step_fits shelf store payload))
       ∙ ap (λ a. leaving a.said (words_by words payload a.said) a.store) (step-done shelf store payload)
 
-  pub repeated : step_of shelf store payload ≡ Repeats → leaving Offered.Repeat words store ≡ offer_on words store payload
+  pub repeated : step_of shelf store payload ≡ Ok Repeats → leaving (Ok Offered.Repeat) words store ≡ offer_on words store payload
   unfolding done written
   repeated e = decided e refl
 
-  pub refused : (n : ℕ) → step_of shelf store payload ≡ Refuse n → leaving (Offered.Refused n) words store ≡ offer_on words store payload
+  pub refused : (r : Refusal) → step_of shelf store payload ≡ Err r → leaving (Err r) words store ≡ offer_on words store payload
   unfolding done written
-  refused n e = decided e refl
+  refused r e = decided e refl
 
   -- the header that the payload has
   abbrev h : Header
@@ -100,13 +102,13 @@ module _ (words store payload : List ℕ) where
     abbrev Range : Type 0
     Range = InRange shelf store payload p
 
-    pub begins-fit : step_of shelf store payload ≡ Begins p → Range
+    pub begins-fit : step_of shelf store payload ≡ Ok (Begins p) → Range
     begins-fit e = (subst (Fits shelf store payload) e (step_fits shelf store payload)).0
 
-    pub again-fit : step_of shelf store payload ≡ BeginsAgain p → Held shelf store payload p
+    pub again-fit : step_of shelf store payload ≡ Ok (BeginsAgain p) → Held shelf store payload p
     again-fit e = subst (Fits shelf store payload) e (step_fits shelf store payload)
 
-    pub adds_fit : step_of shelf store payload ≡ Adds p → Held shelf store payload p
+    pub adds_fit : step_of shelf store payload ≡ Ok (Adds p) → Held shelf store payload p
     adds_fit e = subst (Fits shelf store payload) e (step_fits shelf store payload)
 
     -- the numbers of a record that is not spoiled
@@ -122,11 +124,11 @@ module _ (words store payload : List ℕ) where
     pub added :
         {n : ℕ}
         {left kept : List ℕ}
-        → step_of shelf store payload ≡ Adds p
+        → step_of shelf store payload ≡ Ok (Adds p)
         → n ≡ h.number
         → kept ≡ held_put words p n size
         → left ≡ put_in store p n payload
-        → leaving Offered.Added kept left ≡ offer_on words store payload
+        → leaving (Ok Offered.Added) kept left ≡ offer_on words store payload
     unfolding done written
     added e m k s = let f = (adds_fit e).0 in decided e (rw (held-left words m (fits f) f k, put-left store m f.whole f s))
 
@@ -152,7 +154,7 @@ module _ (words store payload : List ℕ) where
         {n mask : ℕ}
         {key : Key}
         {left head kept wiped : List ℕ}
-        → step_of shelf store payload ≡ Begins p
+        → step_of shelf store payload ≡ Ok (Begins p)
         → n ≡ h.number
         → key ≡ key_of h
         → head ≡ head_put words p key h.version h.last
@@ -160,7 +162,7 @@ module _ (words store payload : List ℕ) where
         → wiped ≡ wiped_where_in (bit mask) store p
         → kept ≡ held_put head p n size
         → left ≡ put_in wiped p n payload
-        → leaving Offered.Began kept left ≡ offer_on words store payload
+        → leaving (Ok Offered.Began) kept left ≡ offer_on words store payload
     unfolding done written
     began {wiped = wiped} e m q d i v k s =
         let f = begins-fit e in
@@ -172,7 +174,7 @@ module _ (words store payload : List ℕ) where
         {n mask : ℕ}
         {key : Key}
         {left head kept wiped : List ℕ}
-        → step_of shelf store payload ≡ BeginsAgain p
+        → step_of shelf store payload ≡ Ok (BeginsAgain p)
         → n ≡ h.number
         → key ≡ key_of h
         → head ≡ head_put words p key h.version h.last
@@ -180,7 +182,7 @@ module _ (words store payload : List ℕ) where
         → wiped ≡ wiped_where_in (bit mask) store p
         → kept ≡ held_put head p n size
         → left ≡ put_in wiped p n payload
-        → leaving Offered.BeganAgain kept left ≡ offer_on words store payload
+        → leaving (Ok Offered.BeganAgain) kept left ≡ offer_on words store payload
     unfolding done written
     began-again {mask = mask} {wiped = wiped} e m q d i v k s =
         let f = (again-fit e).0 in
@@ -212,13 +214,13 @@ module _ (words store payload : List ℕ) where
     begun-shelf p f =
         lent.begun-lent words (fits p f) p f.place (key_of h) h.version h.last h.number size byte-key (from_proper _ _ _ _) f.number (omega (arith, f.least))
 
-    done-shelf : (s : Step) → Fits shelf store payload s → shelf_at (written words payload s) ≡ (done shelf store payload s).shelf
+    done-shelf : (s : Result Step Refusal) → Fits shelf store payload s → shelf_at (written words payload s) ≡ (done shelf store payload s).shelf
     unfolding done written
-    done-shelf (Refuse n) f = refl
-    done-shelf Repeats f = refl
-    done-shelf (Begins p) f = begun-shelf p f.0
-    done-shelf (BeginsAgain p) f = begun-shelf p f.0
-    done-shelf (Adds p) g =
+    done-shelf (Err r) f = refl
+    done-shelf (Ok Repeats) f = refl
+    done-shelf (Ok (Begins p)) f = begun-shelf p f.0
+    done-shelf (Ok (BeginsAgain p)) f = begun-shelf p f.0
+    done-shelf (Ok (Adds p)) g =
         let f = g.0 in
         lent.held-lent words (fits p f) p f.place h.number f.number size (omega (arith, f.least)) (taken_of words p (fits p f) f.place g.1)
 

@@ -15,66 +15,67 @@ use Rattle.base.proofs.Cases.{by, either}
 use Rattle.berth.specs.Berth.{berth_size, store_size, places, sections, standing}
 use Rattle.section.specs.Section.{read_of, header_of}
 use Rattle.section.specs.declared.Header.{Header}
-use Rattle.section.specs.declared.Reading.{Reading}
-use Rattle.section.specs.declared.Reading.TheVariants as reading
+use Rattle.std.specs.Prelude.{Result, Ok, Err}
+use Rattle.refusal.specs.declared.Refusal.{Refusal}
+use Rattle.refusal.specs.declared.Refusal.TheVariants.{NoFreePlace, Differs}
 use Rattle.section.proofs.Laws.{SoundFacts, sound-facts}
 use Rattle.shelf.specs.Record.{place_at, length_at, holds, spoiled_of, place_of, free_of}
 use Rattle.shelf.specs.Record.{Place}
 use Rattle.shelf.specs.Record.{Shelf}
 use Rattle.shelf.proofs.Find.{place-le, place-taken, free-le}
 use Rattle.shelf_offer.specs.declared.Step.{Step}
-use Rattle.shelf_offer.specs.declared.Step.TheVariants.{Refuse, Repeats, Begins, BeginsAgain, Adds}
+use Rattle.shelf_offer.specs.declared.Step.TheVariants.{Repeats, Begins, BeginsAgain, Adds}
 use Rattle.shelf_offer.specs.Offer.{new_of, held_of, sound_of, reading_of, offer_of}
 use Rattle.shelf.specs.Record.{key_of}
 use Rattle.shelf_offer.specs.Steps.{held_step, new_step, sound_step, reading_step, step_of, done}
 
-pub held-again : (place : Place) (store payload : List ℕ) (p : ℕ) (h : Header) → (place.version ≡ h.version → ⊥) → BeginsAgain p ≡ held_step place store payload p h
+pub held-again : (place : Place) (store payload : List ℕ) (p : ℕ) (h : Header) → (place.version ≡ h.version → ⊥) → Ok (BeginsAgain p) ≡ held_step place store payload p h
 unfolding held_step
 held-again place store payload p h d = rw (ne_eqb _ _ d)
 
-pub held-last : (place : Place) (store payload : List ℕ) (p : ℕ) (h : Header) → place.version ≡ h.version → (place.last ≡ h.last → ⊥) → Refuse 10 ≡ held_step place store payload p h
+pub held-last : (place : Place) (store payload : List ℕ) (p : ℕ) (h : Header) → place.version ≡ h.version → (place.last ≡ h.last → ⊥) → Err Differs ≡ held_step place store payload p h
 unfolding held_step
 held-last place store payload p h v d = rw (eq-eqb _ _ v, ne_eqb _ _ d)
 
 module _ (place : Place) (store payload : List ℕ) (p : ℕ) (h : Header) (v : place.version ≡ h.version) (l : place.last ≡ h.last) where
-  pub held-adds : length_at place h.number ≡ 0 → Adds p ≡ held_step place store payload p h
+  pub held-adds : length_at place h.number ≡ 0 → Ok (Adds p) ≡ held_step place store payload p h
   unfolding held_step
   held-adds z = rw (eq-eqb _ _ v, eq-eqb _ _ l, eq-eqb _ _ z)
 
   pub held-repeats : (length_at place h.number ≡ 0 → ⊥)
       → same (standing store p h.number (length_at place h.number)) payload ≡ true
-      → Repeats ≡ held_step place store payload p h
+      → Ok Repeats ≡ held_step place store payload p h
   unfolding held_step
   held-repeats z s = rw (eq-eqb _ _ v, eq-eqb _ _ l, ne_eqb _ _ z, s)
 
   pub held-differs : (length_at place h.number ≡ 0 → ⊥)
       → same (standing store p h.number (length_at place h.number)) payload ≡ false
-      → Refuse 10 ≡ held_step place store payload p h
+      → Err Differs ≡ held_step place store payload p h
   unfolding held_step
   held-differs z s = rw (eq-eqb _ _ v, eq-eqb _ _ l, ne_eqb _ _ z, s)
 
 -- a key that was looked for: the place is the one that was found
 module _ (shelf : Shelf) (store payload : List ℕ) (h : Header) {p : ℕ} (e : p ≡ place_of shelf (key_of h)) where
-  pub sound-held : {r : Step} → p < places → r ≡ held_step (place_at shelf p) store payload p h → r ≡ sound_step shelf store payload h
+  pub sound-held : {r : Result Step Refusal} → p < places → r ≡ held_step (place_at shelf p) store payload p h → r ≡ sound_step shelf store payload h
   unfolding sound_step
   sound-held l q = q ∙ rw (← e, ne_eqb p places (λ z. omega arith))
 
-  pub sound-begins : {free : ℕ} → places ≤ p → p ≤ places → free ≡ free_of shelf → free < places → Begins free ≡ sound_step shelf store payload h
+  pub sound-begins : {free : ℕ} → places ≤ p → p ≤ places → free ≡ free_of shelf → free < places → Ok (Begins free) ≡ sound_step shelf store payload h
   unfolding sound_step new_step
   sound-begins {free} l m f k = rw (← e, ← f, eq-eqb p places (omega arith), ne_eqb free places (λ z. omega arith))
 
-  pub sound-full : {free : ℕ} → places ≤ p → p ≤ places → free ≡ free_of shelf → places ≤ free → free ≤ places → Refuse 9 ≡ sound_step shelf store payload h
+  pub sound-full : {free : ℕ} → places ≤ p → p ≤ places → free ≡ free_of shelf → places ≤ free → free ≤ places → Err NoFreePlace ≡ sound_step shelf store payload h
   unfolding sound_step new_step
   sound-full {free} l m f k o = rw (← e, ← f, eq-eqb p places (omega arith), eq-eqb free places (omega arith))
 
 module _ (shelf : Shelf) (store payload : List ℕ) (w : length store ≡ store_size) (u : spoiled_of shelf ≡ false) where
-  pub step-sound : {r : Step} (h : Header) → read_of payload ≡ reading.Sound h → r ≡ sound_step shelf store payload h → r ≡ step_of shelf store payload
+  pub step-sound : {r : Result Step Refusal} (h : Header) → read_of payload ≡ Ok h → r ≡ sound_step shelf store payload h → r ≡ step_of shelf store payload
   unfolding step_of
   step-sound h e q = q ∙ rw (eq-eqb (length store) store_size w, u, e)
 
-  pub step-refused : (n : ℕ) → read_of payload ≡ reading.Refused n → Refuse n ≡ step_of shelf store payload
+  pub step-refused : (r : Refusal) → read_of payload ≡ Err r → Err r ≡ step_of shelf store payload
   unfolding step_of
-  step-refused n e = rw (eq-eqb (length store) store_size w, u, e)
+  step-refused r e = rw (eq-eqb (length store) store_size w, u, e)
 
 pub below : {n : ℕ} → n ≤ places → eqb n places ≡ false → n < places
 below {n} le e = let d : n ≡ places → ⊥ = eqb-false n places e in omega (arith, d)
@@ -111,10 +112,10 @@ module _ (shelf : Shelf) (store payload : List ℕ) where
       (λ a. rw a new-done)
       (λ a. rw a (held-done (place_of shelf (key_of h))))
 
-  reading-done : (r : Reading) → read_of payload ≡ r → done shelf store payload (reading_step shelf store payload r) ≡ reading_of shelf store payload r
+  reading-done : (r : Result Header Refusal) → read_of payload ≡ r → done shelf store payload (reading_step shelf store payload r) ≡ reading_of shelf store payload r
   unfolding done
-  reading-done (reading.Sound k) e = rw (sound-facts payload k e).header sound-done
-  reading-done (reading.Refused n) e = refl
+  reading-done (Ok k) e = rw (sound-facts payload k e).header sound-done
+  reading-done (Err r) e = refl
 
   pub step-done : done shelf store payload (step_of shelf store payload) ≡ offer_of shelf store payload
   unfolding step_of offer_of done
@@ -138,12 +139,12 @@ module _ (shelf : Shelf) (store payload : List ℕ) where
   abbrev pub Held : ℕ → Type 0
   Held p = InRange p × ((place_at shelf p).taken ≡ true) × (p ≡ place_of shelf (key_of h))
 
-  abbrev pub Fits : Step → Type 0
-  Fits (Refuse n) = Unit {0}
-  Fits Repeats = Unit {0}
-  Fits (Begins p) = InRange p × (p ≡ free_of shelf)
-  Fits (BeginsAgain p) = Held p
-  Fits (Adds p) = Held p
+  abbrev pub Fits : Result Step Refusal → Type 0
+  Fits (Err r) = Unit {0}
+  Fits (Ok Repeats) = Unit {0}
+  Fits (Ok (Begins p)) = InRange p × (p ≡ free_of shelf)
+  Fits (Ok (BeginsAgain p)) = Held p
+  Fits (Ok (Adds p)) = Held p
 
   module _ (w : length store ≡ store_size) (u : spoiled_of shelf ≡ false) (f : SoundFacts payload h) where
     in-range : (p : ℕ) → p < places → InRange p
@@ -181,11 +182,11 @@ module _ (shelf : Shelf) (store payload : List ℕ) where
         let l = below (place-le shelf (key_of h)) e in
         held_fits (place_of shelf (key_of h)) l (place-taken shelf (key_of h) l) refl)
 
-  reading-fits : length store ≡ store_size → spoiled_of shelf ≡ false → (r : Reading) → read_of payload ≡ r → Fits (reading_step shelf store payload r)
-  reading-fits w u (reading.Sound k) e =
+  reading-fits : length store ≡ store_size → spoiled_of shelf ≡ false → (r : Result Header Refusal) → read_of payload ≡ r → Fits (reading_step shelf store payload r)
+  reading-fits w u (Ok k) e =
       let q = (sound-facts payload k e).header in
       rw q (sound_fits w u (subst (SoundFacts payload) q (sound-facts payload k e)))
-  reading-fits w u (reading.Refused n) e = tt
+  reading-fits w u (Err r) e = tt
 
   pub step_fits : Fits (step_of shelf store payload)
   unfolding step_of

@@ -7,12 +7,16 @@ use Prim.Native.Nat.{ℕ, ◌<◌}
 use native.Mathlib.Omega.{arith}
 use borrow.Author.Tests.{ne_eqb}
 use Rattle.answers.specs.Answers.{lent}
+use Rattle.std.specs.Prelude.{Result, Ok, Err}
+use Rattle.refusal.specs.Refusal.{number}
+use Rattle.refusal.specs.declared.Refusal.{Refusal}
+use Rattle.refusal.proofs.Numbers.{in_byte, back}
 use Rattle.shelf_offer.specs.declared.Offered.{Offered}
 use Rattle.shelf_offer.specs.On.{leaving, offer_on}
 use Rattle.shelf_offer.specs.Answer.{offered_code, offered_in, offer_out, offer_lent}
 
 pub told :
-    {said : Offered}
+    {said : Result Offered Refusal}
     {code : ℕ}
     {held left : List ℕ}
     (words store payload : List ℕ)
@@ -23,11 +27,12 @@ unfolding offer_lent
 told words store payload e q = rw q (ap offer_out e)
 
 -- a refusal is from 1 to 255
-pub offered-back : (r : Offered) → ((n : ℕ) → r ≡ Offered.Refused n → n < 256) → offered_in (offered_code r) ≡ r
-offered-back Offered.Began h = refl
-offered-back Offered.BeganAgain h = refl
-offered-back Offered.Added h = refl
-offered-back Offered.Repeat h = refl
-offered-back (Offered.Refused n) h =
-    let l : n < 256 = h n refl in
-    rw (ne_eqb n 256 (λ z. omega arith), ne_eqb n 512 (λ z. omega arith), ne_eqb n 768 (λ z. omega arith), ne_eqb n 1024 (λ z. omega arith))
+pub offered-back : (r : Result Offered Refusal) → offered_in (offered_code r) ≡ r
+offered-back (Ok Offered.Began) = refl
+offered-back (Ok Offered.BeganAgain) = refl
+offered-back (Ok Offered.Added) = refl
+offered-back (Ok Offered.Repeat) = refl
+offered-back (Err r) =
+    let n = number r in
+    let l : n < 256 = (in_byte r).1 in
+    rw (ne_eqb n 256 (λ z. omega arith), ne_eqb n 512 (λ z. omega arith), ne_eqb n 768 (λ z. omega arith), ne_eqb n 1024 (λ z. omega arith)) (ap Err (back r))

@@ -41,7 +41,13 @@ enum Step {
 }
 
 // The step of a sound section whose key is held in place p.
-fn held_step(words: &[u16], store: &[u8], payload: &[u8], header: Header, p: usize) -> Result<Step, Refusal>
+fn held_step(
+    words: &[u16],
+    store: &[u8],
+    payload: &[u8],
+    header: Header,
+    p: usize,
+) -> Result<Step, Refusal>
     requires words_len { (length words.now ≡ count) × (length store.now ≡ store_size) }
     requires p_lt_places { (p < places) × (taken_in words.now p ≡ true) }
     requires number_lt_sections { (header.number < sections) × (header.version < 32) × (header.last < 16) × (length payload.now ≤ berth_size) }

@@ -13,10 +13,10 @@ pub add-requires : goal.add-requires
 add-requires c = (sound-facts _ _ (c.requires.payload_value.1 c.if-what-eq-ADDS.true).0).most
 
 pub returns-then-what-eq-ADDS : goal.returns-then-what-eq-ADDS
-returns-then-what-eq-ADDS c = let r = c.requires.payload_value.1 c.if-what-eq-ADDS.true in wrote-added _ _ _ _ _ (c.requires.payload_value.0 _ r.0 (told c.spoiled.ensures c.if-spoiled.false)) c.if-what-eq-ADDS.true (c.wide.ensures ∙ r.1) c.add.ensures.words_after c.add.ensures.store_after c.code_of-then-what-eq-ADDS.ensures
+returns-then-what-eq-ADDS c = let r = c.requires.payload_value.1 c.if-what-eq-ADDS.true in wrote-added _ _ _ _ _ (c.requires.payload_value.0 _ r.0 (told c.spoiled.ensures c.if-spoiled.false)) c.if-what-eq-ADDS.true (c.from.ensures ∙ r.1) c.add.ensures.words_after c.add.ensures.store_after c.code_of-then-what-eq-ADDS.ensures
 
 pub begin-requires-clause-payload_len_bound : goal.begin-requires-clause-payload_len_bound
-begin-requires-clause-payload_len_bound c = let e = told c.read-reading.ensures c.in-Sound.is in let u = told c.spoiled.ensures c.if-spoiled.false in ((sound-facts _ _ e).most, c.if-what-eq-ADDS.false, (sound-facts _ _ e).header, c.requires.payload_value.0 _ e u)
+begin-requires-clause-payload_len_bound c = let e = told c.read.ensures c.in-Ok.is in let u = told c.spoiled.ensures c.if-spoiled.false in ((sound-facts _ _ e).most, c.if-what-eq-ADDS.false, (sound-facts _ _ e).header, c.requires.payload_value.0 _ e u)
 
-pub returns-in-Refused : goal.returns-in-Refused
-returns-in-Refused c = refused-lent _ _ _ _ (sym (step-refused _ _ _ c.requires.store_len (told c.spoiled.ensures c.if-spoiled.false) _ (told c.read-reading.ensures c.in-Refused.is))) c.code_of-in-Refused.ensures
+pub returns-in-Err : goal.returns-in-Err
+returns-in-Err c = refused-lent _ _ _ _ (sym (step-refused _ _ _ c.requires.store_len (told c.spoiled.ensures c.if-spoiled.false) _ (told c.read.ensures c.in-Err.is))) c.code_of-in-Err.ensures
