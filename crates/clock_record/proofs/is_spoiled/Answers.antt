@@ -6,15 +6,12 @@ use Rattle.clock_record.proofs.is_spoiled.Goals as goal
 
 pub returns-then-n-gt-HELD : goal.returns-then-n-gt-HELD
 unfolding spoiled_by
-returns-then-n-gt-HELD c = rw (lt-ltb _ _ (rw c.wide32-n.ensures at c.if-n-gt-HELD.true))
+returns-then-n-gt-HELD c = rw (lt-ltb _ _ c.if-n-gt-HELD.true)
 
 pub returns-then-any_wrong : goal.returns-then-any_wrong
 unfolding spoiled_by
-returns-then-any_wrong c = let n = c.wide32-n.ensures in
-    rw (le-ltb _ _ (rw n at c.if-n-gt-HELD.false), rw n at (told c.any_wrong.ensures c.if-any_wrong.true))
+returns-then-any_wrong c = rw (le-ltb _ _ c.if-n-gt-HELD.false, told c.any_wrong.ensures c.if-any_wrong.true)
 
 pub returns : goal.returns
 unfolding spoiled_by
-returns c = let n = c.wide32-n.ensures in
-    rw (le-ltb _ _ (rw n at c.if-n-gt-HELD.false), rw n at (told c.any_wrong.ensures c.if-any_wrong.false))
-    (rw n at c.two_alike.ensures)
+returns c = rw (le-ltb _ _ c.if-n-gt-HELD.false, told c.any_wrong.ensures c.if-any_wrong.false) c.two_alike.ensures

@@ -11,10 +11,10 @@ use Rattle.clock_rule.proofs.apply.Goals as goal
 
 pub returns-then-at-lt-APPLICATIONS : goal.returns-then-at-lt-APPLICATIONS
 unfolding applied
-returns-then-at-lt-APPLICATIONS c = rw (c.act.ensures, c.wide8-at.ensures)
+returns-then-at-lt-APPLICATIONS c = rw (c.act.ensures, c.from-at.ensures)
 
 pub returns-else-at-lt-APPLICATIONS : goal.returns-else-at-lt-APPLICATIONS
 unfolding applied
 returns-else-at-lt-APPLICATIONS c = let far : length c.args.apps ≤ c.args.application =
-    (let long : length c.args.apps ≡ 8 = search (rules, length-mapped) in omega (arith, c.wide8-at.ensures)) in
+    (let long : length c.args.apps ≡ 8 = search (rules, length-mapped) in omega arith) in
     sym (set_out _ _ _ far)
