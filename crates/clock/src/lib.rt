@@ -1,13 +1,15 @@
 // The clock that applies activations to applications (document 01, "Applications and the clock").
-// Each call takes the clock record and hands back the next one. Any record may be handed in: a spoiled one is refused.
+// Each call is lent the clock record, and a call that changes it leaves the next one there. Any record may be lent: a spoiled one is refused.
 
 #![tactic(auto)]
 
 ghost use Rattle.std.specs.Prelude.{◌≡◌};
 ghost use Rattle.clock_record.specs.Book.{fresh};
 ghost use Rattle.clock_states.specs.States.{apps_in, states_word};
-ghost use Rattle.clock.specs.Record.{book_of, clock_of, offer_to, move_to};
-ghost use Rattle.clock.specs.Ask.{time_in, state_in};
+ghost use Rattle.clock.specs.Record.{book_of, clock_of, left_by};
+ghost use Rattle.clock.specs.Offer.{offer_in};
+ghost use Rattle.clock.specs.Move.{move_in};
+ghost use Rattle.clock.specs.Ask.{sound_in, time_in, state_in};
 
 use clock_activation::{Activation, Held, is_past, within};
 use clock_due::run;
@@ -15,66 +17,20 @@ use clock_keep::{hold, keep};
 use clock_record::{COUNT, NOW, STATES, is_held, is_spoiled};
 use clock_rule::{State, apply, is_above};
 use clock_states::{apps_in, states_word};
-
-// What a refused call answers.
-pub const ABOVE: u8 = 30;
-
-pub const MOVED_BACK: u8 = 31;
-
-pub const PAST: u8 = 32;
-
-pub const ALREADY_HELD: u8 = 33;
-
-pub const FULL: u8 = 34;
-
-pub const SPOILED: u8 = 35;
+use refusal::Refusal;
 
 // A clock record, in words: the clock, the applications' states, and the activations held. The layout stands in
 // crates/clock_record/specs/Words.antt.
-#[derive(Drop)]
+#[derive(Drop, Debug, PartialEq, Eq)]
 pub struct Clock {
     pub words: [u32; clock_record::SIZE],
 }
 
-// What is answered to an activation that is offered.
-#[derive(Drop)]
+// What became of an activation that was accepted.
+#[derive(Clone, Copy, Debug, PartialEq, Eq)]
 pub enum Heard {
     Applied,
     Waiting,
-    Refused(u8),
-}
-
-// The answer to an offer, and the next record.
-#[derive(Drop)]
-pub struct Offered {
-    pub clock: Clock,
-    pub answer: Heard,
-}
-
-// What is answered to a move: how many it applied.
-#[derive(Drop)]
-pub enum Moved {
-    Applied(usize),
-    Refused(u8),
-}
-
-// The answer to a move, and the next record.
-#[derive(Drop)]
-pub struct Advanced {
-    pub clock: Clock,
-    pub answer: Moved,
-}
-
-#[derive(Drop)]
-pub enum AskedTime {
-    At(u32),
-    Refused(u8),
-}
-
-#[derive(Drop)]
-pub enum AskedState {
-    In(State),
-    Refused(u8),
 }
 
 // The states' word has its states below this bit.
@@ -104,114 +60,88 @@ impl Clock {
         }
     }
 
-    fn unheard(self, number: u8) -> Offered
-        ensures { result ≡ record { answer = Heard.Refused number; clock = self } }
+    // Every call but that for a fresh one refuses a spoiled record before all else.
+    fn sound(&self) -> Result<(), Refusal>
+        ensures { result ≡ sound_in (book_of self.now) }
     {
-        Offered {
-            answer: Heard::Refused(number),
-            clock: self,
+        if is_spoiled(&self.words) {
+            return Err(Refusal::ClockSpoiled);
         }
+        Ok(())
     }
 
     // Hears an activation: one at or before the clock is applied now, and a later one waits. Refused are, in this order,
-    // 35 a spoiled record, 30 an application above 7, 32 a time more than 60,000 before the clock, 33 one that is held
-    // (the first heard stands, whatever the action), and 34 where 32 are held. A refusal hands the record back as it was.
-    pub fn offer(self, a: Activation) -> Offered
-        ensures { result ≡ offer_to self a }
+    // a spoiled record, an application above 7, a time more than 60,000 before the clock, one that is held (the first heard
+    // stands, whatever the action), and where 32 are held. A refusal leaves the record as it was.
+    pub fn offer(&mut self, a: Activation) -> Result<Heard, Refusal>
+        ensures value { result ≡ (offer_in (book_of self.old) a).answer }
+        ensures record_after { self.new ≡ left_by self.old (offer_in (book_of self.old) a) }
     {
-        let words = self.words;
-        if is_spoiled(&words) {
-            return self.unheard(SPOILED);
-        }
+        self.sound()?;
         if is_above(a.application) {
-            return self.unheard(ABOVE);
+            return Err(Refusal::ClockAbove);
         }
-        let now = words[NOW];
+        let now = self.words[NOW];
         if is_past(now, a.time) {
-            return self.unheard(PAST);
+            return Err(Refusal::ClockPast);
         }
-        if is_held(a, &words) {
-            return self.unheard(ALREADY_HELD);
+        if is_held(a, &self.words) {
+            return Err(Refusal::ClockAlreadyHeld);
         }
-        if Clock::HELD <= within(words[COUNT]) {
-            return self.unheard(FULL);
+        if Clock::HELD <= within(self.words[COUNT]) {
+            return Err(Refusal::ClockFull);
         }
         if a.time <= now {
             let action = a.action;
-            let apps = apply(apps_in(words[STATES]), a.application, action);
+            let apps = apply(apps_in(self.words[STATES]), a.application, action);
             let done = Held {
                 activation: a,
                 applied: true,
             };
-            let next = hold(states_word(apps), done, words);
-            return Offered {
-                answer: Heard::Applied,
-                clock: Clock { words: next },
-            };
+            self.words = hold(states_word(apps), done, self.words);
+            return Ok(Heard::Applied);
         }
         let waiting = Held {
             activation: a,
             applied: false,
         };
-        let next = hold(states_in(words[STATES]), waiting, words);
-        Offered {
-            answer: Heard::Waiting,
-            clock: Clock { words: next },
-        }
+        self.words = hold(states_in(self.words[STATES]), waiting, self.words);
+        Ok(Heard::Waiting)
     }
 
     // Moves the clock: each waiting activation that it reaches is applied, in order of time, then application, then event,
-    // and the answer is how many. Refused are 35 a spoiled record and 31 a move back, and the record is then as it was.
-    pub fn move_to(self, to: u32) -> Advanced
-        ensures { result ≡ move_to self to }
+    // and the answer is how many. Refused are a spoiled record and then a move back, and the record is then as it was.
+    pub fn move_to(&mut self, to: u32) -> Result<usize, Refusal>
+        ensures value { result ≡ (move_in (book_of self.old) to).answer }
+        ensures record_after { self.new ≡ left_by self.old (move_in (book_of self.old) to) }
     {
-        let words = self.words;
-        if is_spoiled(&words) {
-            return Advanced {
-                answer: Moved::Refused(SPOILED),
-                clock: self,
-            };
+        self.sound()?;
+        if to < self.words[NOW] {
+            return Err(Refusal::ClockMovedBack);
         }
-        if to < words[NOW] {
-            return Advanced {
-                answer: Moved::Refused(MOVED_BACK),
-                clock: self,
-            };
-        }
-        let ran = run(to, &words);
-        let next = keep(to, ran.states, &words);
-        Advanced {
-            answer: Moved::Applied(ran.count),
-            clock: Clock { words: next },
-        }
+        let ran = run(to, &self.words);
+        self.words = keep(to, ran.states, &self.words);
+        Ok(ran.count)
     }
 
-    // The clock's time. A spoiled record is refused 35.
-    pub fn time_now(self) -> AskedTime
-        ensures { result ≡ time_in (book_of self) }
+    // The clock's time. A spoiled record is refused.
+    pub fn time_now(&self) -> Result<u32, Refusal>
+        ensures { result ≡ time_in (book_of self.now) }
     {
-        let words = self.words;
-        if is_spoiled(&words) {
-            return AskedTime::Refused(SPOILED);
-        }
-        AskedTime::At(words[NOW])
+        self.sound()?;
+        Ok(self.words[NOW])
     }
 
-    // The state of an application. A spoiled record is refused 35, and then an application above 7 is refused 30.
-    pub fn state_of(self, application: u8) -> AskedState
-        ensures { result ≡ state_in (book_of self) application }
+    // The state of an application. A spoiled record is refused, and then an application above 7.
+    pub fn state_of(&self, application: u8) -> Result<State, Refusal>
+        ensures { result ≡ state_in (book_of self.now) application }
     {
-        let words = self.words;
-        if is_spoiled(&words) {
-            return AskedState::Refused(SPOILED);
-        }
+        self.sound()?;
         if is_above(application) {
-            return AskedState::Refused(ABOVE);
+            Err(Refusal::ClockAbove)
+        } else {
+            let apps = apps_in(self.words[STATES]);
+            Ok(apps[usize::from(application)].state)
         }
-        let apps = apps_in(words[STATES]);
-        let at = application as usize;
-        let app = apps[at];
-        let state = app.state;
-        AskedState::In(state)
     }
 }
