@@ -3,17 +3,15 @@
 
 #![tactic(auto)]
 
-ghost use Rattle.std.specs.Prelude.{◌≡◌, length};
-ghost use Rattle.clock_record.specs.Words.{record_size};
-ghost use Rattle.clock_answers.specs.Calls.{fresh_call, offer_call, move_call, time_call, state_call};
+ghost use Rattle.std.specs.Prelude.{◌≡◌};
+ghost use Rattle.clock.specs.Codes.{heard_code, moved_code, time_code, state_code};
+ghost use Rattle.clock_answers.specs.Calls.{FewIn, record_in, fresh_on, offer_on, move_on, time_on, state_on, fresh_call, offer_call, move_call, time_call, state_call};
 
-use clock::{AskedState, AskedTime, Clock, Heard, Moved, SPOILED};
+use clock::{Clock, Heard};
 use clock_activation::{Activation, action_of};
 use clock_record::SIZE;
-use clock_rule::state_number;
-
-// A number that is no action: the boundary's own, since the layer's actions have no numbers.
-const NO_SUCH_ACTION: u16 = 255;
+use clock_rule::{State, state_number};
+use refusal::Refusal;
 
 const LAST_ACTION: u8 = 3;
 
@@ -25,31 +23,23 @@ const WAITING: u16 = 512;
 // What a field is multiplied by to begin at that bit of the answer.
 const BIT_8: u16 = 256;
 
-// The record that the words are.
-fn record_in(words: &[u32]) -> Clock
-    requires { length words.now ≡ record_size }
-    ensures { result ≡ record { words = words.entry.now } }
+// The record that the words are: another number of words than 67 is none, and a record that is none is spoiled.
+fn record_in(words: &[u32]) -> Result<Clock, Refusal>
+    ensures { result ≡ record_in words.now }
 {
-    let mut copy = [0u32; SIZE];
-    let mut i: usize = 0;
-    while i < SIZE {
-        copy[i] = words[i];
-        i += 1;
+    match <[u32; SIZE]>::try_from(words) {
+        Ok(words) => Ok(Clock { words }),
+        Err(_) => Err(Refusal::ClockSpoiled),
     }
-    Clock { words: copy }
 }
 
-// Puts a record into the words.
-fn put(clock: Clock, words: &mut [u32])
-    requires { length words.old ≡ record_size }
-    ensures { words.new ≡ clock.words }
+fn fresh(words: &mut [u32]) -> Result<(), Refusal>
+    ensures value { result ≡ (fresh_on words.old).answer }
+    ensures words_after { words.new ≡ (fresh_on words.old).words }
 {
-    let next = clock.words;
-    let mut i: usize = 0;
-    while i < SIZE {
-        words[i] = next[i];
-        i += 1;
-    }
+    record_in(words)?;
+    words.copy_from_slice(&Clock::fresh().words);
+    Ok(())
 }
 
 // Makes the words a fresh clock.
@@ -57,11 +47,41 @@ pub fn clock_fresh(words: &mut [u32]) -> u8
     ensures value { result ≡ (fresh_call words.old).answer }
     ensures words_after { words.new ≡ (fresh_call words.old).words }
 {
-    if words.len() != SIZE {
-        return SPOILED;
+    answers::done(fresh(words))
+}
+
+fn offer(
+    words: &mut [u32],
+    application: u8,
+    event: u16,
+    action: u8,
+    time: u32,
+) -> Result<Heard, Refusal>
+    ensures value { result ≡ (offer_on words.old application event action time).answer }
+    ensures words_after { words.new ≡ (offer_on words.old application event action time).words }
+{
+    if LAST_ACTION < action {
+        return Err(Refusal::NoSuchAction);
     }
-    put(Clock::fresh(), words);
-    answers::DONE
+    let mut clock = record_in(words)?;
+    let heard = clock.offer(Activation {
+        application,
+        event,
+        action: action_of(u32::from(action)),
+        time,
+    })?;
+    words.copy_from_slice(&clock.words);
+    Ok(heard)
+}
+
+fn heard_code(heard: Result<Heard, Refusal>) -> u16
+    ensures { result ≡ heard_code heard }
+{
+    match heard {
+        Ok(Heard::Applied) => APPLIED,
+        Ok(Heard::Waiting) => WAITING,
+        Err(refusal) => refusal as u16,
+    }
 }
 
 // Offers an activation to the clock.
@@ -69,33 +89,27 @@ pub fn clock_offer(words: &mut [u32], application: u8, event: u16, action: u8, t
     ensures value { result ≡ (offer_call words.old application event action time).answer }
     ensures words_after { words.new ≡ (offer_call words.old application event action time).words }
 {
-    if LAST_ACTION < action {
-        return NO_SUCH_ACTION;
-    }
-    if words.len() != SIZE {
-        return SPOILED as u16;
-    }
-    let act = action_of(action as u32);
-    let a = Activation {
-        application,
-        event,
-        action: act,
-        time,
-    };
-    let clock = record_in(words);
-    let offered = clock.offer(a);
-    let answer = offered.answer;
-    let next = offered.clock;
-    match answer {
-        Heard::Refused(n) => n as u16,
-        Heard::Applied => {
-            put(next, words);
-            APPLIED
-        }
-        Heard::Waiting => {
-            put(next, words);
-            WAITING
-        }
+    heard_code(offer(words, application, event, action, time))
+}
+
+fn move_to(words: &mut [u32], to: u32) -> Result<usize, Refusal>
+    ensures value { result ≡ (move_on words.old to).answer }
+    ensures words_after { words.new ≡ (move_on words.old to).words }
+{
+    let mut clock = record_in(words)?;
+    let applied = clock.move_to(to)?;
+    words.copy_from_slice(&clock.words);
+    Ok(applied)
+}
+
+// At most 32 are held, so that the number stands in 16 bits.
+fn moved_code(moved: Result<usize, Refusal>) -> u16
+    requires { FewIn moved }
+    ensures { result ≡ moved_code moved }
+{
+    match moved {
+        Ok(applied) => applied as u16 * BIT_8,
+        Err(refusal) => refusal as u16,
     }
 }
 
@@ -104,19 +118,21 @@ pub fn clock_move(words: &mut [u32], to: u32) -> u16
     ensures value { result ≡ (move_call words.old to).answer }
     ensures words_after { words.new ≡ (move_call words.old to).words }
 {
-    if words.len() != SIZE {
-        return SPOILED as u16;
-    }
-    let clock = record_in(words);
-    let advanced = clock.move_to(to);
-    let answer = advanced.answer;
-    let next = advanced.clock;
-    match answer {
-        Moved::Refused(n) => n as u16,
-        Moved::Applied(n) => {
-            put(next, words);
-            n as u16 * BIT_8
-        }
+    moved_code(move_to(words, to))
+}
+
+fn time(words: &[u32]) -> Result<u32, Refusal>
+    ensures { result ≡ time_on words.now }
+{
+    record_in(words)?.time_now()
+}
+
+fn time_code(asked: Result<u32, Refusal>) -> u64
+    ensures { result ≡ time_code asked }
+{
+    match asked {
+        Ok(time) => u64::from(time) * answers::BIT_32,
+        Err(refusal) => refusal as u64,
     }
 }
 
@@ -124,14 +140,21 @@ pub fn clock_move(words: &mut [u32], to: u32) -> u16
 pub fn clock_time(words: &[u32]) -> u64
     ensures { result ≡ time_call words.now }
 {
-    if words.len() != SIZE {
-        return SPOILED as u64;
-    }
-    let clock = record_in(words);
-    let asked = clock.time_now();
+    time_code(time(words))
+}
+
+fn state(words: &[u32], application: u8) -> Result<State, Refusal>
+    ensures { result ≡ state_on words.now application }
+{
+    record_in(words)?.state_of(application)
+}
+
+fn state_code(asked: Result<State, Refusal>) -> u16
+    ensures { result ≡ state_code asked }
+{
     match asked {
-        AskedTime::At(t) => t as u64 * answers::BIT_32,
-        AskedTime::Refused(n) => n as u64,
+        Ok(state) => state_number(state) as u16 * BIT_8,
+        Err(refusal) => refusal as u16,
     }
 }
 
@@ -139,13 +162,5 @@ pub fn clock_time(words: &[u32]) -> u64
 pub fn clock_state(words: &[u32], application: u8) -> u16
     ensures { result ≡ state_call words.now application }
 {
-    if words.len() != SIZE {
-        return SPOILED as u16;
-    }
-    let clock = record_in(words);
-    let asked = clock.state_of(application);
-    match asked {
-        AskedState::In(s) => state_number(s) as u16 * BIT_8,
-        AskedState::Refused(n) => n as u16,
-    }
+    state_code(state(words, application))
 }
