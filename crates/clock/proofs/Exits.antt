@@ -30,7 +30,6 @@ use Rattle.clock_due.specs.declared.Ran.{Ran}
 use Rattle.clock_keep.specs.Keep.{kept_of}
 use Rattle.clock_keep.specs.Hold.{holding}
 use Rattle.clock.specs.declared.Clock.{Clock}
-use Rattle.clock.specs.Answered.{Answered}
 use Rattle.clock.specs.Offer.{refused, applies, waits, offer_in}
 use Rattle.clock.specs.Move.{advanced, move_in}
 use Rattle.clock.specs.Move as Move

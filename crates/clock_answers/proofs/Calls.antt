@@ -5,7 +5,7 @@
 --   offer-255, offer-35, offer-answered                of an offer
 --   move-35, move-answered, few                        of a move, which applies at most 32
 --   time-35, time-asked, state-35, state-asked         of the questions
-use mathlib.Core.Path.{◌≡◌, refl, sym, ap, ◌∙◌}
+use mathlib.Core.Path.{◌≡◌, sym}
 use mathlib.Core.List.{List, [], ◌∷◌}
 use Prim.Native.Nat.{ℕ, ◌<◌, ◌≤◌}
 use native.Mathlib.Omega.{arith}
@@ -19,7 +19,6 @@ use Rattle.base.specs.Choice.{◌if◌}
 use Rattle.base.proofs.Cases.{by}
 use Rattle.base.proofs.Tables.{among}
 use Rattle.clock_rule.specs.declared.Action.{Action}
-use Rattle.clock_activation.specs.declared.Activation.{Activation}
 use Rattle.clock_activation.specs.Places.{action_no}
 use Rattle.clock_record.specs.Book.{Book, fresh}
 use Rattle.clock_record.specs.Words.{book_in, words_of}

@@ -1,7 +1,7 @@
 -- Laws of the exported functions.
 --   answered-code                                                     an answer is the number for the layer's answer
 --   fresh-laws, offer-laws, move-laws, time-laws, state-laws
-use Rattle.std.specs.Prelude.{if◌then◌else◌}
+use Rattle.std.specs.Prelude.{if◌then◌else◌, Result, Ok, Err}
 use mathlib.Core.Path.{◌≡◌, refl, sym, ap, subst, ◌∙◌}
 use mathlib.Core.Bool.{true, false}
 use mathlib.Core.List.{List}
@@ -10,6 +10,9 @@ use native.Mathlib.Omega.{arith}
 use lib.Dec.{ltb, leb, eqb}
 use lib.ListN.{length}
 use borrow.Author.Tests.{lt-ltb, eq-eqb, ne_eqb, le-ltb, ltb-false, eqb-true, eqb-false, leb-true, leb-false, lt-leb}
+use Rattle.refusal.specs.Refusal.{number}
+use Rattle.refusal.specs.declared.Refusal.{Refusal}
+use Rattle.refusal.specs.declared.Refusal.TheVariants.{ClockSpoiled, NoSuchAction}
 use Rattle.base.specs.Choice.{◌if◌}
 use Rattle.base.proofs.Cases.{by}
 use Rattle.clock_rule.specs.declared.State.{State}
@@ -22,9 +25,6 @@ use Rattle.clock_record.specs.Words.{record_size, book_in, words_of}
 use Rattle.clock_record.proofs.Waiting.{due-fewer}
 use Rattle.clock_record.proofs.Back.{sized}
 use Rattle.clock.specs.declared.Heard.{Heard}
-use Rattle.clock.specs.declared.Moved.{Moved}
-use Rattle.clock.specs.declared.AskedTime.{AskedTime}
-use Rattle.clock.specs.declared.AskedState.{AskedState}
 use Rattle.clock.specs.Spoiled.{Spoiled}
 use Rattle.clock.specs.Answered.{Answered}
 use Rattle.clock.specs.Offer.{offer_in}
@@ -36,39 +36,30 @@ use Rattle.clock_laws.specs.When.{NoneOffered}
 use Rattle.clock_laws.proofs.Alike.{young-true}
 use Rattle.clock_laws.proofs.Exactly.{sound-true, free-true, offer-when, move-when, time-when, state-when}
 use Rattle.clock_laws.proofs.Codes.{values}
-use Rattle.clock_answers.specs.Calls.{Called, unchanged, activation, heard_call, heard_in, moved_call, moved_in, fresh_call, offer_call, move_call, time_call, state_call}
+use Rattle.clock_answers.specs.Calls.{Called, unchanged, activation, coded, left_in, fresh_on, offer_on, move_on, time_on, state_on, fresh_call, offer_call, move_call, time_call, state_call}
 use Rattle.clock_demands.specs.Host.{HostCall, answered, code_in}
 use Rattle.clock_demands.specs.Boundary.{Untouched, FreshLaws, OfferLaws, MoveLaws, TimeLaws, StateLaws}
 
-heard-answer : (w : List ℕ) (x : Heard) (b : Book) → (heard_call w x b).answer ≡ heard_code x
-heard-answer w Heard.Applied b = refl
-heard-answer w Heard.Waiting b = refl
-heard-answer w (Heard.Refused n) b = refl
-
-moved-answer : (w : List ℕ) (x : Moved) (b : Book) → (moved_call w x b).answer ≡ moved_code x
-moved-answer w (Moved.Applied n) b = refl
-moved-answer w (Moved.Refused n) b = refl
-
 -- the ways out of a call that is lent 67 words
 module _ (w : List ℕ) (p e x t : ℕ) where
-  pub offer-no : ltb 3 x ≡ true → offer_call w p e x t ≡ unchanged w 255
-  unfolding offer_call
+  pub offer-no : ltb 3 x ≡ true → offer_call w p e x t ≡ unchanged w NoSuchAction
+  unfolding offer_on
   offer-no h = rw h
 
-  pub offer-on : length w ≡ 67 → ltb 3 x ≡ false → offer_call w p e x t ≡ heard_in w (offer_in (book_in w) (activation p e x t))
-  unfolding offer_call
+  pub offer-on : length w ≡ 67 → ltb 3 x ≡ false → offer_call w p e x t ≡ coded heard_code (left_in w (offer_in (book_in w) (activation p e x t)))
+  unfolding offer_on
   offer-on z h = rw (h, eq-eqb _ _ z)
 
-pub move-on : (w : List ℕ) (to : ℕ) → length w ≡ 67 → move_call w to ≡ moved_in w (move_in (book_in w) to)
-unfolding move_call
+pub move-on : (w : List ℕ) (to : ℕ) → length w ≡ 67 → move_call w to ≡ coded moved_code (left_in w (move_in (book_in w) to))
+unfolding move_on
 move-on w to z = rw (eq-eqb _ _ z)
 
 time-on : (w : List ℕ) → length w ≡ 67 → time_call w ≡ time_code (time_in (book_in w))
-unfolding time_call
+unfolding time_on
 time-on w z = rw (eq-eqb _ _ z)
 
 state-on : (w : List ℕ) (n : ℕ) → length w ≡ 67 → state_call w n ≡ state_code (state_in (book_in w) n)
-unfolding state_call
+unfolding state_on
 state-on w n z = rw (eq-eqb _ _ z)
 
 -- the number that they answer is that for the layer's answer
@@ -78,36 +69,35 @@ answered-code w z (HostCall.offer p e x t) =
     (λ h. ap (λ (c : Called). c.answer) (offer-no w p e x t h) ∙ rw h)
     (λ h.
     ap (λ (c : Called). c.answer) (offer-on w p e x t z h)
-    ∙ heard-answer w (offer_in (book_in w) (activation p e x t)).answer (offer_in (book_in w) (activation p e x t)).book
     ∙ rw h)
 answered-code w z (HostCall.move to) =
-    ap (λ (c : Called). c.answer) (move-on w to z) ∙ moved-answer w (move_in (book_in w) to).answer (move_in (book_in w) to).book
+    ap (λ (c : Called). c.answer) (move-on w to z)
 answered-code w z HostCall.ask_time = time-on w z
 answered-code w z (HostCall.ask_state n) = state-on w n z
 
 -- another number of words
-fresh-off : (w : List ℕ) → (length w ≡ 67 → ⊥) → fresh_call w ≡ unchanged w 35
-unfolding fresh_call
+fresh-off : (w : List ℕ) → (length w ≡ 67 → ⊥) → fresh_call w ≡ unchanged w ClockSpoiled
+unfolding fresh_on
 fresh-off w n = rw (ne_eqb _ _ n)
 
-fresh_on : (w : List ℕ) → length w ≡ 67 → fresh_call w ≡ record { answer = 0; words = words_of fresh }
-unfolding fresh_call
-fresh_on w z = rw (eq-eqb _ _ z)
+fresh-67 : (w : List ℕ) → length w ≡ 67 → fresh_call w ≡ record { answer = 0; words = words_of fresh }
+unfolding fresh_on
+fresh-67 w z = rw (eq-eqb _ _ z)
 
-offer-off : (w : List ℕ) (p e x t : ℕ) → ltb 3 x ≡ false → (length w ≡ 67 → ⊥) → offer_call w p e x t ≡ unchanged w 35
-unfolding offer_call
+offer-off : (w : List ℕ) (p e x t : ℕ) → ltb 3 x ≡ false → (length w ≡ 67 → ⊥) → offer_call w p e x t ≡ unchanged w ClockSpoiled
+unfolding offer_on
 offer-off w p e x t h n = rw (h, ne_eqb _ _ n)
 
-move-off : (w : List ℕ) (to : ℕ) → (length w ≡ 67 → ⊥) → move_call w to ≡ unchanged w 35
-unfolding move_call
+move-off : (w : List ℕ) (to : ℕ) → (length w ≡ 67 → ⊥) → move_call w to ≡ unchanged w ClockSpoiled
+unfolding move_on
 move-off w to n = rw (ne_eqb _ _ n)
 
-time-off : (w : List ℕ) → (length w ≡ 67 → ⊥) → time_call w ≡ 35
-unfolding time_call
+time-off : (w : List ℕ) → (length w ≡ 67 → ⊥) → time_call w ≡ number ClockSpoiled
+unfolding time_on
 time-off w n = rw (ne_eqb _ _ n)
 
-state-off : (w : List ℕ) (n : ℕ) → (length w ≡ 67 → ⊥) → state_call w n ≡ 35
-unfolding state_call
+state-off : (w : List ℕ) (n : ℕ) → (length w ≡ 67 → ⊥) → state_call w n ≡ number ClockSpoiled
+unfolding state_on
 state-off w n h = rw (ne_eqb _ _ h)
 
 -- whether there are 67
@@ -126,8 +116,8 @@ fresh-laws w =
     sized-or w
     (λ z.
     record {
-      untouched = λ n. absurd (n (ap (λ (c : Called). refusal_of c.answer) (fresh_on w z)));
-      accepted = (λ e. z, λ y. ap (λ (c : Called). refusal_of c.answer) (fresh_on w z));
+      untouched = λ n. absurd (n (ap (λ (c : Called). refusal_of c.answer) (fresh-67 w z)));
+      accepted = (λ e. z, λ y. ap (λ (c : Called). refusal_of c.answer) (fresh-67 w z));
     })
     (λ z.
     record {
@@ -135,14 +125,18 @@ fresh-laws w =
       accepted = (λ e. not-35 (sym (ap (λ (c : Called). refusal_of c.answer) (fresh-off w z)) ∙ e), λ y. absurd (z y));
     })
 
-heard-untouched : (w : List ℕ) (x : Heard) (b : Book) → Untouched w (heard_call w x b)
-heard-untouched w Heard.Applied b n = absurd (n refl)
-heard-untouched w Heard.Waiting b n = absurd (n refl)
-heard-untouched w (Heard.Refused m) b n = refl
+-- what a refused call leaves, where what is accepted has 0 in the low 8 bits
+kept-untouched : {A : Type 0} (code : Result A Refusal → ℕ) → ((a : A) → refusal_of (code (Ok a)) ≡ 0) → (w : List ℕ) (x : Result A Refusal) (b : Book)
+    → Untouched w (coded code (left_in w (record { answer = x; book = b })))
+kept-untouched code low w (Ok a) b n = absurd (n (low a))
+kept-untouched code low w (Err r) b n = refl
 
-moved-untouched : (w : List ℕ) (x : Moved) (b : Book) → Untouched w (moved_call w x b)
-moved-untouched w (Moved.Applied m) b n = absurd (n (omega arith))
-moved-untouched w (Moved.Refused m) b n = refl
+heard-low : (x : Heard) → refusal_of (heard_code (Ok x)) ≡ 0
+heard-low Heard.Applied = refl
+heard-low Heard.Waiting = refl
+
+moved-low : (n : ℕ) → refusal_of (moved_code (Ok n)) ≡ 0
+moved-low n = omega arith
 
 -- 1 where the offer is applied, 2 where it waits
 offer-value : (b : Book) (a : Activation) → NoneOffered b a
@@ -172,13 +166,13 @@ module _ (w : List ℕ) (p e x t : ℕ) where
 
   offer-number : length w ≡ 67 → ltb 3 x ≡ false → call.answer ≡ heard_code (offer_in (book_in w) a).answer
   offer-number z h =
-      ap (λ (c : Called). c.answer) (offer-on w p e x t z h) ∙ heard-answer w (offer_in (book_in w) a).answer (offer_in (book_in w) a).book
+      ap (λ (c : Called). c.answer) (offer-on w p e x t z h)
 
   offer-untouched : Untouched w call
   offer-untouched =
       by (ltb 3 x) (λ h n. ap (λ (c : Called). c.words) (offer-no w p e x t h)) λ h.
       sized-or w
-      (λ z. subst (Untouched w) (sym (offer-on w p e x t z h)) (heard-untouched w (offer_in (book_in w) a).answer (offer_in (book_in w) a).book))
+      (λ z. subst (Untouched w) (sym (offer-on w p e x t z h)) (kept-untouched heard_code heard-low w (offer_in (book_in w) a).answer (offer_in (book_in w) a).book))
       (λ z n. ap (λ (c : Called). c.words) (offer-off w p e x t h z))
 
   offer-only : refusal_of call.answer ≡ 0 → (length w ≡ record_size) × (x ≤ 3) × NoneOffered (book_in w) a
@@ -206,7 +200,7 @@ module _ (w : List ℕ) (p e x t : ℕ) where
 
 module _ (w : List ℕ) (to : ℕ) where
   move-number : length w ≡ 67 → (move_call w to).answer ≡ moved_code (move_in (book_in w) to).answer
-  move-number z = ap (λ (c : Called). c.answer) (move-on w to z) ∙ moved-answer w (move_in (book_in w) to).answer (move_in (book_in w) to).book
+  move-number z = ap (λ (c : Called). c.answer) (move-on w to z)
 
   move-only : refusal_of (move_call w to).answer ≡ 0 → (length w ≡ record_size) × (¬ Spoiled (book_in w)) × ((book_in w).now ≤ to)
   move-only q =
@@ -219,7 +213,7 @@ module _ (w : List ℕ) (to : ℕ) where
       record {
         untouched =
             sized-or w
-            (λ z. subst (Untouched w) (sym (move-on w to z)) (moved-untouched w (move_in (book_in w) to).answer (move_in (book_in w) to).book))
+            (λ z. subst (Untouched w) (sym (move-on w to z)) (kept-untouched moved_code moved-low w (move_in (book_in w) to).answer (move_in (book_in w) to).book))
             (λ z n. ap (λ (c : Called). c.words) (move-off w to z));
         accepted = (move-only, λ y. ap refusal_of (move-number y.0) ∙ (move-when (book_in w) to).none.1 (y.1, y.2));
         tells =
@@ -228,7 +222,7 @@ module _ (w : List ℕ) (to : ℕ) where
             let n : ℕ = length (due_of to (book_in w).held) in
             let e : (move_call w to).answer / 2 ^ 8 ≡ n =
             ap (λ (k : ℕ). k / 2 ^ 8)
-            (move-number y.0 ∙ ap (λ (r : Answered Moved). moved_code r.answer) (move-advances (book_in w) to (sound-true (book_in w) y.1) y.2))
+            (move-number y.0 ∙ ap (λ (r : Answered ℕ). moved_code r.answer) (move-advances (book_in w) to (sound-true (book_in w) y.1) y.2))
             ∙ values.count n in
             let few = due-fewer to (book_in w).held in
             let most = (sized w).held in
@@ -242,7 +236,7 @@ module _ (w : List ℕ) where
       (λ z. (z, λ s. not-35 (sym ((time-when (book_in w)).1 s) ∙ sym (ap refusal_of (time-on w z)) ∙ q)))
       (λ z. not-35 (sym (ap refusal_of (time-off w z)) ∙ q))
 
-  time_told : ¬ Spoiled (book_in w) → time_in (book_in w) ≡ AskedTime.At (book_in w).now
+  time_told : ¬ Spoiled (book_in w) → time_in (book_in w) ≡ Ok (book_in w).now
   unfolding time_in
   time_told s = rw (sound-true (book_in w) s)
 
@@ -260,7 +254,7 @@ module _ (w : List ℕ) where
       }
 
   module _ (n : ℕ) where
-    state_told : ¬ Spoiled (book_in w) → n ≤ 7 → state_in (book_in w) n ≡ AskedState.In (state_of (book_in w).apps n)
+    state_told : ¬ Spoiled (book_in w) → n ≤ 7 → state_in (book_in w) n ≡ Ok (state_of (book_in w).apps n)
     unfolding state_in
     state_told s h = rw (sound-true (book_in w) s, lt-leb 8 n (omega arith))
 

@@ -1,6 +1,6 @@
 -- What is demanded of the clock, of the exported functions' own promises.
 --   demands   `ClockDemands`: the history, kept, never_35, accepted_33, time_told, move_told, state_told and offer-told
-use Rattle.std.specs.Prelude.{if◌then◌else◌}
+use Rattle.std.specs.Prelude.{if◌then◌else◌, Ok}
 use mathlib.Core.Path.{◌≡◌, sym, ap, subst, ◌∙◌}
 use mathlib.Core.Bool.{false}
 use mathlib.Core.List.{List}
@@ -9,6 +9,8 @@ use native.Mathlib.Omega.{arith}
 use lib.Dec.{ltb, leb}
 use lib.ListN.{length, length-map}
 use borrow.Author.Tests.{eq-eqb, le-ltb, ltb-true, ltb-false}
+use Rattle.refusal.specs.Refusal.{number}
+use Rattle.refusal.specs.declared.Refusal.TheVariants.{ClockAbove, ClockAlreadyHeld, NoSuchAction}
 use Rattle.base.proofs.Cases.{by, unlike}
 use Rattle.clock_rule.specs.declared.App.{App}
 use Rattle.clock_rule.specs.Rule.{above, state_of}
@@ -21,10 +23,8 @@ use Rattle.clock_record.specs.Waiting.{reached}
 use Rattle.clock_record.specs.Book.{Book, spoiled}
 use Rattle.clock_record.specs.Words.{book_in}
 use Rattle.clock_record.proofs.Lists.{all_map}
+use Rattle.clock.specs.declared.Heard.{Heard}
 use Rattle.clock.specs.Offer.{offer_in, refused}
-use Rattle.clock.specs.declared.Moved.{Moved}
-use Rattle.clock.specs.declared.AskedTime.{AskedTime}
-use Rattle.clock.specs.declared.AskedState.{AskedState}
 use Rattle.clock.specs.Answered.{Answered}
 use Rattle.clock.specs.Ask.{time_in, state_in}
 use Rattle.clock.specs.Codes.{refusal_of, heard_code, moved_code, time_code, state_code}
@@ -35,7 +35,7 @@ use Rattle.clock_laws.proofs.Words.{spoiled-true}
 use Rattle.clock_laws.proofs.Exactly.{offer-when, move-when, time-when, state-when}
 use Rattle.clock_laws.proofs.Held.{held_any}
 use Rattle.clock_laws.proofs.Kept.{kept, accepted_33}
-use Rattle.clock_answers.specs.Calls.{activation, heard_in, offer_call}
+use Rattle.clock_answers.specs.Calls.{activation, coded, left_in, offer_on}
 use Rattle.clock_demands.specs.Host.{HostCall, layer_calls, code_in, host_after}
 use Rattle.clock_demands.specs.Demands.{HostHistory, HostKept, Never35, HostAgain, Accepted33, TimeTold, MoveTold, StateTold, offer_told, OfferTold, ClockDemands}
 use Rattle.clock_demands.proofs.Boundary.{answered-code}
@@ -60,7 +60,7 @@ module _ (w : List ℕ) (h : List HostCall) (r : HostHistory w h) where
   sound : spoiled (book_in (host_after w h).words) ≡ false
   sound = host-kept.sound
 
-  sound-time : time_in (book_in (host_after w h).words) ≡ AskedTime.At (book_in (host_after w h).words).now
+  sound-time : time_in (book_in (host_after w h).words) ≡ Ok (book_in (host_after w h).words).now
   unfolding time_in
   sound-time = rw sound
 
@@ -68,7 +68,7 @@ module _ (w : List ℕ) (h : List HostCall) (r : HostHistory w h) where
   host-time =
       answered-code (host_after w h).words long HostCall.ask_time
       ∙ ap time_code sound-time
-      ∙ ap (λ (t : ℕ). time_code (AskedTime.At t)) host-kept.clock
+      ∙ ap (λ (t : ℕ). time_code (Ok t)) host-kept.clock
 
   host-move : MoveTold w h
   host-move to =
@@ -76,15 +76,15 @@ module _ (w : List ℕ) (h : List HostCall) (r : HostHistory w h) where
       ∙ by (ltb to (host_after w h).account.now)
       (λ t.
       let i : to < (book_in (host_after w h).words).now = rw host-kept.clock (ltb-true _ _ t) in
-      ap (λ (x : Answered Moved). moved_code x.answer) (move-31 (book_in (host_after w h).words) to sound i) ∙ rw t)
+      ap (λ (x : Answered ℕ). moved_code x.answer) (move-31 (book_in (host_after w h).words) to sound i) ∙ rw t)
       (λ t.
       let i : (book_in (host_after w h).words).now ≤ to = rw host-kept.clock (ltb-false _ _ t) in
-      ap (λ (x : Answered Moved). moved_code x.answer) (move-advances (book_in (host_after w h).words) to sound i)
+      ap (λ (x : Answered ℕ). moved_code x.answer) (move-advances (book_in (host_after w h).words) to sound i)
       ∙ rw (t, host-kept.waits))
 
   -- a state that is told, from the states that the record says
   sound-state : (n : ℕ) → state_code (state_in (book_in (host_after w h).words) n)
-      ≡ (if above n then 30 else state_code (AskedState.In (state_of (book_in (host_after w h).words).apps n)))
+      ≡ (if above n then number ClockAbove else state_code (Ok (state_of (book_in (host_after w h).words).apps n)))
   unfolding state_in
   sound-state n = by (above n) (λ t. rw (sound, t)) (λ t. rw (sound, t))
 
@@ -92,7 +92,7 @@ module _ (w : List ℕ) (h : List HostCall) (r : HostHistory w h) where
   host-state n =
       answered-code (host_after w h).words long (HostCall.ask_state n)
       ∙ sound-state n
-      ∙ ap (λ (l : List App). if above n then 30 else state_code (AskedState.In (state_of l n))) host-kept.states
+      ∙ ap (λ (l : List App). if above n then number ClockAbove else state_code (Ok (state_of l n))) host-kept.states
 
   module _ (a : Activation) where
     -- the tests of an offer, by the account
@@ -122,7 +122,7 @@ module _ (w : List ℕ) (h : List HostCall) (r : HostHistory w h) where
   host-offer : OfferTold w h
   host-offer application event action time =
       answered-code (host_after w h).words long (HostCall.offer application event action time)
-      ∙ ap (λ (n : ℕ). if ltb 3 action then 255 else n) (sound-offer (activation application event action time))
+      ∙ ap (λ (n : ℕ). if ltb 3 action then number NoSuchAction else n) (sound-offer (activation application event action time))
 
   code-35 : (x : HostCall) → refusal_of (code_in (book_in (host_after w h).words) x) ≡ 35 → ⊥
   code-35 (HostCall.offer p e x t) q =
@@ -137,13 +137,13 @@ module _ (w : List ℕ) (h : List HostCall) (r : HostHistory w h) where
   host-35 x q = code-35 x (ap refusal_of (sym (answered-code (host_after w h).words long x)) ∙ q)
 
   again : (a : Activation) → Again (after (layer_calls h)).book a → HostAgain (host_after w h).words a
-  unfolding offer_call
+  unfolding offer_on
   again a g application event action time small one young =
       let v : List ℕ = (host_after w h).words in
-      let o : offer_in (book_in v) (activation application event action time) ≡ refused (book_in v) 33 =
-      subst (λ (b : Book). offer_in b (activation application event action time) ≡ refused b 33) same-book
+      let o : offer_in (book_in v) (activation application event action time) ≡ refused (book_in v) ClockAlreadyHeld =
+      subst (λ (b : Book). offer_in b (activation application event action time) ≡ refused b ClockAlreadyHeld) same-book
       (g (activation application event action time) one (subst (λ (b : Book). b.now ≤ time + 60000) (sym same-book) young)) in
-      rw (le-ltb _ _ small, eq-eqb _ _ long) (ap (heard_in v) o)
+      rw (le-ltb _ _ small, eq-eqb _ _ long) (ap (λ (r : Answered Heard). coded heard_code (left_in v r)) o)
 
   host-33 : Accepted33 w h
   host-33 =

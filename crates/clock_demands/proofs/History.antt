@@ -9,6 +9,11 @@ use native.Mathlib.Omega.{arith}
 use lib.Dec.{ltb}
 use lib.ListN.{length}
 use borrow.Author.Tests.{eq-eqb, ne_eqb}
+use Rattle.std.specs.Prelude.{Result, Ok, Err}
+use Rattle.refusal.specs.Refusal.{number}
+use Rattle.refusal.specs.declared.Refusal.{Refusal}
+use Rattle.refusal.specs.declared.Refusal.TheVariants.{NoSuchAction}
+use Rattle.refusal.proofs.Numbers.{in_byte}
 use Rattle.base.proofs.Cases.{by}
 use Rattle.clock_activation.specs.declared.Activation.{Activation}
 use Rattle.clock_activation.specs.Code.{Narrow}
@@ -17,33 +22,29 @@ use Rattle.clock_record.specs.Book.{Book, fresh}
 use Rattle.clock_record.specs.Words.{record_size, book_in, words_of}
 use Rattle.clock_record.proofs.Back.{Sized, back}
 use Rattle.clock.specs.declared.Heard.{Heard}
-use Rattle.clock.specs.declared.Moved.{Moved}
 use Rattle.clock.specs.Answered.{Answered}
 use Rattle.clock.specs.Offer.{offer_in}
 use Rattle.clock.specs.Move.{move_in}
-use Rattle.clock.specs.Record.{offer_to, move_to}
 use Rattle.clock.specs.Codes.{heard_code, moved_code}
-use Rattle.clock_laws.specs.Lossless.{HeardFits, MovedFits}
 use Rattle.clock_laws.specs.History.{Call, Account, nothing_yet, heard, passed, Moment, step, steps}
 use Rattle.clock_laws.proofs.Says.{offer-says, offer-long, move-says, move-long, words_long}
-use Rattle.clock_laws.proofs.Codes.{heard-fits, moved-fits}
-use Rattle.clock_answers.specs.Calls.{Called, unchanged, activation, fresh_call, offer_call, move_call}
-use Rattle.clock_answers.proofs.Calls.{record_of, heard_as, heard-as, moved_as, moved_as_lem}
+use Rattle.clock_answers.specs.Calls.{record_of, Called, coded, left_in, unchanged, activation, fresh_on, fresh_call, offer_call, move_call}
 use Rattle.clock_demands.specs.Host.{HostCall, Typed, answered, left, left_by, answered_by, layer_call, layer_calls, code_in, book_after, codes_by, noted, host_steps}
 use Rattle.clock_demands.specs.Demands.{HostHistory}
 use Rattle.clock_demands.proofs.Boundary.{offer-no, offer-on, move-on, answered-code}
 
 -- the host's account of an answer's number is the layer's of the answer
-heard-noted : (k : Account) (p e x t : ℕ) (r : Heard) → HeardFits r
+heard-noted : (k : Account) (p e x t : ℕ) (r : Result Heard Refusal)
     → noted k (HostCall.offer p e x t) (heard_code r) ≡ heard k (activation p e x t) r
-heard-noted k p e x t Heard.Applied f = refl
-heard-noted k p e x t Heard.Waiting f = refl
-heard-noted k p e x t (Heard.Refused n) f =
-    rw (ne_eqb n 256 (λ q. absurd (omega (arith, f.1))), ne_eqb n 512 (λ q. absurd (omega (arith, f.1))))
+heard-noted k p e x t (Ok Heard.Applied) = refl
+heard-noted k p e x t (Ok Heard.Waiting) = refl
+heard-noted k p e x t (Err r) =
+    let f = in_byte r in
+    rw (ne_eqb (number r) 256 (λ q. absurd (omega (arith, f.1))), ne_eqb (number r) 512 (λ q. absurd (omega (arith, f.1))))
 
-moved-noted : (k : Account) (to : ℕ) (r : Moved) → MovedFits r → noted k (HostCall.move to) (moved_code r) ≡ passed k to r
-moved-noted k to (Moved.Applied n) f = rw (eq-eqb (n * 2 ^ 8 % 2 ^ 8) 0 (omega arith))
-moved-noted k to (Moved.Refused n) f = rw (ne_eqb (n % 2 ^ 8) 0 (λ q. absurd (omega (arith, f.0, f.1))))
+moved-noted : (k : Account) (to : ℕ) (r : Result ℕ Refusal) → noted k (HostCall.move to) (moved_code r) ≡ passed k to r
+moved-noted k to (Ok n) = rw (eq-eqb (n * 2 ^ 8 % 2 ^ 8) 0 (omega arith))
+moved-noted k to (Err r) = let f = in_byte r in rw (ne_eqb (number r % 2 ^ 8) 0 (λ q. absurd (omega (arith, f.0, f.1))))
 
 -- what a call has to leave and answer, beside a moment of the layer
 pub record Beside (w : List ℕ) (k : Account) (t : Moment) (x : HostCall) (u : Moment) : Type 0 where
@@ -61,12 +62,11 @@ module _ (w : List ℕ) (z : length w ≡ 67) (t : Moment) (b : book_in w ≡ t.
     narrow : Narrow a
     narrow = record { application = f.0; event = f.1 }
 
-    call-refused : ltb 3 x ≡ true → offer_call w p e x s ≡ unchanged w 255
+    call-refused : ltb 3 x ≡ true → offer_call w p e x s ≡ unchanged w NoSuchAction
     call-refused h = offer-no w p e x s h
 
-    call-heard : ltb 3 x ≡ false → offer_call w p e x s ≡ heard_as (offer_to (record_of w) a)
-    unfolding offer_to
-    call-heard h = offer-on w p e x s z h ∙ sym (heard-as w (offer_in (book_in w) a).answer (offer_in (book_in w) a).book)
+    call-heard : ltb 3 x ≡ false → offer_call w p e x s ≡ coded heard_code (left_in w (offer_in (book_in w) a))
+    call-heard h = offer-on w p e x s z h
 
     told-book : ltb 3 x ≡ false → book_in (offer_call w p e x s).words ≡ (offer_in t.book a).book
     told-book h =
@@ -98,20 +98,19 @@ module _ (w : List ℕ) (z : length w ≡ 67) (t : Moment) (b : book_in w ≡ t.
           next = rw h;
           account =
               ap (noted t.account (HostCall.offer p e x s)) (told-answer h)
-              ∙ heard-noted t.account p e x s (offer_in t.book a).answer (heard-fits t.book a)
+              ∙ heard-noted t.account p e x s (offer_in t.book a).answer
               ∙ rw h;
           answer = told-answer h ∙ rw h;
         })
 
   module _ (to : ℕ) where
-    call-moved : move_call w to ≡ moved_as (move_to (record_of w) to)
-    unfolding move_to
-    call-moved = move-on w to z ∙ sym (moved_as_lem w (move_in (book_in w) to).answer (move_in (book_in w) to).book)
+    call-moved : move_call w to ≡ coded moved_code (left_in w (move_in (book_in w) to))
+    call-moved = move-on w to z
 
     moved-answer : (move_call w to).answer ≡ moved_code (move_in t.book to).answer
     moved-answer =
         ap (λ (c : Called). c.answer) call-moved
-        ∙ ap (λ (r : Answered Moved). moved_code r.answer) (move-says (record_of w) to)
+        ∙ ap (λ (r : Answered ℕ). moved_code r.answer) (move-says (record_of w) to)
         ∙ ap (λ (c : Book). moved_code (move_in c to).answer) b
 
     move_step : Beside w t.account t (HostCall.move to) (steps t (layer_call (HostCall.move to)))
@@ -120,12 +119,12 @@ module _ (w : List ℕ) (z : length w ≡ 67) (t : Moment) (b : book_in w ≡ t.
           long = ap (λ (c : Called). length c.words) call-moved ∙ move-long (record_of w) to z;
           book =
               ap (λ (c : Called). book_in c.words) call-moved
-              ∙ ap (λ (r : Answered Moved). r.book) (move-says (record_of w) to)
+              ∙ ap (λ (r : Answered ℕ). r.book) (move-says (record_of w) to)
               ∙ ap (λ (c : Book). (move_in c to).book) b;
           next = refl;
           account =
               ap (noted t.account (HostCall.move to)) moved-answer
-              ∙ moved-noted t.account to (move_in t.book to).answer (moved-fits t.book to);
+              ∙ moved-noted t.account to (move_in t.book to).answer;
           answer = moved-answer;
         }
 
@@ -183,7 +182,7 @@ fresh-sized : Sized fresh
 fresh-sized = record { apps = refl; held = omega arith; each = tt }
 
 fresh-words : (w : List ℕ) → length w ≡ 67 → (fresh_call w).words ≡ words_of fresh
-unfolding fresh_call
+unfolding fresh_on
 fresh-words w z = rw (eq-eqb _ _ z)
 
 pub host-history : (w : List ℕ) → length w ≡ record_size → (h : List HostCall) → All Typed h → HostHistory w h

@@ -1,6 +1,7 @@
 -- Laws of the exported functions: a refused call leaves the words as they were, the low 8 bits of an answer are 0 exactly when the
 -- call is accepted, and each value comes back out of the answer.
 use Rattle.std.specs.Prelude.{ℕ, ◌/◌, ◌^◌, ◌<◌, ◌≤◌, ◌≡◌, ◌↔◌, List, leb, length, if◌then◌else◌}
+use Rattle.refusal.specs.declared.Refusal.TheVariants.{NoSuchAction}
 use Rattle.clock_rule.specs.Rule.{state_of}
 use Rattle.clock_rule.specs.Numbers.{column_of}
 use Rattle.clock_record.specs.Waiting.{due_of}
@@ -20,7 +21,7 @@ pub record FreshLaws (w : List ℕ) : Type 0 where
 
 pub record OfferLaws (w : List ℕ) (application event action time : ℕ) : Type 0 where
   -- a number above 3 is no action: 255, whatever else is so
-  pub no_action : 3 < action → offer_call w application event action time ≡ unchanged w 255
+  pub no_action : 3 < action → offer_call w application event action time ≡ unchanged w NoSuchAction
   pub untouched : Untouched w (offer_call w application event action time)
   pub accepted : (refusal_of (offer_call w application event action time).answer ≡ 0)
       ↔ ((length w ≡ record_size) × (action ≤ 3) × NoneOffered (book_in w) (activation application event action time))

@@ -1,9 +1,10 @@
 -- A history of the host's calls on a clock that it lends in words, each call lent the words that the last one left, and the host's
 -- own account of it, kept from the calls and the numbers that they answer.
-use Rattle.std.specs.Prelude.{ℕ, ◌*◌, ◌/◌, ◌^◌, ◌<◌, List, [], ◌∷◌, ◌++◌, ltb, eqb, if◌then◌else◌}
+use Rattle.std.specs.Prelude.{ℕ, ◌*◌, ◌/◌, ◌^◌, ◌<◌, List, [], ◌∷◌, ◌++◌, ltb, eqb, if◌then◌else◌, Ok}
+use Rattle.refusal.specs.Refusal.{number}
+use Rattle.refusal.specs.declared.Refusal.TheVariants.{NoSuchAction}
 use Rattle.clock_record.specs.Book.{Book}
 use Rattle.clock.specs.declared.Heard.{Heard}
-use Rattle.clock.specs.declared.Moved.{Moved}
 use Rattle.clock.specs.Offer.{offer_in}
 use Rattle.clock.specs.Move.{move_in}
 use Rattle.clock.specs.Ask.{time_in, state_in}
@@ -62,7 +63,7 @@ layer_calls (x ∷ h) = layer_call x ++ layer_calls h
 -- the number for the layer's answer, and what the layer's record then says
 abbrev pub code_in : Book → HostCall → ℕ
 code_in b (HostCall.offer application event action time) =
-    if ltb 3 action then 255 else heard_code (offer_in b (activation application event action time)).answer
+    if ltb 3 action then number NoSuchAction else heard_code (offer_in b (activation application event action time)).answer
 code_in b (HostCall.move to) = moved_code (move_in b to).answer
 code_in b HostCall.ask_time = time_code (time_in b)
 code_in b (HostCall.ask_state n) = state_code (state_in b n)
@@ -82,10 +83,10 @@ codes_by b (x ∷ h) = code_in b x ∷ codes_by (book_after b x) h
 -- refused applies the waiting ones that it reaches
 abbrev pub noted : Account → HostCall → ℕ → Account
 noted k (HostCall.offer application event action time) n =
-    if eqb n (1 * 2 ^ 8) then heard k (activation application event action time) Heard.Applied
-    else (if eqb n (2 * 2 ^ 8) then heard k (activation application event action time) Heard.Waiting
+    if eqb n (1 * 2 ^ 8) then heard k (activation application event action time) (Ok Heard.Applied)
+    else (if eqb n (2 * 2 ^ 8) then heard k (activation application event action time) (Ok Heard.Waiting)
     else k)
-noted k (HostCall.move to) n = if eqb (refusal_of n) 0 then passed k to (Moved.Applied (n / 2 ^ 8)) else k
+noted k (HostCall.move to) n = if eqb (refusal_of n) 0 then passed k to (Ok (n / 2 ^ 8)) else k
 noted k HostCall.ask_time n = k
 noted k (HostCall.ask_state m) n = k
 

@@ -2,7 +2,7 @@
 --   same_refl, same-sym, same-trans                      it is an equality
 --   same-offer, same_move, same-time, same-state         equal records are answered alike, and what follows is equal
 --   one-offer, one-move, one-fresh, one_time, one_state  two answers that satisfy one promise are equal
-use Rattle.std.specs.Prelude.{if◌then◌else◌}
+use Rattle.std.specs.Prelude.{if◌then◌else◌, Result, Ok}
 use mathlib.Core.Path.{◌≡◌, refl, sym, ap, subst, ◌∙◌}
 use mathlib.Core.Bool.{Bool, true, false, not, ◌||◌}
 use mathlib.Core.List.{List, [], ◌∷◌}
@@ -11,6 +11,8 @@ use lib.Dec.{ltb, leb}
 use borrow.Author.Tests.{ltb-true, ltb-false}
 use Rattle.base.specs.Choice.{first, Row}
 use Rattle.base.proofs.Cases.{by, or_left, or_right}
+use Rattle.refusal.specs.declared.Refusal.{Refusal}
+use Rattle.clock_rule.specs.declared.State.{State}
 use Rattle.clock_rule.specs.declared.App.{App}
 use Rattle.clock_rule.specs.Rule.{applied}
 use Rattle.clock_activation.specs.declared.Activation.{Activation}
@@ -23,13 +25,9 @@ use Rattle.clock_record.specs.Waiting.{waiting_of, reached, due_of}
 use Rattle.clock_due.specs.Order.{run_of}
 use Rattle.clock_keep.specs.Keep.{moved, forgotten, kept_of}
 use Rattle.clock.specs.declared.Clock.{Clock}
-use Rattle.clock.specs.declared.Offered.{Offered}
-use Rattle.clock.specs.declared.Moved.{Moved}
-use Rattle.clock.specs.declared.Advanced.{Advanced}
-use Rattle.clock.specs.declared.AskedTime.{AskedTime}
-use Rattle.clock.specs.declared.AskedState.{AskedState}
+use Rattle.clock.specs.declared.Heard.{Heard}
 use Rattle.clock_record.specs.Book.{Book, Same, fresh, spoiled}
-use Rattle.clock.specs.Record.{book_of, clock_of, offer_to, move_to}
+use Rattle.clock.specs.Record.{book_of, clock_of, left_by}
 use Rattle.clock.specs.Offer.{faults, refused, applies, waits, offer_in}
 use Rattle.clock.specs.Move.{move_in}
 use Rattle.clock.specs.Ask.{time_in, state_in}
@@ -109,12 +107,12 @@ sound-distinct b s =
     (or_right b.over (any_of (wrong b.now) b.held || two_alike b.held) s)
 
 -- two tables that agree give related answers where each refusal and what follows are related
-first-related : {A : Type 0} (R : A → A → Type 0) (f g : ℕ → A) (x y : A) → ((n : ℕ) → R (f n) (g n)) → R x y
+first-related : {A : Type 0} (R : A → A → Type 0) (f g : Refusal → A) (x y : A) → ((n : Refusal) → R (f n) (g n)) → R x y
     → (rows : List Row) → R (first f rows x) (first g rows y)
 first-related R f g x y h k [] = k
 first-related R f g x y h k (r ∷ rs) =
     let ih = first-related R f g x y h k rs in
-    by r.when (λ t. rw t (h r.no)) (λ t. rw t ih)
+    by r.when (λ t. rw t (h r.refusal)) (λ t. rw t ih)
 
 module _ (b c : Book) (s : Same b c) where
   pub same-spoiled : spoiled b ≡ spoiled c
@@ -177,7 +175,7 @@ module _ (b c : Book) (s : Same b c) where
         (λ t.
         rw (move-advances b to x (ltb-false _ _ t), move-advances c to (sym same-spoiled ∙ x) (ltb-false _ _ (rw s.now at t)))
         (record {
-          answer = ap Moved.Applied (length-rearranged (due-rearranged to s.held));
+          answer = ap Ok (length-rearranged (due-rearranged to s.held));
           book =
               record {
                 over = refl;
@@ -201,16 +199,20 @@ module _ (b c : Book) (s : Same b c) where
 
 -- two answers that satisfy one promise are equal
 module _ (c : Clock) where
-  pub one-offer : (a : Activation) (r s : Offered) → r ≡ offer_to c a → s ≡ offer_to c a → r ≡ s
-  one-offer a r s p q = p ∙ sym q
+  pub one-offer : (a : Activation) (r s : Result Heard Refusal) (x y : Clock)
+      → r ≡ (offer_in (book_of c) a).answer → x ≡ left_by c (offer_in (book_of c) a)
+      → s ≡ (offer_in (book_of c) a).answer → y ≡ left_by c (offer_in (book_of c) a) → (r ≡ s) × (x ≡ y)
+  one-offer a r s x y p f q g = (p ∙ sym q, f ∙ sym g)
 
-  pub one-move : (to : ℕ) (r s : Advanced) → r ≡ move_to c to → s ≡ move_to c to → r ≡ s
-  one-move to r s p q = p ∙ sym q
+  pub one-move : (to : ℕ) (r s : Result ℕ Refusal) (x y : Clock)
+      → r ≡ (move_in (book_of c) to).answer → x ≡ left_by c (move_in (book_of c) to)
+      → s ≡ (move_in (book_of c) to).answer → y ≡ left_by c (move_in (book_of c) to) → (r ≡ s) × (x ≡ y)
+  one-move to r s x y p f q g = (p ∙ sym q, f ∙ sym g)
 
-  pub one_time : (r s : AskedTime) → r ≡ time_in (book_of c) → s ≡ time_in (book_of c) → r ≡ s
+  pub one_time : (r s : Result ℕ Refusal) → r ≡ time_in (book_of c) → s ≡ time_in (book_of c) → r ≡ s
   one_time r s p q = p ∙ sym q
 
-  pub one_state : (n : ℕ) (r s : AskedState) → r ≡ state_in (book_of c) n → s ≡ state_in (book_of c) n → r ≡ s
+  pub one_state : (n : ℕ) (r s : Result State Refusal) → r ≡ state_in (book_of c) n → s ≡ state_in (book_of c) n → r ≡ s
   one_state n r s p q = p ∙ sym q
 
 pub one-fresh : (r s : Clock) → r ≡ clock_of fresh → s ≡ clock_of fresh → r ≡ s

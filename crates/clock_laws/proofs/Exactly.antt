@@ -10,6 +10,9 @@ use lib.Dec.{ltb, leb, eqb}
 use lib.ListN.{length}
 use borrow.Author.Tests.{le-leb, lt-leb, ltb-true, ltb-false, leb-true, leb-false, eqb-false}
 use Rattle.base.proofs.Cases.{by, unlike}
+use Rattle.refusal.specs.Refusal.{number}
+use Rattle.refusal.specs.declared.Refusal.{Refusal}
+use Rattle.refusal.specs.declared.Refusal.TheVariants.{ClockAbove, ClockMovedBack, ClockPast, ClockAlreadyHeld, ClockFull, ClockSpoiled}
 use Rattle.clock_rule.specs.Rule.{above, state_of}
 use Rattle.clock_rule.specs.Numbers.{column_of}
 use Rattle.clock_activation.specs.declared.Activation.{Activation}
@@ -18,7 +21,6 @@ use Rattle.clock_activation.specs.Limits.{memory, most_held}
 use Rattle.clock_record.specs.Held.{is_held}
 use Rattle.clock_record.specs.Waiting.{due_of}
 use Rattle.clock.specs.declared.Heard.{Heard}
-use Rattle.clock.specs.declared.Moved.{Moved}
 use Rattle.clock_record.specs.Book.{Book, spoiled}
 use Rattle.clock.specs.Answered.{Answered}
 use Rattle.clock.specs.Spoiled.{Holds, Spoiled}
@@ -80,8 +82,8 @@ module _ (b : Book) (a : Activation) where
       rw (offer-waits b a s k p h (leb-false _ _ f) (leb-false _ _ t))
       (Offering.later (sound-says b s) (low-says _ k) (free-says b a h) (leb-false _ _ f) (leb-false _ _ t)))
 
-  given : (n : ℕ) → n % 2 ^ 8 ≡ n → offer_in b a ≡ refused b n → offer_refusal b a ≡ n
-  given n h e = ap (λ (x : Answered Heard). refusal_of (heard_code x.answer)) e ∙ h
+  given : (r : Refusal) → number r % 2 ^ 8 ≡ number r → offer_in b a ≡ refused b r → offer_refusal b a ≡ number r
+  given r h e = ap (λ (x : Answered Heard). refusal_of (heard_code x.answer)) e ∙ h
 
   -- what each number says
   abbrev Says : ℕ → Type 0
@@ -122,22 +124,22 @@ module _ (b : Book) (a : Activation) where
   pub offer-when : OfferWhen b a
   offer-when =
       record {
-        no35 = (λ e. why 35 e, λ s. given 35 refl (offer-35 b a (spoiled-true b s)));
-        no30 = (λ e. why 30 e, λ w. given 30 refl (offer-30 b a (sound-true b w.0) (le-leb 8 _ w.1)));
+        no35 = (λ e. why 35 e, λ s. given ClockSpoiled refl (offer-35 b a (spoiled-true b s)));
+        no30 = (λ e. why 30 e, λ w. given ClockAbove refl (offer-30 b a (sound-true b w.0) (le-leb 8 _ w.1)));
         no32 = (
           λ e. why 32 e,
-          λ w. given 32 refl (offer-32 b a (sound-true b w.0) (low-true _ w.1) (past-true b.now a.time w.2)),
+          λ w. given ClockPast refl (offer-32 b a (sound-true b w.0) (low-true _ w.1) (past-true b.now a.time w.2)),
         );
         no33 = (
           λ e. why 33 e,
           λ w.
-              given 33 refl
+              given ClockAlreadyHeld refl
               (offer-33 b a (sound-true b w.0) (low-true _ w.1) (young-true b.now a.time w.2) (holds-true b a w.3)),
         );
         no34 = (
           λ e. why 34 e,
           λ w.
-              given 34 refl
+              given ClockFull refl
               (offer-34 b a (sound-true b w.0) (low-true _ w.1) (young-true b.now a.time w.2) (free-true b a w.3) w.4),
         );
         none = (λ e. why 0 e, free);
@@ -151,13 +153,13 @@ module _ (b : Book) (to : ℕ) where
       (λ t. rw (move-31 b to s (ltb-true _ _ t)) (Moving.back (sound-says b s) (ltb-true _ _ t)))
       (λ t. rw (move-advances b to s (ltb-false _ _ t)) (Moving.on (sound-says b s) (ltb-false _ _ t)))
 
-  moved : (n : ℕ) → n % 2 ^ 8 ≡ n → move_in b to ≡ Move.refused b n → move_refusal b to ≡ n
-  moved n h e = ap (λ (x : Answered Moved). refusal_of (moved_code x.answer)) e ∙ h
+  moved : (r : Refusal) → number r % 2 ^ 8 ≡ number r → move_in b to ≡ Move.refused b r → move_refusal b to ≡ number r
+  moved r h e = ap (λ (x : Answered ℕ). refusal_of (moved_code x.answer)) e ∙ h
 
   abbrev Told : ℕ → Type 0
   Told n = If eqb n 35 then Spoiled b else (If eqb n 31 then ¬ Spoiled b × (to < b.now) else (If eqb n 0 then ¬ Spoiled b × (b.now ≤ to) else Unit {0}))
 
-  told : (x : Answered Moved) → Moving b to x → Told (refusal_of (moved_code x.answer))
+  told : (x : Answered ℕ) → Moving b to x → Told (refusal_of (moved_code x.answer))
   told x (Moving.spoiled s) = s
   told x (Moving.back s t) = (s, t)
   told x (Moving.on s t) = subst Told (sym (low-0 (length (due_of to b.held)))) (s, t)
@@ -168,12 +170,12 @@ module _ (b : Book) (to : ℕ) where
   pub move-when : MoveWhen b to
   move-when =
       record {
-        no35 = (λ e. reason 35 e, λ s. moved 35 refl (move-35 b to (spoiled-true b s)));
-        no31 = (λ e. reason 31 e, λ w. moved 31 refl (move-31 b to (sound-true b w.0) w.1));
+        no35 = (λ e. reason 35 e, λ s. moved ClockSpoiled refl (move-35 b to (spoiled-true b s)));
+        no31 = (λ e. reason 31 e, λ w. moved ClockMovedBack refl (move-31 b to (sound-true b w.0) w.1));
         none = (
           λ e. reason 0 e,
           λ w.
-              ap (λ (x : Answered Moved). refusal_of (moved_code x.answer)) (move-advances b to (sound-true b w.0) w.1)
+              ap (λ (x : Answered ℕ). refusal_of (moved_code x.answer)) (move-advances b to (sound-true b w.0) w.1)
               ∙ low-0 (length (due_of to b.held)),
         );
       }

@@ -5,6 +5,7 @@
 --   again-33         so it is, then, with an applied one
 --   counted          a move answers how many it added to the account's applied ones
 --   same-steps       equal records stay equal, and their accounts with them
+use Rattle.std.specs.Prelude.{Ok}
 use mathlib.Core.Path.{◌≡◌, refl, sym, ap, ◌∙◌}
 use mathlib.Core.Bool.{Bool, true, false, not, ◌||◌}
 use mathlib.Core.Logic.{◌⊎◌, ⊎_elim, inl, inr}
@@ -28,7 +29,6 @@ use Rattle.clock_due.proofs.Keys.{length-sort}
 use Rattle.clock_keep.specs.Keep.{kept_of}
 use Rattle.clock_keep.proofs.Laws.{only-append}
 use Rattle.clock.specs.declared.Heard.{Heard}
-use Rattle.clock.specs.declared.Moved.{Moved}
 use Rattle.clock_record.specs.Book.{Book, fresh, spoiled, Same}
 use Rattle.clock.specs.Offer.{offer_in, applies, waits}
 use Rattle.clock.specs.Move.{move_in, advanced}
@@ -122,7 +122,7 @@ module _ (t : Moment) (k : Kept t) (a : Activation) (y : Accepts t.book a) where
         (any_append (wrong t.book.now) t.book.held (record { activation = a; applied = done } ∷ []) (none-wrong t.book k.sound) (rw w))
         (two-more t.book.held (record { activation = a; applied = done }) (none_alike t.book k.sound) y.free)
 
-  applied-now : a.time ≤ t.book.now → Kept (record { book = (applies t.book a).book; account = heard t.account a Heard.Applied })
+  applied-now : a.time ≤ t.book.now → Kept (record { book = (applies t.book a).book; account = heard t.account a (Ok Heard.Applied) })
   unfolding run_of waiting_of
   applied-now h =
       record {
@@ -143,7 +143,7 @@ module _ (t : Moment) (k : Kept t) (a : Activation) (y : Accepts t.book a) where
         exact = exact-now true;
       }
 
-  waiting-now : t.book.now < a.time → Kept (record { book = (waits t.book a).book; account = heard t.account a Heard.Waiting })
+  waiting-now : t.book.now < a.time → Kept (record { book = (waits t.book a).book; account = heard t.account a (Ok Heard.Waiting) })
   unfolding waiting_of
   waiting-now h =
       record {
@@ -274,12 +274,12 @@ again-33 h =
     (all-rearranged (Again (after h).book) (kept h).once (accepted_33 h))
 
 -- the number that a move answers is how many it adds to the account's applied ones
-pub counted : (h : List Call) (to n : ℕ) → (move_in (after h).book to).answer ≡ Moved.Applied n
+pub counted : (h : List Call) (to n : ℕ) → (move_in (after h).book to).answer ≡ Ok n
     → length (step (after h) (Call.move to)).account.applied ≡ length (after h).account.applied + n
 counted h to n =
     let t : Moment = after h in
     move-cases t.book to
-    (λ r. r.answer ≡ Moved.Applied n → length (passed t.account to r.answer).applied ≡ length t.account.applied + n)
+    (λ r. r.answer ≡ Ok n → length (passed t.account to r.answer).applied ≡ length t.account.applied + n)
     (λ m e. absurd (let z : ◌≡◌ {A = ℕ} 0 1 = cc in omega arith))
     (λ s g e.
     let c : length (only_of (reached to) (waiting_of t.book.held)) ≡ n = cc in

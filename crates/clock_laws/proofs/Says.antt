@@ -1,6 +1,7 @@
--- What the records that are handed back say.
---   offer-says, move-says   an offer and a move, refused or not, hand back a record that says what they leave
---   offer-long, move-long   and that is 67 words, where the one that was given is
+-- What the records that are left say.
+--   offer-says, move-says   an offer and a move, refused or not, leave a record that says what they leave
+--   offer-long, move-long   and that is 67 words, where the one that was lent is
+use Rattle.std.specs.Prelude.{Ok}
 use mathlib.Core.Path.{◌≡◌, refl, ap, ◌∙◌}
 use mathlib.Core.Bool.{Bool, true, false, not}
 use mathlib.Core.List.{List, [], ◌∷◌, map}
@@ -24,11 +25,10 @@ use Rattle.clock_keep.specs.Keep.{moved, forgotten, kept_of}
 use Rattle.clock_keep.proofs.Puts.{pairs-length}
 use Rattle.clock.specs.declared.Clock.{Clock}
 use Rattle.clock.specs.declared.Heard.{Heard}
-use Rattle.clock.specs.declared.Moved.{Moved}
 use Rattle.clock.specs.Answered.{Answered}
-use Rattle.clock.specs.Offer.{more, applies, waits}
-use Rattle.clock.specs.Move.{advanced}
-use Rattle.clock.specs.Record.{book_of, heard_by, moved_by, offer_to, move_to}
+use Rattle.clock.specs.Offer.{more, applies, waits, offer_in}
+use Rattle.clock.specs.Move.{advanced, move_in}
+use Rattle.clock.specs.Record.{book_of, left_by}
 use Rattle.clock_laws.specs.Says.{OfferSays, MoveSays}
 use Rattle.clock_laws.proofs.Cases.{Accepts, offer-cases, move-cases}
 use Rattle.clock_laws.proofs.Few.{kept-few}
@@ -61,9 +61,9 @@ unfolding words_with
 words_long b = let e = pairs-length 32 b.held in omega arith
 
 module _ (c : Clock) (a : Activation) where
-  -- what is handed back for an answer
+  -- what is left for an answer
   abbrev SaysSo : Answered Heard → Type 0
-  SaysSo r = record { answer = (heard_by c r.answer r.book).answer; book = book_of (heard_by c r.answer r.book).clock } ≡ r
+  SaysSo r = record { answer = r.answer; book = book_of (left_by c r) } ≡ r
 
   more-sized : Narrow a → Accepts (book_of c) a → (done : Bool)
       → (length (more (book_of c) a done) ≤ 32) × All Fits (more (book_of c) a done)
@@ -74,11 +74,10 @@ module _ (c : Clock) (a : Activation) where
       )
 
   pub offer-says : Narrow a → OfferSays c a
-  unfolding offer_to
   offer-says f =
       offer-cases (book_of c) a SaysSo (λ n. refl)
       (λ y h.
-      ap (λ (x : Book). record { answer = Heard.Applied; book = x })
+      ap (λ (x : Book). record { answer = Ok Heard.Applied; book = x })
       (back (applies (book_of c) a).book
       (record {
         apps = applied-length (book_of c).apps a.application a.action ∙ (sized c.words).apps;
@@ -87,32 +86,29 @@ module _ (c : Clock) (a : Activation) where
       })
       refl))
       (λ y h.
-      ap (λ (x : Book). record { answer = Heard.Waiting; book = x })
+      ap (λ (x : Book). record { answer = Ok Heard.Waiting; book = x })
       (back (waits (book_of c) a).book
       (record { apps = (sized c.words).apps; held = (more-sized f y false).0; each = (more-sized f y false).1 })
       refl))
 
-  pub offer-long : length c.words ≡ 67 → length (offer_to c a).clock.words ≡ 67
-  unfolding offer_to
+  pub offer-long : length c.words ≡ 67 → length (left_by c (offer_in (book_of c) a)).words ≡ 67
   offer-long z =
-      offer-cases (book_of c) a (λ r. length (heard_by c r.answer r.book).clock.words ≡ 67) (λ n. z)
+      offer-cases (book_of c) a (λ r. length (left_by c r).words ≡ 67) (λ n. z)
       (λ y h. words_long (applies (book_of c) a).book)
       (λ y h. words_long (waits (book_of c) a).book)
 
 module _ (c : Clock) (to : ℕ) where
-  abbrev MovedSo : Answered Moved → Type 0
-  MovedSo r = record { answer = (moved_by c r.answer r.book).answer; book = book_of (moved_by c r.answer r.book).clock } ≡ r
+  abbrev MovedSo : Answered ℕ → Type 0
+  MovedSo r = record { answer = r.answer; book = book_of (left_by c r) } ≡ r
 
   pub move-says : MoveSays c to
-  unfolding move_to
   move-says =
       move-cases (book_of c) to MovedSo (λ n. refl)
       (λ s h.
       ap (λ (x : Book). record { answer = (advanced (book_of c) to).answer; book = x })
       (back (advanced (book_of c) to).book (moved-sized to (book_of c) (sized c.words)) refl))
 
-  pub move-long : length c.words ≡ 67 → length (move_to c to).clock.words ≡ 67
-  unfolding move_to
+  pub move-long : length c.words ≡ 67 → length (left_by c (move_in (book_of c) to)).words ≡ 67
   move-long z =
-      move-cases (book_of c) to (λ r. length (moved_by c r.answer r.book).clock.words ≡ 67) (λ n. z)
+      move-cases (book_of c) to (λ r. length (left_by c r).words ≡ 67) (λ n. z)
       (λ s h. words_long (advanced (book_of c) to).book)

@@ -1,12 +1,12 @@
 -- A history of a clock, and its own account of what was accepted, applied and left waiting.
-use Rattle.std.specs.Prelude.{ℕ, not, List, [], ◌∷◌, ◌++◌}
+use Rattle.std.specs.Prelude.{ℕ, not, List, [], ◌∷◌, ◌++◌, Result, Ok, Err}
+use Rattle.refusal.specs.declared.Refusal.{Refusal}
 use Rattle.clock_activation.specs.declared.Activation.{Activation}
 use Rattle.clock_activation.specs.Activation.{past}
 use Rattle.clock_record.specs.Lists.{only_of}
 use Rattle.clock_record.specs.Waiting.{reached}
 use Rattle.clock_due.specs.Order.{sort_of}
 use Rattle.clock.specs.declared.Heard.{Heard}
-use Rattle.clock.specs.declared.Moved.{Moved}
 use Rattle.clock_record.specs.Book.{Book, fresh}
 use Rattle.clock.specs.Offer.{offer_in}
 use Rattle.clock.specs.Move.{move_in}
@@ -32,23 +32,23 @@ abbrev pub still_held : Account → List Activation
 still_held k = only_of (λ a. not (past k.now a.time)) k.accepted
 
 -- an offer answered `Applied` was applied, one answered `Waiting` waits, and a refused one is neither
-abbrev pub heard : Account → Activation → Heard → Account
-heard k a Heard.Applied =
+abbrev pub heard : Account → Activation → Result Heard Refusal → Account
+heard k a (Ok Heard.Applied) =
     record { now = k.now; accepted = k.accepted ++ (a ∷ []); applied = k.applied ++ (a ∷ []); waiting = k.waiting }
-heard k a Heard.Waiting =
+heard k a (Ok Heard.Waiting) =
     record { now = k.now; accepted = k.accepted ++ (a ∷ []); applied = k.applied; waiting = k.waiting ++ (a ∷ []) }
-heard k a (Heard.Refused n) = k
+heard k a (Err r) = k
 
 -- a move applies the waiting ones that it reaches, by time, then application, then event; the others still wait
-abbrev pub passed : Account → ℕ → Moved → Account
-passed k to (Moved.Applied n) =
+abbrev pub passed : Account → ℕ → Result ℕ Refusal → Account
+passed k to (Ok n) =
     record {
       now = to;
       accepted = k.accepted;
       applied = k.applied ++ sort_of (only_of (reached to) k.waiting);
       waiting = only_of (λ a. not (reached to a)) k.waiting;
     }
-passed k to (Moved.Refused n) = k
+passed k to (Err r) = k
 
 -- the record at a moment, and the account
 pub record Moment : Type 0 where

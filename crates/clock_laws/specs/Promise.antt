@@ -1,5 +1,6 @@
 -- What a clock promises over a history.
 use Rattle.std.specs.Prelude.{◌+◌, ◌<◌, ◌≤◌, ◌≡◌, true, false, ◌⊎◌, ◌++◌, map}
+use Rattle.refusal.specs.declared.Refusal.TheVariants.{ClockAlreadyHeld}
 use Rattle.clock_rule.specs.Rule.{above}
 use Rattle.clock_activation.specs.declared.Activation.{Activation}
 use Rattle.clock_activation.specs.declared.Held.{Held}
@@ -39,4 +40,4 @@ pub record Kept (t : Moment) : Type 0 where
 
 -- offered again within its memory, with whatever action: 33, and nothing changes
 abbrev pub Again : Book → Activation → Type 0
-Again b x = (a : Activation) → One a x → b.now ≤ a.time + memory → offer_in b a ≡ refused b 33
+Again b x = (a : Activation) → One a x → b.now ≤ a.time + memory → offer_in b a ≡ refused b ClockAlreadyHeld

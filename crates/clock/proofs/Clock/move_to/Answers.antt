@@ -4,7 +4,6 @@ use mathlib.Core.Path.{sym, ap, ◌∙◌}
 use Prim.Native.Nat.{ℕ}
 use Rattle.std.specs.Prelude.{Ok, Err}
 use Rattle.refusal.proofs.Numbers.{handed_on}
-use Rattle.base.proofs.Tests.{told}
 use Rattle.clock.specs.Answered.{Answered}
 use Rattle.clock.specs.Record.{book_of, left_by}
 use Rattle.clock.proofs.Exits.{unsound, sound, move-35, move-31, move-advances, moved}
