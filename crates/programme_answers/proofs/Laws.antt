@@ -7,20 +7,21 @@ use Prim.Native.Nat.{ℕ, ◌<◌, ◌≤◌}
 use lib.ListN.{length, drop}
 use Rattle.answers.specs.Answers.{out, puts}
 use Rattle.answers.proofs.Puts.{puts-refused, puts-short, puts-values}
+use Rattle.std.specs.Prelude.{Ok, Err}
+use Rattle.refusal.specs.Refusal.{number}
+use Rattle.refusal.specs.declared.Refusal.{Refusal}
 use Rattle.programme.specs.Reading.{read_of}
 use Rattle.programme.specs.Answer.{reading_told, programme_numbers}
 use Rattle.programme.specs.declared.Programme.{Programme}
-use Rattle.programme.specs.declared.Reading.{Reading}
-use Rattle.programme_items.specs.Items.{walked, walk_of}
-use Rattle.programme_items.specs.declared.Walk.{Walk}
+use Rattle.programme_items.specs.Items.{Walk, walked, walk_of}
 use Rattle.programme_answers.specs.Lent.{read_lent, walk_code, walk_lent, items_lent}
 
 module _ (s fields : List ℕ) where
-  pub read_refused : {n m : ℕ} → m ≡ n → read_of s ≡ Reading.Refused n → out m fields ≡ read_lent s fields
+  pub read_refused : {n : Refusal} {m : ℕ} → m ≡ number n → read_of s ≡ Err n → out m fields ≡ read_lent s fields
   unfolding read_lent
-  read_refused {n} q e = rw (q, e) (puts-refused n fields)
+  read_refused {n} q e = rw (q, e) (puts-refused (number n) fields)
 
-  module _ (p : Programme) (e : read_of s ≡ Reading.Programme p) where
+  module _ (p : Programme) (e : read_of s ≡ Ok p) where
     pub read_short : length fields < 4 → out 15 fields ≡ read_lent s fields
     unfolding read_lent
     read_short h = rw e (puts-short (programme_numbers p) fields h)

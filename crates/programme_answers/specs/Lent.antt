@@ -1,19 +1,17 @@
 -- How the boundary answers about an NRT-IT section: a number of refusal in the low 8 bits, and values in the bits above them or in a lent
 -- buffer.
-use Rattle.std.specs.Prelude.{ℕ, zero, suc, ◌+◌, ◌*◌, ◌/◌, ◌%◌, ◌^◌, ◌<◌, ◌≤◌, ◌≡◌, List, [], ◌∷◌, ◌++◌, ◌↔◌, eqb, length, get_or, drop, if◌then◌else◌}
+use Rattle.std.specs.Prelude.{ℕ, zero, suc, ◌+◌, ◌*◌, ◌/◌, ◌%◌, ◌^◌, ◌<◌, ◌≤◌, ◌≡◌, List, [], ◌∷◌, ◌++◌, ◌↔◌, eqb, length, get_or, drop, if◌then◌else◌, Ok, Err, Some, None}
+use Rattle.refusal.specs.Refusal.{number, refusal_of}
+use Rattle.refusal.specs.declared.Refusal.{Refusal}
 use Rattle.base.specs.Octets.{Octets}
 use Rattle.answers.specs.Answers.{Out, out, puts}
-use Rattle.programme.specs.Reading.{read_of, step_of, own_of}
+use Rattle.programme.specs.Reading.{Own, read_of, step_of, own_of}
 use Rattle.programme.specs.Answer.{reading_told}
 use Rattle.programme.specs.declared.Programme.{Programme}
-use Rattle.programme.specs.declared.Reading.{Reading}
 use Rattle.programme.specs.declared.Loop.{Loop}
 use Rattle.programme.specs.declared.Item.{Item}
-use Rattle.programme.specs.declared.Step.{Step}
-use Rattle.programme.specs.declared.Own.{Own}
-use Rattle.programme_items.specs.Items.{item_back, items_from, place_after, Walked, walk_of}
+use Rattle.programme_items.specs.Items.{Walk, item_back, items_from, place_after, Walked, walk_of}
 use Rattle.programme_items.specs.declared.Passed.{Passed}
-use Rattle.programme_items.specs.declared.Walk.{Walk}
 
 -- the four numbers before the items, put into the buffer
 unfoldable pub read_lent : List ℕ → List ℕ → Out
@@ -31,9 +29,9 @@ abbrev pub passed_code : Passed → ℕ
 passed_code p = items_kind + p.count * 2 ^ 16 + p.next * 2 ^ 32
 
 abbrev pub walk_code : Walk → ℕ
-walk_code (Walk.Items p) = passed_code p
-walk_code Walk.Over = over_kind
-walk_code (Walk.Refused n) = n
+walk_code (Ok (Some p)) = passed_code p
+walk_code (Ok None) = over_kind
+walk_code (Err r) = number r
 
 abbrev pub walk_lent : Walked → Out
 walk_lent w = out (walk_code w.walk) w.fields
@@ -46,8 +44,8 @@ abbrev pub loop_code : Loop → ℕ
 loop_code l = l.count * 2 ^ 8 + l.place * 2 ^ 16 + l.length * 2 ^ 32
 
 abbrev pub own_code : Own → ℕ
-own_code (Own.Loop l) = loop_code l
-own_code (Own.Refused n) = n
+own_code (Ok l) = loop_code l
+own_code (Err r) = number r
 
 -- What a host takes out of them:
 abbrev pub programme_back : List ℕ → Programme
@@ -61,8 +59,8 @@ items_back (suc n) l = item_back l ∷ items_back n (drop 10 l)
 abbrev pub own_back : ℕ → Own
 own_back code =
     if eqb (code % 2 ^ 8) 0
-    then Own.Loop (record { count = code / 2 ^ 8 % 2 ^ 8; place = code / 2 ^ 16 % 2 ^ 16; length = code / 2 ^ 32 })
-    else Own.Refused code
+    then Ok (record { count = code / 2 ^ 8 % 2 ^ 8; place = code / 2 ^ 16 % 2 ^ 16; length = code / 2 ^ 32 })
+    else Err (refusal_of code)
 
 -- Of a payload `s` and the lent numbers `fields`; and of a place and a number asked:
 module _ (s fields : List ℕ) where
@@ -72,19 +70,19 @@ module _ (s fields : List ℕ) where
 
   -- any number but 0 and 15 is the code exactly when the fields before the items are refused by it
   abbrev pub ReadRefused : Type 0
-  ReadRefused = (n : ℕ) → ¬ (n ≡ 0) → ¬ (n ≡ 15) → ((read_lent s fields).code ≡ n) ↔ (read_of s ≡ Reading.Refused n)
+  ReadRefused = (n : ℕ) → ¬ (n ≡ 0) → ¬ (n ≡ 15) → ((read_lent s fields).code ≡ n) ↔ ((r : Refusal) × ((number r ≡ n) × (read_of s ≡ Err r)))
 
   -- it is accepted exactly when these are read and the buffer has room for them
   abbrev pub ReadAccepted : Type 0
-  ReadAccepted = ((read_lent s fields).code ≡ 0) ↔ (((p : Programme) × (read_of s ≡ Reading.Programme p)) × (4 ≤ length fields))
+  ReadAccepted = ((read_lent s fields).code ≡ 0) ↔ (((p : Programme) × (read_of s ≡ Ok p)) × (4 ≤ length fields))
 
   -- 15 exactly when these are read and the buffer has less room
   abbrev pub Read15 : Type 0
-  Read15 = ((read_lent s fields).code ≡ 15) ↔ (((p : Programme) × (read_of s ≡ Reading.Programme p)) × (length fields < 4))
+  Read15 = ((read_lent s fields).code ≡ 15) ↔ (((p : Programme) × (read_of s ≡ Ok p)) × (length fields < 4))
 
   -- and where it is accepted these come back out of the buffer
   abbrev pub ReadComesBack : Type 0
-  ReadComesBack = (read_lent s fields).code ≡ 0 → read_of s ≡ Reading.Programme (programme_back (read_lent s fields).out)
+  ReadComesBack = (read_lent s fields).code ≡ 0 → read_of s ≡ Ok (programme_back (read_lent s fields).out)
 
   module _ (at k : ℕ) where
     -- bits 0 to 15 of the answer, the refusal and the kind; how many items it says; the place after them
@@ -103,19 +101,19 @@ module _ (s fields : List ℕ) where
 
     -- any number below 256 but 15 is the code exactly when a step there is refused by it
     abbrev pub ItemsRefused : Type 0
-    ItemsRefused = (n : ℕ) → n < 256 → ¬ (n ≡ 15) → ((items_lent s at k fields).code ≡ n) ↔ (step_of s at k ≡ Step.Refused n)
+    ItemsRefused = (n : ℕ) → n < 256 → ¬ (n ≡ 15) → ((items_lent s at k fields).code ≡ n) ↔ ((r : Refusal) × ((number r ≡ n) × (step_of s at k ≡ Err r)))
 
     -- items are handed out exactly when one stands there and the buffer has room for it
     abbrev pub ItemsHanded : Type 0
-    ItemsHanded = (kind ≡ items_kind) ↔ (((i : Item) × (step_of s at k ≡ Step.Item i)) × (10 ≤ length fields))
+    ItemsHanded = (kind ≡ items_kind) ↔ (((i : Item) × (step_of s at k ≡ Ok (Some i))) × (10 ≤ length fields))
 
     -- 15 exactly when one stands there and the buffer has less room
     abbrev pub Items15 : Type 0
-    Items15 = ((items_lent s at k fields).code ≡ 15) ↔ (((i : Item) × (step_of s at k ≡ Step.Item i)) × (length fields < 10))
+    Items15 = ((items_lent s at k fields).code ≡ 15) ↔ (((i : Item) × (step_of s at k ≡ Ok (Some i))) × (length fields < 10))
 
     -- kind 2 exactly when the section has no item of that number
     abbrev pub ItemsOver : Type 0
-    ItemsOver = ((items_lent s at k fields).code ≡ over_kind) ↔ (step_of s at k ≡ Step.Over)
+    ItemsOver = ((items_lent s at k fields).code ≡ over_kind) ↔ (step_of s at k ≡ Ok None)
 
     -- of kind 1 the items come back out of the buffer, as many as the answer says, and the place after the last out of the answer
     abbrev pub ItemsComeBack : Type 0
@@ -139,7 +137,7 @@ module _ (n : ℕ) (s : List ℕ) (at k : ℕ) where
   abbrev pub ItemsLongest : Type 0
   ItemsLongest =
       length (items_from n s at k) < n
-      → (i : Item) → ¬ (step_of s (place_after at (items_from n s at k)) (k + length (items_from n s at k)) ≡ Step.Item i)
+      → (i : Item) → ¬ (step_of s (place_after at (items_from n s at k)) (k + length (items_from n s at k)) ≡ Ok (Some i))
 
   -- a host that goes on behind them, with the number that follows, gets what one call with more room would have given it
   abbrev pub ItemsGoOn : Type 0

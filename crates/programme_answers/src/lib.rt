@@ -6,8 +6,9 @@ ghost use Rattle.answers.specs.Answers.{out as out_of};
 ghost use Rattle.programme.specs.Reading.{own_of};
 ghost use Rattle.programme_answers.specs.Lent.{read_lent, passed_code, items_lent, loop_code, own_code};
 
-use programme::{Loop, Own, Reading};
-use programme_items::{Passed, Walk};
+use programme::Loop;
+use programme_items::Passed;
+use refusal::Refusal;
 
 // How many numbers the fields before the items are answered in.
 const FIELDS: usize = 4;
@@ -21,12 +22,11 @@ const OVER: u64 = 512;
 pub fn programme_read(payload: &[u8], fields: &mut [u32]) -> u8
     ensures { out_of result fields.new ≡ read_lent payload.now fields.old }
 {
-    let reading = programme::read(payload);
-    match reading {
-        Reading::Refused(n) => n,
-        Reading::Programme(p) => {
+    match programme::read(payload) {
+        Err(refusal) => u8::from(refusal),
+        Ok(p) => {
             if fields.len() < FIELDS {
-                return answers::OUTPUT_TOO_SMALL;
+                return Refusal::OutputTooSmall as u8;
             }
             fields[0] = u32::from(p.service);
             fields[1] = p.start;
@@ -52,11 +52,10 @@ fn passed_code(p: Passed) -> u64
 pub fn programme_items(payload: &[u8], at: usize, number: u8, fields: &mut [u64]) -> u64
     ensures { out_of result fields.new ≡ items_lent payload.now at number fields.old }
 {
-    let walk = programme_items::items_at(payload, at, number, fields);
-    match walk {
-        Walk::Refused(n) => n as u64,
-        Walk::Over => OVER,
-        Walk::Items(p) => passed_code(p),
+    match programme_items::items_at(payload, at, number, fields) {
+        Ok(Some(passed)) => passed_code(passed),
+        Ok(None) => OVER,
+        Err(refusal) => u64::from(u8::from(refusal)),
     }
 }
 
@@ -65,7 +64,7 @@ fn loop_code(l: Loop) -> u64
     requires { (l.place < 65536) × (l.length < 65536) }
     ensures { result ≡ loop_code l }
 {
-    let count = l.count as u64 * answers::BIT_8;
+    let count = u64::from(l.count) * answers::BIT_8;
     let place = l.place as u64 * answers::BIT_16;
     let length = l.length as u64 * answers::BIT_32;
     count + place + length
@@ -75,9 +74,8 @@ fn loop_code(l: Loop) -> u64
 pub fn programme_own(payload: &[u8], at: usize) -> u64
     ensures { result ≡ own_code (own_of payload.now at) }
 {
-    let own = programme::own_loop(payload, at);
-    match own {
-        Own::Refused(n) => n as u64,
-        Own::Loop(l) => loop_code(l),
+    match programme::own_loop(payload, at) {
+        Ok(own) => loop_code(own),
+        Err(error) => error as u64,
     }
 }

@@ -6,13 +6,19 @@ use Rattle.programme_answers.proofs.Laws.{lent}
 use Rattle.programme_answers.proofs.programme_items.Goals as goal
 
 pub passed_code-requires : goal.passed_code-requires
-passed_code-requires c = handed-within _ _ _ _ (ap (λ w. walked w c.items_at-walk.new.fields) (sym c.in-Items.is) ∙ c.items_at-walk.ensures)
+passed_code-requires c =
+    let is = rw c.in-Ok-Some.field-0-is at c.in-Ok-Some.is in
+    handed-within _ _ _ _ (ap (λ w. walked w c.items_at.new.fields) (sym is) ∙ c.items_at.ensures)
 
-pub returns-in-Refused : goal.returns-in-Refused
-returns-in-Refused c = lent _ _ _ _ (ap (λ w. walked w c.items_at-walk.new.fields) (sym c.in-Refused.is) ∙ c.items_at-walk.ensures) refl
+pub returns-in-Ok-Some : goal.returns-in-Ok-Some
+returns-in-Ok-Some c =
+    let is = rw c.in-Ok-Some.field-0-is at c.in-Ok-Some.is in
+    lent _ _ _ _ (ap (λ w. walked w c.items_at.new.fields) (sym is) ∙ c.items_at.ensures) c.passed_code.ensures
 
-pub returns-in-Over : goal.returns-in-Over
-returns-in-Over c = lent _ _ _ _ (ap (λ w. walked w c.items_at-walk.new.fields) (sym c.in-Over.is) ∙ c.items_at-walk.ensures) refl
+pub returns-in-Ok-None : goal.returns-in-Ok-None
+returns-in-Ok-None c =
+    let is = rw c.in-Ok-None.field-0-is at c.in-Ok-None.is in
+    lent _ _ _ _ (ap (λ w. walked w c.items_at.new.fields) (sym is) ∙ c.items_at.ensures) refl
 
-pub returns-in-Items : goal.returns-in-Items
-returns-in-Items c = lent _ _ _ _ (ap (λ w. walked w c.items_at-walk.new.fields) (sym c.in-Items.is) ∙ c.items_at-walk.ensures) c.passed_code.ensures
+pub returns-in-Err : goal.returns-in-Err
+returns-in-Err c = lent _ _ _ _ (ap (λ w. walked w c.items_at.new.fields) (sym c.in-Err.is) ∙ c.items_at.ensures) (c.from-in-Err.ensures ∙ c.from.ensures)

@@ -4,4 +4,4 @@ use Rattle.programme.proofs.Within.{own-within}
 use Rattle.programme_answers.proofs.programme_own.Goals as goal
 
 pub loop_code-requires : goal.loop_code-requires
-loop_code-requires c = own-within _ _ _ (sym c.in-Loop.ensures)
+loop_code-requires c = own-within _ _ _ (sym c.in-Ok.ensures)
