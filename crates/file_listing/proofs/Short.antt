@@ -24,24 +24,25 @@ use Rattle.section.specs.declared.Header.{Header}
 use Rattle.section.proofs.Laws.{sound-facts, sound_fits}
 use Rattle.file.specs.Layout.{same_table}
 use Rattle.file.specs.Scan.{scan_of, found_at}
-use Rattle.file.specs.declared.Scan.{Scan}
+use Rattle.file.specs.declared.Table.{Table}
+use Rattle.refusal.specs.Refusal.{number}
+use Rattle.std.specs.Prelude.{Result, Ok, Err}
+use Rattle.refusal.specs.declared.Refusal.{Refusal}
+use Rattle.refusal.specs.declared.Refusal.TheVariants.{OutputTooSmall}
 use Rattle.file.proofs.Held.{held}
 use Rattle.file_listing.specs.Words.{place, places, decimal, long_decimal, lines}
 use Rattle.file_listing.specs.Listing.{added_words, head_line, section_line, missing_line, refused_line, section_of, missing_of, end_of, table_text, answer_text, text_of, listing, list_of}
 use Rattle.file_listing.specs.Answer.{TextShort, AlwaysListed}
-use Rattle.file_listing.specs.declared.Listed.{Listed}
 
-pub listed-within : (file out : List ℕ) (n : ℕ) (after : List ℕ) → listing (Listed.Bytes n) after ≡ list_of file out → n ≤ length after
+pub listed-within : (file out : List ℕ) (n : ℕ) (after : List ℕ) → listing (Ok n) after ≡ list_of file out → n ≤ length after
 unfolding list_of
 listed-within file out n after e =
     by (ltb (length out) (length (text_of file)))
     (λ t.
-    absurd
-    (let q : ◌≡◌ {A = Listed} (Listed.Bytes n) (Listed.Refused 15) = ap (λ l. l.said) (rw t at e) in
-    let z : ◌≡◌ {A = ℕ} 0 1 = cc in
-    omega arith))
+    let q : ◌≡◌ {A = Result ℕ Refusal} (Ok n) (Err OutputTooSmall) = ap (λ l. l.said) (rw t at e) in
+    cc)
     (λ f.
-    let q : ◌≡◌ {A = Listed} (Listed.Bytes n) (Listed.Bytes (length (text_of file))) = ap (λ l. l.said) (rw f at e) in
+    let q : ◌≡◌ {A = Result ℕ Refusal} (Ok n) (Ok (length (text_of file))) = ap (λ l. l.said) (rw f at e) in
     let z : n ≡ length (text_of file) = cc in
     let o : after ≡ text_of file ++ drop (length (text_of file)) out = ap (λ l. l.out) (rw f at e) in
     omega (arith, simp length-append at (ap length o)))
@@ -166,32 +167,32 @@ same-label a c s t v =
     (omega arith, omega arith)
 
 -- what the first section's header says fits its digits
-module _ (file : List ℕ) (b : Octets file) (h : Header) (e : (scan_of file).answer ≡ Scan.Table h) where
-  sizes-short : (n : ℕ) → get_or (scan_of file).lengths n 0 ≤ 1024
-  sizes-short n = ⊎_elim (λ z. omega arith) (λ l. l.high) ((held file h e).each n)
+module _ (file : List ℕ) (b : Octets file) (table : Table) (e : scan_of file ≡ Ok table) where
+  sizes-short : (n : ℕ) → get_or table.lengths n 0 ≤ 1024
+  sizes-short n = ⊎_elim (λ z. omega arith) (λ l. l.high) ((held file table e).each n)
 
-  label-short : (h.key.table < 256) × (h.version < 32)
+  label-short : (table.header.key.table < 256) × (table.header.version < 32)
   label-short =
-      let k : ℕ = (held file h e).some.0 in
-      let some : 8 ≤ get_or (scan_of file).lengths k 0 = (held file h e).some.1 in
+      let k : ℕ = (held file table e).some.0 in
+      let some : 8 ≤ get_or table.lengths k 0 = (held file table e).some.1 in
       ⊎_elim
       (λ z. absurd (omega arith))
       (λ l.
-      let s = part file (get_or (scan_of file).starts k 0) (get_or (scan_of file).lengths k 0) in
+      let s = part file (get_or table.starts k 0) (get_or table.lengths k 0) in
       let f = sound-facts s l.header l.sound in
-      let w = sound_fits s l.header l.sound (octets-part file (get_or (scan_of file).starts k 0) (get_or (scan_of file).lengths k 0) b) in
-      same-label h l.header l.shares w.table f.version)
-      ((held file h e).each k)
+      let w = sound_fits s l.header l.sound (octets-part file (get_or table.starts k 0) (get_or table.lengths k 0) b) in
+      same-label table.header l.header l.shares w.table f.version)
+      ((held file table e).each k)
 
 pub text_short : (file : List ℕ) → TextShort file
 unfolding text_of
-text_short file b = go (scan_of file).answer refl
+text_short file b = go (scan_of file) refl
   where
-    go : (a : Scan) → (scan_of file).answer ≡ a → length (answer_text a (scan_of file).lengths) ≤ 421
-    go (Scan.Refused n) e = (let l : length (refused_line n) ≤ 14 = refused-short n in omega arith)
-    go (Scan.Table h) e =
-        let w = label-short file b h e in
-        table-short (scan_of file).lengths (sizes-short file b h e) h w.0 w.1 (held file h e).last
+    go : (a : Result Table Refusal) → scan_of file ≡ a → length (answer_text a) ≤ 421
+    go (Err r) e = (let l : length (refused_line (number r)) ≤ 14 = refused-short (number r) in omega arith)
+    go (Ok table) e =
+        let w = label-short file b table e in
+        table-short table.lengths (sizes-short file b table e) table.header w.0 w.1 (held file table e).last
 
 pub always_listed : (file out : List ℕ) → AlwaysListed file out
 unfolding list_of

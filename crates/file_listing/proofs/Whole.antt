@@ -12,15 +12,16 @@ use lib.ListN.{length, take, drop}
 use lib.Seq.{length-take-le, take-length}
 use borrow.Author.Tests.{lt-ltb, le-ltb}
 use Rattle.base.specs.Below.{every}
-use Rattle.section.specs.declared.Header.{Header}
 use Rattle.file.specs.Scan.{scan_of, found_at}
-use Rattle.file.specs.declared.Scan.{Scan}
-use Rattle.file.specs.declared.Scanned.{Scanned}
+use Rattle.file.specs.declared.Table.{Table}
+use Rattle.refusal.specs.Refusal.{number}
+use Rattle.std.specs.Prelude.{Ok, Err}
+use Rattle.refusal.specs.declared.Refusal.{Refusal}
+use Rattle.refusal.specs.declared.Refusal.TheVariants.{OutputTooSmall}
 use Rattle.file.proofs.Held.{held}
 use Rattle.file_listing.specs.Words.{lines}
 use Rattle.file_listing.specs.Growing.{shown, empty, Grew}
 use Rattle.file_listing.specs.Listing.{complete_line, refused_line, missing_of, end_of, table_text, text_of, listing, list_of}
-use Rattle.file_listing.specs.declared.Listed.{Listed}
 use Rattle.file_listing.specs.declared.Text.{Text}
 
 wider : {s : List ℕ} {m k : ℕ} {t r : Text} → m ≤ k → Grew s m t r → Grew s k t r
@@ -35,17 +36,17 @@ module _ (last : ℕ) (lengths : List ℕ) (t r : Text) where
   unfolding end_of
   lacking e g = rw e g
 
-module _ (file : List ℕ) (scanned : Scanned) (e : scanned ≡ scan_of file) (t r : Text) (b : t ≡ empty) where
-  pub refused-text : (n : ℕ) → scanned.answer ≡ Scan.Refused n → Grew (refused_line n) 14 t r → Grew (text_of file) 718 empty r
+module _ (file : List ℕ) (t r : Text) (b : t ≡ empty) where
+  pub refused-text : (refusal : Refusal) → Err refusal ≡ scan_of file → {n : ℕ} → n ≡ number refusal → Grew (refused_line n) 14 t r → Grew (text_of file) 718 empty r
   unfolding text_of
-  refused-text n a g = rw (← e, a, ← b) (wider (omega arith) g)
+  refused-text refusal e q g = rw (← e, ← q, ← b) (wider (omega arith) g)
 
-  pub table-text : (h : Header) → scanned.answer ≡ Scan.Table h → Grew (table_text h scanned.lengths) 718 t r → Grew (text_of file) 718 empty r
+  pub table-text : (table : Table) → Ok table ≡ scan_of file → Grew (table_text table.header table.lengths) 718 t r → Grew (text_of file) 718 empty r
   unfolding text_of
-  table-text h a g = rw (← e, a, ← b) g
+  table-text table e g = rw (← e, ← b) g
 
-pub table-last : (file : List ℕ) (scanned : Scanned) → scanned ≡ scan_of file → (h : Header) → scanned.answer ≡ Scan.Table h → h.last ≤ 15
-table-last file scanned e h a = (held file h (ap (λ s. s.answer) (sym e) ∙ a)).last
+pub table-last : (file : List ℕ) (table : Table) → Ok table ≡ scan_of file → table.header.last ≤ 15
+table-last file table e = (held file table (sym e)).last
 
 module _ (file out : List ℕ) (t : Text) (long : length t.bytes ≡ 718) (g : Grew (text_of file) 718 empty t) where
   text-size : length (text_of file) ≡ t.size
@@ -53,7 +54,7 @@ module _ (file out : List ℕ) (t : Text) (long : length t.bytes ≡ 718) (g : G
       let w : t.size ≤ 718 = g.within in
       ap length (sym g.shows) ∙ length-take-le t.size t.bytes (omega arith)
 
-  pub too_small : length out < t.size → listing (Listed.Refused 15) out ≡ list_of file out
+  pub too_small : length out < t.size → listing (Err OutputTooSmall) out ≡ list_of file out
   unfolding list_of
   too_small l = rw (text-size, lt-ltb (length out) t.size l)
 
@@ -61,7 +62,7 @@ module _ (file out : List ℕ) (t : Text) (long : length t.bytes ≡ 718) (g : G
   shown-size = ap length g.shows ∙ text-size
 
   pub fits : t.size ≤ length out → (after : List ℕ) → after ≡ take (length (shown t)) (shown t) ++ drop (length (shown t)) out
-      → listing (Listed.Bytes t.size) after ≡ list_of file out
+      → listing (Ok t.size) after ≡ list_of file out
   unfolding list_of
   fits l after e =
       let back : after ≡ text_of file ++ drop t.size out

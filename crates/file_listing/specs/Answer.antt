@@ -1,22 +1,18 @@
 -- The number and the values of the answer to listing a file, in the number that crosses the boundary, and what is so of it.
-use Rattle.std.specs.Prelude.{ℕ, ◌≤◌, ◌≡◌, List, ◌++◌, length, drop}
+use Rattle.std.specs.Prelude.{ℕ, ◌≤◌, ◌≡◌, List, ◌++◌, length, drop, Result, Ok, Err}
 use Rattle.base.specs.Octets.{Octets}
-use Rattle.answers.specs.Answers.{Out, out, size_code, size_or, Fills}
+use Rattle.answers.specs.Answers.{Out, out, sized, size_or, Fills}
 use Rattle.file_listing.specs.Listing.{text_of, Listing, listing, list_of}
-use Rattle.file_listing.specs.declared.Listed.{Listed}
+use Rattle.refusal.specs.Refusal.{refusal_of}
+use Rattle.refusal.specs.declared.Refusal.{Refusal}
 
--- how many bytes the text has: from bit 8 of the answer, or the refusal alone
-abbrev pub listed_code : Listed → ℕ
-listed_code (Listed.Bytes n) = size_code n
-listed_code (Listed.Refused n) = n
-
--- what a host takes out of it
-abbrev pub listed_in : ℕ → Listed
-listed_in = size_or Listed.Bytes Listed.Refused
+-- what a host takes out of how many bytes the text has
+abbrev pub listed_in : ℕ → Result ℕ Refusal
+listed_in = size_or Ok (λ n. Err (refusal_of n))
 
 -- what listing a file leaves
 abbrev pub list_out : Listing → Out
-list_out c = out (listed_code c.said) c.out
+list_out c = out (sized c.said) c.out
 
 unfoldable pub list_lent : List ℕ → List ℕ → Out
 list_lent file old = list_out (list_of file old)
@@ -40,7 +36,7 @@ module _ (file : List ℕ) where
     abbrev pub AlwaysListed : Type 0
     AlwaysListed =
         Octets file → largest_list ≤ length old
-        → list_of file old ≡ listing (Listed.Bytes (length (text_of file))) (text_of file ++ drop (length (text_of file)) old)
+        → list_of file old ≡ listing (Ok (length (text_of file))) (text_of file ++ drop (length (text_of file)) old)
 
     -- the text's size, or the refusal, comes back
     abbrev pub ListComesBack : Type 0

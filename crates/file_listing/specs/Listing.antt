@@ -1,14 +1,16 @@
 -- Document 01, "The lister": what is printed for a file. Document 02, request 4: the first line of an NRT-IT tells its whole key.
-use Rattle.std.specs.Prelude.{ℕ, ◌+◌, List, [], ◌∷◌, ◌++◌, ltb, eqb, length, get_or, drop, if◌then◌else◌}
+use Rattle.std.specs.Prelude.{ℕ, ◌+◌, List, [], ◌∷◌, ◌++◌, ltb, eqb, length, get_or, drop, if◌then◌else◌, Result, Ok, Err}
 use Rattle.base.specs.Choice.{◌if◌, first}
 use Rattle.base.specs.Below.{every}
 use Rattle.key.specs.Key.{nrt_it}
 use Rattle.key.specs.declared.Key.{Key}
 use Rattle.section.specs.declared.Header.{Header}
 use Rattle.file.specs.Scan.{scan_of, found_at}
-use Rattle.file.specs.declared.Scan.{Scan}
+use Rattle.file.specs.declared.Table.{Table}
+use Rattle.refusal.specs.Refusal.{number}
+use Rattle.refusal.specs.declared.Refusal.{Refusal}
+use Rattle.refusal.specs.declared.Refusal.TheVariants.{OutputTooSmall}
 use Rattle.file_listing.specs.Words.{ascii, field, long_decimal, newline, lines}
-use Rattle.file_listing.specs.declared.Listed.{Listed}
 
 -- what the line of an NRT-IT says after its extension: service 7 start 1000000800
 unfoldable pub added_words : Key → List ℕ
@@ -52,25 +54,25 @@ unfoldable pub table_text : Header → List ℕ → List ℕ
 table_text h lengths = head_line h ++ (lines (h.last + 1) (section_of lengths) ++ end_of h.last lengths)
 
 -- a bad file prints its refusal and no more
-abbrev pub answer_text : Scan → List ℕ → List ℕ
-answer_text (Scan.Refused n) lengths = refused_line n
-answer_text (Scan.Table h) lengths = table_text h lengths
+abbrev pub answer_text : Result Table Refusal → List ℕ
+answer_text (Ok table) = table_text table.header table.lengths
+answer_text (Err r) = refused_line (number r)
 
 -- the text for a file
 unfoldable pub text_of : List ℕ → List ℕ
-text_of file = answer_text (scan_of file).answer (scan_of file).lengths
+text_of file = answer_text (scan_of file)
 
 -- what listing leaves: the answer and the output
 pub record Listing : Type 0 where
-  pub said : Listed
+  pub said : Result ℕ Refusal
   pub out : List ℕ
 
-abbrev pub listing : Listed → List ℕ → Listing
+abbrev pub listing : Result ℕ Refusal → List ℕ → Listing
 listing said out = record { said = said; out = out }
 
 -- the text at the front of the output, whose bytes past it stay as they were; 15 where it does not fit
 unfoldable pub list_of : List ℕ → List ℕ → Listing
 list_of file out =
-    first (λ no. listing (Listed.Refused no) out)
-    (15 if ltb (length out) (length (text_of file)) ∷ [])
-    (listing (Listed.Bytes (length (text_of file))) (text_of file ++ drop (length (text_of file)) out))
+    first (λ r. listing (Err r) out)
+    (OutputTooSmall if ltb (length out) (length (text_of file)) ∷ [])
+    (listing (Ok (length (text_of file))) (text_of file ++ drop (length (text_of file)) out))

@@ -10,16 +10,9 @@ ghost use Rattle.base.specs.Below.{every};
 ghost use Rattle.answers.specs.Answers.{out as out_of};
 ghost use Rattle.file_listing.specs.Answer.{list_lent};
 
-use file::Scan;
 use key::Key;
+use refusal::Refusal;
 use section::Header;
-
-#[derive(Drop)]
-pub enum Listed {
-    // So many bytes now stand at the front of the output.
-    Bytes(usize),
-    Refused(u8),
-}
 
 const NEWLINE: u8 = 10;
 
@@ -274,13 +267,10 @@ fn all_held(last: u8, lengths: [u16; 16]) -> bool
 fn text_for(file: &[u8]) -> Text
     ensures { Grew (text_of file.now) 718 empty result }
 {
-    let scanned = file::read_file(file);
-    let answer = scanned.answer;
-    let lengths = scanned.lengths;
     let text = Text::empty();
-    match answer {
-        Scan::Refused(n) => text.refused_line(n),
-        Scan::Table(header) => text.table(header, lengths),
+    match file::read_file(file) {
+        Ok(table) => text.table(table.header, table.lengths),
+        Err(refusal) => text.refused_line(u8::from(refusal)),
     }
 }
 
@@ -293,26 +283,22 @@ fn copy(from: &[u8], to: &mut [u8])
 }
 
 // The listing of a file, at the front of the output; 15 where it does not fit.
-pub fn list_file(file: &[u8], out: &mut [u8]) -> Listed
+pub fn list_file(file: &[u8], out: &mut [u8]) -> Result<usize, Refusal>
     ensures { listing result out.new ≡ list_of file.now out.old }
 {
     let text = text_for(file);
     let bytes = text.bytes;
     let size = text.size;
     if out.len() < size {
-        return Listed::Refused(answers::OUTPUT_TOO_SMALL);
+        return Err(Refusal::OutputTooSmall);
     }
     copy(&bytes[..size], out);
-    Listed::Bytes(size)
+    Ok(size)
 }
 
 // Lists a file; the answer is 15, or a size from bit 8 up, as a host gets it.
 pub fn list_code(file: &[u8], out: &mut [u8]) -> u32
     ensures { out_of result out.new ≡ list_lent file.now out.old }
 {
-    let listed = list_file(file, out);
-    match listed {
-        Listed::Bytes(size) => answers::size_code(size),
-        Listed::Refused(n) => n as u32,
-    }
+    answers::sized(list_file(file, out))
 }

@@ -11,13 +11,13 @@ use Rattle.base.proofs.Tables.{words, given, number-first, silent}
 use Rattle.answers.proofs.Fills.{zero-exactly}
 use Rattle.writer.specs.declared.Label.{Label}
 use Rattle.writer_file.specs.Feeding.{feed_file, Feed, unfed, refuse, placed, feed_of}
-use Rattle.writer_file.specs.Answer.{fed_code}
+use Rattle.answers.specs.Answers.{sized}
 use Rattle.writer_file.specs.Theorems.{FedLargest, feed_table, FeedExactly, FeedNone, FeedAnswered}
 use Rattle.writer_file.proofs.Sizes.{file-size, file-small}
 
 -- the number of what a call leaves
 abbrev code : Feed → ℕ
-code f = fed_code f.said
+code f = sized f.said
 
 module _ (label : Label) (body : List ℕ) where
   pub fed_largest : FedLargest label body
@@ -30,13 +30,13 @@ module _ (label : Label) (body : List ℕ) where
     pub feed_exactly : FeedExactly label body out
     unfolding feed_of
     feed_exactly n p q =
-        given (refuse out) code (λ n. refl) (unfed label body out) (placed (feed_file label body) out) (feed_table label body out) decided refl n (λ e. omega arith)
+        given (refuse out) code (λ r. refl) (unfed label body out) (placed (feed_file label body) out) (feed_table label body out) decided refl n (λ e. omega arith)
 
     pub feed_none : FeedNone label body out
     unfolding feed_of
     feed_none =
-        rw (number-first (refuse out) code (λ n. refl) (unfed label body out) (placed (feed_file label body) out))
-        (zero-exactly (unfed label body out) (feed_table label body out) decided (search arith) (code (placed (feed_file label body) out)) (omega arith))
+        rw (number-first (refuse out) code (λ r. refl) (unfed label body out) (placed (feed_file label body) out))
+        (zero-exactly (unfed label body out) (feed_table label body out) decided (code (placed (feed_file label body) out)) (omega arith))
 
     pub feed_answered : FeedAnswered label body out
     unfolding feed_of

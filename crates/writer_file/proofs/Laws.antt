@@ -12,12 +12,12 @@ use lib.Seq.{take_all, drop-drop, take-append_seam, drop-append_seam}
 use borrow.Author.Tests.{le-ltb}
 use borrow.Rule.Slice.PartMut.{mid_of, put_mid}
 use Rattle.file_number.specs.Number.{spelt, Writing, writing, written_of}
-use Rattle.file_number.specs.declared.Written.{Written}
+use Rattle.std.specs.Prelude.{Result, Ok}
+use Rattle.refusal.specs.declared.Refusal.{Refusal}
 use Rattle.file.specs.Layout.{listed}
 use Rattle.key.specs.Key.{nrt_it}
 use Rattle.writer.specs.Writer.{longest_body, last_of, written, Write, write, placed, write_of}
 use Rattle.writer.specs.declared.Label.{Label}
-use Rattle.writer.specs.declared.Written as wrote
 use Rattle.writer.proofs.Laws.{write_done}
 
 module _ (done one old out back : List ℕ) (at : ℕ) (place : at ≡ length done) (room : length done + length one ≤ length old)
@@ -47,13 +47,13 @@ module _ (done one old out back : List ℕ) (at : ℕ) (place : at ≡ length do
       rw (first, none, append-nil, e, lent-rest, drop-drop, length-append, append_assoc)
 
 -- a number that fits
-module _ (n : ℕ) (rest back : List ℕ) (r : Written) (room : length (spelt n) ≤ length rest)
+module _ (n : ℕ) (rest back : List ℕ) (r : Result ℕ Refusal) (room : length (spelt n) ≤ length rest)
     (e : writing r back ≡ written_of n rest) where
-  put : writing r back ≡ writing (Written.Bytes (length (spelt n))) (spelt n ++ drop (length (spelt n)) rest)
+  put : writing r back ≡ writing (Ok (length (spelt n))) (spelt n ++ drop (length (spelt n)) rest)
   unfolding written_of
   put = e ∙ rw (le-ltb (length rest) (length (spelt n)) room)
 
-  pub spelt-count : r ≡ Written.Bytes (length (spelt n))
+  pub spelt-count : r ≡ Ok (length (spelt n))
   spelt-count = ap (λ (w : Writing). w.said) put
 
   pub spelt-at : back ≡ spelt n ++ drop (length (spelt n)) rest
@@ -61,13 +61,13 @@ module _ (n : ℕ) (rest back : List ℕ) (r : Written) (room : length (spelt n)
 
 -- a section that fits
 module _ (label : Label) (body : List ℕ) (k : ℕ) (other : ¬ (label.table ≡ nrt_it)) (fits : length body ≤ longest_body) (five : label.version ≤ 31)
-    (known : k ≤ last_of (length body)) (rest back : List ℕ) (r : wrote.Written) (room : length (written label body k) ≤ length rest)
+    (known : k ≤ last_of (length body)) (rest back : List ℕ) (r : Result ℕ Refusal) (room : length (written label body k) ≤ length rest)
     (e : write r back ≡ write_of label body k rest) where
   put-section : write r back ≡ placed (written label body k) rest
   put-section =
       e ∙ sym (write_done label body rest k (length (written label body k)) other fits five known refl room (written label body k) refl)
 
-  pub section-count : r ≡ wrote.Written.Bytes (length (written label body k))
+  pub section-count : r ≡ Ok (length (written label body k))
   section-count = ap (λ (w : Write). w.said) put-section
 
   pub section-at : back ≡ written label body k ++ drop (length (written label body k)) rest

@@ -17,8 +17,12 @@ use Rattle.key.specs.Key.{nrt_it}
 use Rattle.writer.specs.Writer.{longest_body}
 use Rattle.writer.specs.declared.Label.{Label}
 use Rattle.writer_file.specs.Feeding.{feed_file, Feed, feed, refuse, placed, feed_of}
-use Rattle.writer_file.specs.Answer.{fed_code, fed_in, feed_out, file_lent, FileComesBack, FileFills}
-use Rattle.writer_file.specs.declared.Fed.{Fed}
+use Rattle.writer_file.specs.Answer.{fed_in, feed_out, file_lent, FileComesBack, FileFills}
+use Rattle.std.specs.Prelude.{Result, Ok, Err}
+use Rattle.refusal.specs.Refusal.{refusal_of}
+use Rattle.answers.specs.Answers.{sized}
+use Rattle.refusal.specs.declared.Refusal.{Refusal}
+use Rattle.refusal.specs.declared.Refusal.TheVariants.{WriterVersionAbove31, OutputTooSmall}
 use Rattle.writer_file.proofs.ExactlyWhen.{fed_largest}
 
 module _ (label : Label) (body old : List ℕ) where
@@ -28,7 +32,7 @@ module _ (label : Label) (body old : List ℕ) where
 
   -- the rows that are looked at where the body is not too long
   abbrev after-40 : List Row
-  after-40 = 41 if ltb 31 label.version ∷ 15 if ltb (length old) (length (feed_file label body)) ∷ []
+  after-40 = WriterVersionAbove31 if ltb 31 label.version ∷ OutputTooSmall if ltb (length old) (length (feed_file label body)) ∷ []
 
   pub file_comes_back : FileComesBack label body old
   unfolding file_lent feed_of
@@ -39,9 +43,9 @@ module _ (label : Label) (body old : List ℕ) where
       (by (ltb longest_body (length body)) (λ t. rw t)
       (λ f.
       rw f
-      (among (refuse old) (λ (w : Feed). fed_in (fed_code w.said) ≡ w.said) after-40 (placed (feed_file label body) old)
+      (among (refuse old) (λ (w : Feed). fed_in (sized w.said) ≡ w.said) after-40 (placed (feed_file label body) old)
       (refl, (refl, tt))
-      (size_back Fed.Bytes Fed.Refused (length (feed_file label body)) (small (ltb-false _ _ f)))))))
+      (size_back Ok (λ n. Err (refusal_of n)) (length (feed_file label body)) (small (ltb-false _ _ f)))))))
 
   pub file_fills : FileFills label body old
   unfolding file_lent feed_of
@@ -53,9 +57,9 @@ module _ (label : Label) (body old : List ℕ) where
       (λ f.
       rw f
       (rw (through feed_out (refuse old) after-40 (placed (feed_file label body) old))
-      (fills (feed_file label body) old after-40 (search arith) (small (ltb-false _ _ f)))))))
+      (fills (feed_file label body) old after-40 (small (ltb-false _ _ f)))))))
 
-pub feed-told : (label : Label) (body o o' : List ℕ) (r : Fed) (code : ℕ)
-    → feed r o' ≡ feed_of label body o → code ≡ fed_code r → out code o' ≡ file_lent label body o
+pub feed-told : (label : Label) (body o o' : List ℕ) (r : Result ℕ Refusal) (code : ℕ)
+    → feed r o' ≡ feed_of label body o → code ≡ sized r → out code o' ≡ file_lent label body o
 unfolding file_lent
 feed-told label body o o' r code e q = ap (λ n. out n o') q ∙ ap feed_out e

@@ -1,22 +1,18 @@
 -- The number and the values of the answer to feeding a body, in the number that crosses the boundary, and what is so of it.
-use Rattle.std.specs.Prelude.{ℕ, ◌≡◌, List}
-use Rattle.answers.specs.Answers.{Out, out, size_code, size_or, Fills}
+use Rattle.std.specs.Prelude.{ℕ, ◌≡◌, List, Result, Ok, Err}
+use Rattle.refusal.specs.Refusal.{refusal_of}
+use Rattle.refusal.specs.declared.Refusal.{Refusal}
+use Rattle.answers.specs.Answers.{Out, out, sized, size_or, Fills}
 use Rattle.writer.specs.declared.Label.{Label}
 use Rattle.writer_file.specs.Feeding.{feed_file, Feed, feed_of}
-use Rattle.writer_file.specs.declared.Fed.{Fed}
 
--- how many bytes the file has: from bit 8 of the answer, or the refusal alone
-abbrev pub fed_code : Fed → ℕ
-fed_code (Fed.Bytes n) = size_code n
-fed_code (Fed.Refused n) = n
-
--- what a host takes out of it
-abbrev pub fed_in : ℕ → Fed
-fed_in = size_or Fed.Bytes Fed.Refused
+-- what a host takes out of how many bytes the file has
+abbrev pub fed_in : ℕ → Result ℕ Refusal
+fed_in = size_or Ok (λ n. Err (refusal_of n))
 
 -- what asking for the file of the table that carries a body leaves
 abbrev pub feed_out : Feed → Out
-feed_out f = out (fed_code f.said) f.out
+feed_out f = out (sized f.said) f.out
 
 unfoldable pub file_lent : Label → List ℕ → List ℕ → Out
 file_lent label body old = feed_out (feed_of label body old)

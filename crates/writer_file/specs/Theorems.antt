@@ -1,14 +1,13 @@
 -- What is proved of feeding, in words: each is a theorem of `proofs/` by the same name in small letters.
-use Rattle.std.specs.Prelude.{ℕ, ◌^◌, ◌<◌, ◌≤◌, ◌≡◌, List, [], ◌∷◌, ◌↔◌, length}
+use Rattle.std.specs.Prelude.{ℕ, ◌^◌, ◌<◌, ◌≤◌, ◌≡◌, List, [], ◌∷◌, ◌↔◌, length, Result}
 use Rattle.base.specs.Tables.{Rule, ◌says◌, None, above, said}
-use Rattle.answers.specs.Answers.{refusal_in}
+use Rattle.answers.specs.Answers.{refusal_in, sized}
 use Rattle.file.specs.Layout.{largest_file}
 use Rattle.key.specs.Key.{nrt_it}
 use Rattle.writer.specs.Writer.{longest_body}
 use Rattle.writer.specs.declared.Label.{Label}
 use Rattle.writer_file.specs.Feeding.{feed_file, feed, placed, feed_of}
-use Rattle.writer_file.specs.Answer.{fed_code}
-use Rattle.writer_file.specs.declared.Fed.{Fed}
+use Rattle.refusal.specs.declared.Refusal.{Refusal}
 
 module _ (label : Label) (body : List ℕ) where
   -- the file has at most 16,418 bytes
@@ -29,11 +28,11 @@ module _ (label : Label) (body : List ℕ) where
     abbrev pub FeedExactly : Type 0
     FeedExactly =
         (n : ℕ) → 0 < n → n < 2 ^ 8
-        → (fed_code (feed_of label body out).said ≡ n) ↔ (None (above n feed_table) × Rattle.base.specs.Tables.said n feed_table)
+        → (sized (feed_of label body out).said ≡ n) ↔ (None (above n feed_table) × Rattle.base.specs.Tables.said n feed_table)
 
     -- none is given exactly when none is so
     abbrev pub FeedNone : Type 0
-    FeedNone = (refusal_in (fed_code (feed_of label body out).said) ≡ 0) ↔ None feed_table
+    FeedNone = (refusal_in (sized (feed_of label body out).said) ≡ 0) ↔ None feed_table
 
     -- and then the file stands at the front of the output, and what lies past it is as it was
     abbrev pub FeedAnswered : Type 0
@@ -42,5 +41,5 @@ module _ (label : Label) (body : List ℕ) where
     -- two answers, with the outputs that they leave, are equal
     abbrev pub FeedUnique : Type 0
     FeedUnique =
-        (x y : Fed) (out' out'' : List ℕ)
+        (x y : Result ℕ Refusal) (out' out'' : List ℕ)
         → feed x out' ≡ feed_of label body out → feed y out'' ≡ feed_of label body out → feed x out' ≡ feed y out''

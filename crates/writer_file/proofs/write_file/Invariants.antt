@@ -1,16 +1,11 @@
 -- `writer_file::write_file` meets its promise: after each turn the front of the file stands, up to one section more.
 use mathlib.Core.Path.{◌≡◌}
-use Prim.Native.Nat.{◌-◌, ◌≤◌}
 use mathlib.Core.List.{◌++◌}
 use lib.ListN.{length, drop}
 use Rattle.writer_file.specs.Sizes.{front_of}
 use Rattle.writer_file.proofs.write_file.Given as goal
 
 abbrev pub invariant-loop-k : goal.invariant-loop-k
-invariant-loop-k l = (l.k ≤ l.count)
-    × (length l.out ≡ length l.initial.out)
+invariant-loop-k l = (length l.out ≡ length l.initial.out)
     × (l.at ≡ length (front_of l.label l.body l.count l.k))
     × (l.out ≡ front_of l.label l.body l.count l.k ++ drop (length (front_of l.label l.body l.count l.k)) l.initial.out)
-
-abbrev pub decreases-loop-k : goal.decreases-loop-k
-decreases-loop-k l = l.count - l.k

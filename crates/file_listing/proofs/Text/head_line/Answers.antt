@@ -5,7 +5,7 @@ use Rattle.file_listing.proofs.Text.head_line.Goals as goal
 
 pub returns : goal.returns
 unfolding head_line
-returns c = let table = rw c.half.ensures.0 at c.field-table.ensures in
-    let version = rw c.half-2.ensures.0 at c.field-version.ensures in
-    let last = rw c.half-3.ensures.0 at c.field-last.ensures in
+returns c = let table = rw c.from.ensures at c.field-table.ensures in
+    let version = rw c.from-2.ensures at c.field-version.ensures in
+    let last = rw c.from-3.ensures at c.field-last.ensures in
     then table (then c.field-extension.ensures (then c.added_words-added.ensures (then version (then last c.byte.ensures))))

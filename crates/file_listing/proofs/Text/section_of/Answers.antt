@@ -6,4 +6,4 @@ pub returns-then-length-eq0 : goal.returns-then-length-eq0
 returns-then-length-eq0 c = no-section _ _ _ c.if-length-eq0.true
 
 pub returns : goal.returns
-returns c = a-section _ _ _ _ _ c.if-length-eq0.false c.half.ensures.0 c.section_line.ensures
+returns c = a-section _ _ _ _ _ c.if-length-eq0.false c.from.ensures c.section_line.ensures
