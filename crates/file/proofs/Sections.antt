@@ -1,5 +1,7 @@
 -- The scan of the sections, for each turn of its loop.
---   over, done           no section is left to read
+--   ended                what the end of the loop makes of what was seen: a refusal, bytes left over, or the table
+--   past, within         by whether bytes are left over
+--   none                 no section is left to read
 --   faulty, other, fallen   the next section is refused
 --   next                 the next section is taken
 use mathlib.Core.Path.{◌≡◌, ap, ◌∙◌}
@@ -9,27 +11,34 @@ use Prim.Native.Nat.{ℕ, suc, ◌-◌, ◌<◌, ◌≤◌}
 use native.Mathlib.Omega.{arith}
 use lib.ListN.{length}
 use borrow.Author.Tests.{lt-ltb, le-ltb}
-use Rattle.std.specs.Prelude.{Option, Ok, Err}
+use Rattle.std.specs.Prelude.{Option, Result, Ok, Err, ltb, if◌then◌else◌}
 use Rattle.refusal.specs.declared.Refusal.{Refusal}
 use Rattle.refusal.specs.declared.Refusal.TheVariants.{BadFile}
 use Rattle.section.specs.declared.Header.{Header}
 use Rattle.file.specs.Layout.{same_table}
 use Rattle.file.specs.Scan.{Seen, accepted, first_of, added, section_at, sections_of}
 use Rattle.file.specs.declared.Part.{Part}
+use Rattle.file.specs.declared.Table.{Table}
 
 -- what was seen, by its parts
 abbrev pub seen_as : Option Header → ℕ → ℕ → List ℕ → List ℕ → Seen
 seen_as first lowest next starts lengths = record { first = first; lowest = lowest; next = next; starts = starts; lengths = lengths }
 
-module _ (file : List ℕ) (seen : Seen) (left : ℕ) where
-  module _ (none : left ≡ 0) where
-    pub over : seen.next < length file → sections_of left file seen ≡ Err BadFile
-    unfolding sections_of
-    over l = rw (none, lt-ltb seen.next (length file) l)
+abbrev pub ended : List ℕ → Seen → Result ℕ Refusal → Result Table Refusal
+ended file seen (Ok at) = if ltb at (length file) then Err BadFile else accepted seen
+ended file seen (Err r) = Err r
 
-    pub done : length file ≤ seen.next → sections_of left file seen ≡ accepted seen
-    unfolding sections_of
-    done l = rw (none, le-ltb seen.next (length file) l)
+module _ (file : List ℕ) (seen : Seen) (at : ℕ) where
+  pub past : at < length file → ended file seen (Ok at) ≡ Err BadFile
+  past l = rw (lt-ltb at (length file) l)
+
+  pub within : length file ≤ at → ended file seen (Ok at) ≡ accepted seen
+  within l = rw (le-ltb at (length file) l)
+
+module _ (file : List ℕ) (seen : Seen) (left : ℕ) where
+  pub none : left ≡ 0 → sections_of left file seen ≡ ended file seen (Ok seen.next)
+  unfolding sections_of
+  none z = rw z
 
   module _ (some : left ≡ 0 → ⊥) where
     one_more : left ≡ suc (left - 1)

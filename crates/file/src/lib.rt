@@ -77,7 +77,8 @@ fn same_table(a: Header, b: Header) -> bool
     a.key == b.key && a.version == b.version && a.last == b.last
 }
 
-// The first fault of the sections from a place on, or the table that they are, where nothing stands after them.
+// The first fault of the sections from a place on, or the table that they are, where nothing stands after them. The loop is left by
+// `break` with the refusal or the end's place, the form that document 01 names for it.
 fn scan_sections(file: &[u8], count: usize, from: usize) -> Result<Table, Refusal>
     ensures { result ≡ sections_of count file.now (nothingAt from) }
 {
@@ -87,15 +88,22 @@ fn scan_sections(file: &[u8], count: usize, from: usize) -> Result<Table, Refusa
     let mut next = from;
     let mut starts = [0usize; section::SECTIONS];
     let mut lengths = [0u16; section::SECTIONS];
-    for read in 0..count {
-        let part = section_at(file, next)?;
+    let mut left = count;
+    let end = loop {
+        if left == 0 {
+            break Ok(next);
+        }
+        let part = match section_at(file, next) {
+            Ok(part) => part,
+            Err(refusal) => break Err(refusal),
+        };
         let header = part.header;
         let shared = first.unwrap_or(header);
         if !same_table(shared, header) {
-            return Err(Refusal::BadFile);
+            break Err(Refusal::BadFile);
         }
         if header.number < lowest {
-            return Err(Refusal::BadFile);
+            break Err(Refusal::BadFile);
         }
         let number = usize::from(header.number);
         starts[number] = part.start;
@@ -103,8 +111,10 @@ fn scan_sections(file: &[u8], count: usize, from: usize) -> Result<Table, Refusa
         first = Some(shared);
         lowest = header.number + 1;
         next = part.start + usize::from(part.length);
-    }
-    if next < file.len() {
+        left -= 1;
+    };
+    let at = end?;
+    if at < file.len() {
         return Err(Refusal::BadFile);
     }
     match first {
