@@ -100,7 +100,7 @@ returns-then-at-file c =
       | else-left-eq0+in-Ok+then-not-same_table w ↦ at_other file seen c.loop-left.left c.if-left-eq0.end whole c.loop-left.invariant.2 w.if-left-eq0.false w.end-is w.in-Ok.part (sym w.section_at.ensures ∙ w.in-Ok.is) (told_same _ _ _ _ false w.unwrap_or-shared.ensures w.same_table.ensures w.if-not-same_table.true)
       | else-left-eq0+in-Ok+else-not-same_table+then-header-lowest w ↦ at_fallen file seen c.loop-left.left c.if-left-eq0.end whole c.loop-left.invariant.2 w.if-left-eq0.false w.end-is w.in-Ok.part (sym w.section_at.ensures ∙ w.in-Ok.is) (told_same _ _ _ _ true w.unwrap_or-shared.ensures w.same_table.ensures w.if-not-same_table.false) w.if-header-lowest.true
     ] in
-    let q : Ok c.in_ok-at.field-0 ≡ c.if-left-eq0.end = search rules in
+    let q : Ok c.in_ok-at.at ≡ c.if-left-eq0.end = search rules in
     sym (past file seen _ c.if-at-file.true) ∙ (ap (ended file seen) q ∙ all)
 
 pub returns-in-Some : goal.returns-in-Some
@@ -114,7 +114,7 @@ returns-in-Some c =
       | else-left-eq0+in-Ok+then-not-same_table w ↦ at_other file seen c.loop-left.left c.if-left-eq0.end whole c.loop-left.invariant.2 w.if-left-eq0.false w.end-is w.in-Ok.part (sym w.section_at.ensures ∙ w.in-Ok.is) (told_same _ _ _ _ false w.unwrap_or-shared.ensures w.same_table.ensures w.if-not-same_table.true)
       | else-left-eq0+in-Ok+else-not-same_table+then-header-lowest w ↦ at_fallen file seen c.loop-left.left c.if-left-eq0.end whole c.loop-left.invariant.2 w.if-left-eq0.false w.end-is w.in-Ok.part (sym w.section_at.ensures ∙ w.in-Ok.is) (told_same _ _ _ _ true w.unwrap_or-shared.ensures w.same_table.ensures w.if-not-same_table.false) w.if-header-lowest.true
     ] in
-    let q : Ok c.in_ok-at.field-0 ≡ c.if-left-eq0.end = search rules in
+    let q : Ok c.in_ok-at.at ≡ c.if-left-eq0.end = search rules in
     ap (table_of c.loop-left.starts c.loop-left.lengths) (sym c.in-Some.is) ∙ (sym (within file seen _ c.if-at-file.false) ∙ (ap (ended file seen) q ∙ all))
 
 pub returns-in-None : goal.returns-in-None
@@ -128,5 +128,5 @@ returns-in-None c =
       | else-left-eq0+in-Ok+then-not-same_table w ↦ at_other file seen c.loop-left.left c.if-left-eq0.end whole c.loop-left.invariant.2 w.if-left-eq0.false w.end-is w.in-Ok.part (sym w.section_at.ensures ∙ w.in-Ok.is) (told_same _ _ _ _ false w.unwrap_or-shared.ensures w.same_table.ensures w.if-not-same_table.true)
       | else-left-eq0+in-Ok+else-not-same_table+then-header-lowest w ↦ at_fallen file seen c.loop-left.left c.if-left-eq0.end whole c.loop-left.invariant.2 w.if-left-eq0.false w.end-is w.in-Ok.part (sym w.section_at.ensures ∙ w.in-Ok.is) (told_same _ _ _ _ true w.unwrap_or-shared.ensures w.same_table.ensures w.if-not-same_table.false) w.if-header-lowest.true
     ] in
-    let q : Ok c.in_ok-at.field-0 ≡ c.if-left-eq0.end = search rules in
+    let q : Ok c.in_ok-at.at ≡ c.if-left-eq0.end = search rules in
     ap (table_of c.loop-left.starts c.loop-left.lengths) (sym c.in-None.is) ∙ (sym (within file seen _ c.if-at-file.false) ∙ (ap (ended file seen) q ∙ all))
