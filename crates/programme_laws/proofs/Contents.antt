@@ -14,13 +14,12 @@ use Rattle.base.specs.Bytes.{byte, part}
 use Rattle.base.specs.Octets.{Octets}
 use Rattle.base.proofs.Bytes.{length_part, octets-part}
 use Rattle.programme.specs.Field.{number}
+use Rattle.std.specs.Prelude.{Ok, Some}
 use Rattle.programme.specs.Table.{content_linkage, flags, playback_length_included, playback_delay_included, expiration_included, content_size_included}
 use Rattle.programme.specs.Table.{playback_length_at, playback_delay_at, expiration_at, content_size_at}
 use Rattle.programme.specs.Table.{content_name_length_at, content_name_length, content_name_at, num_content_descriptors_at, num_content_descriptors, content_descriptors_at}
 use Rattle.programme.specs.Run.{run_of}
 use Rattle.programme.specs.Reading.{item_run, item_at}
-use Rattle.programme.specs.declared.Run.{Run}
-use Rattle.programme.specs.declared.Step.{Step}
 use Rattle.programme.proofs.Items.{item_to, item-reads}
 use Rattle.programme_laws.specs.Layout.{digits, Descriptor, loop_bytes, included, optional_bytes, Content, flags_of, front_bytes, name_bytes, content_then, content_bytes, FitContent}
 use Rattle.programme_laws.specs.Layout.{name_in, item_in}
@@ -227,11 +226,11 @@ module _ (c : Content) (h : FitContent c) {s : List ℕ} {at : ℕ} (r : List �
         linkage-says,
       )
 
-  pub item-written : 17 ≤ at → item_at s at ≡ Step.Item (item_in at c)
+  pub item-written : 17 ≤ at → item_at s at ≡ Ok (Some (item_in at c))
   item-written l =
-      let run : item_run s at ≡ Run.Ends (content_descriptors_at s at + length (loop_bytes c.descriptors))
+      let run : item_run s at ≡ Some (content_descriptors_at s at + length (loop_bytes c.descriptors))
       = ap (λ n. run_of n s (content_descriptors_at s at)) count-says ∙ run-written c.descriptors r at-loop in
-      sym (item-reads s at l at-loop.within _ run) ∙ ap Step.Item is-item
+      sym (item-reads s at l at-loop.within _ run) ∙ ap (λ i. Ok (Some i)) is-item
 
   pub item-behind : From s (at + length (content_bytes c)) r
   item-behind = rw (← end-place) at-end
@@ -262,7 +261,7 @@ pub record Found (s : List ℕ) (at end : ℕ) : Type 0 where
   pub fits : FitContent content
   pub bytes : drop at s ≡ content_then content (drop end s)
 
-module _ (s : List ℕ) (b : Octets s) (at : ℕ) (within : content_descriptors_at s at ≤ length s) (end : ℕ) (run : item_run s at ≡ Run.Ends end) where
+module _ (s : List ℕ) (b : Octets s) (at : ℕ) (within : content_descriptors_at s at ≤ length s) (end : ℕ) (run : item_run s at ≡ Some end) where
   abbrev x : ℕ
   x = flags s at
 

@@ -12,10 +12,12 @@ use lib.ListN.{length, drop, length-drop, length-append}
 use lib.Seq.{drop_at}
 use borrow.Author.Tests.{ltb-true, ltb-false}
 use Rattle.base.proofs.Cases.{by}
+use Rattle.std.specs.Prelude.{Ok, Err, Some, None}
+use Rattle.refusal.specs.Refusal.{number}
+use Rattle.refusal.specs.declared.Refusal.{Refusal}
 use Rattle.answers.specs.Answers.{Out, out}
-use Rattle.programme.specs.Reading.{step_of}
+use Rattle.programme.specs.Reading.{Step, step_of}
 use Rattle.programme.specs.declared.Item.{Item}
-use Rattle.programme.specs.declared.Step.{Step}
 use Rattle.programme_items.specs.Items.{items_from, all_numbers, place_after, item_back, numbers_of, Walked}
 use Rattle.programme_items.specs.declared.Passed.{Passed}
 use Rattle.programme_items.proofs.Handed.{walk_refused, walk-over, walk-short, walk-there}
@@ -38,14 +40,14 @@ all_back (suc n) s at k rest = go (λ to. all_back n s to (k + 1)) (step_of s at
   where
     go : ((to : ℕ) (rest : List ℕ) → items_from n s to (k + 1) ≡ items_back (length (items_from n s to (k + 1))) (all_numbers (items_from n s to (k + 1)) ++ rest))
         → (x : Step) → step_of s at k ≡ x → items_from (suc n) s at k ≡ items_back (length (items_from (suc n) s at k)) (all_numbers (items_from (suc n) s at k) ++ rest)
-    go ih (Step.Item i) q =
+    go ih (Ok (Some i)) q =
         let b : item_back (numbers_of i ++ all_numbers (items_from n s i.next (k + 1)) ++ rest) ≡ i
         = back s at i (sym (bounds.step-there s at k i q).there) (all_numbers (items_from n s i.next (k + 1)) ++ rest) in
         rw (bounds.from_next s at k n i q)
         (ap (λ x. x ∷ items_from n s i.next (k + 1)) (sym b)
         ∙ ap (λ is. item_back (numbers_of i ++ all_numbers (items_from n s i.next (k + 1)) ++ rest) ∷ is) (ih i.next rest))
-    go ih Step.Over q = rw (bounds.from-over s at k (suc n) q)
-    go ih (Step.Refused m) q = rw (bounds.from-refused s at k (suc n) q)
+    go ih (Ok None) q = rw (bounds.from-over s at k (suc n) q)
+    go ih (Err m) q = rw (bounds.from-refused s at k (suc n) q)
 
 -- what a number has in its bits
 parts : (c n : ℕ) → c < 65536 → ((256 + c * 65536 + n * 4294967296) % 65536 ≡ 256) × (((256 + c * 65536 + n * 4294967296) / 65536 % 65536 ≡ c) × ((256 + c * 65536 + n * 4294967296) / 4294967296 ≡ n))
@@ -61,17 +63,17 @@ module _ (s fields : List ℕ) (at k : ℕ) where
 
   -- what is so of each way out is so of the call
   each : (q : Out → Type 0)
-      → ((n : ℕ) → step_of s at k ≡ Step.Refused n → Number n → q (out n fields))
-      → (step_of s at k ≡ Step.Over → q (out 512 fields))
-      → ((i : Item) → step_of s at k ≡ Step.Item i → length fields < 10 → q (out 15 fields))
-      → ((i : Item) → step_of s at k ≡ Step.Item i → 10 ≤ length fields → q (out (passed_code passed) put))
+      → ((n : Refusal) → step_of s at k ≡ Err n → Number (number n) → q (out (number n) fields))
+      → (step_of s at k ≡ Ok None → q (out 512 fields))
+      → ((i : Item) → step_of s at k ≡ Ok (Some i) → length fields < 10 → q (out 15 fields))
+      → ((i : Item) → step_of s at k ≡ Ok (Some i) → 10 ≤ length fields → q (out (passed_code passed) put))
       → q (items_lent s at k fields)
   each q a o b c = go (step_of s at k) refl
     where
       go : (r : Step) → step_of s at k ≡ r → q (items_lent s at k fields)
-      go (Step.Refused n) e = subst q (lent s at k fields (walk_refused s at k fields e) refl) (a n e (numbered (when.step_range s at k n e)))
-      go Step.Over e = subst q (lent s at k fields (walk-over s at k fields e) refl) (o e)
-      go (Step.Item i) e =
+      go (Err n) e = subst q (lent s at k fields (walk_refused s at k fields e) refl) (a n e (numbered (when.step_range s at k n e)))
+      go (Ok None) e = subst q (lent s at k fields (walk-over s at k fields e) refl) (o e)
+      go (Ok (Some i)) e =
           by (ltb (length fields) 10)
           (λ t. let h : length fields < 10 = ltb-true _ _ t in subst q (lent s at k fields (walk-short s at k fields i e h) refl) (b i e h))
           (λ f. let h : 10 ≤ length fields = ltb-false _ _ f in subst q (lent s at k fields (walk-there s at k fields i e h) refl) (c i e h))
@@ -79,7 +81,7 @@ module _ (s fields : List ℕ) (at k : ℕ) where
   code_is : {o : Out} → o ≡ items_lent s at k fields → (items_lent s at k fields).code ≡ o.code
   code_is e = ap (λ (o : Out). o.code) (sym e)
 
-  module _ (i : Item) (e : step_of s at k ≡ Step.Item i) where
+  module _ (i : Item) (e : step_of s at k ≡ Ok (Some i)) where
     few : length (items_from (length fields / 10) s at k) < 65536
     few = let h : length (items_from (length fields / 10) s at k) ≤ 125 = (bounds.reaches (length fields / 10) s at k i e).few in omega arith
 
@@ -95,18 +97,18 @@ module _ (s fields : List ℕ) (at k : ℕ) where
 
   pub items_refused : ItemsRefused s fields at k
   items_refused n l f = (
-    each (λ o. o.code ≡ n → step_of s at k ≡ Step.Refused n)
-        (λ m e h q. e ∙ ap Step.Refused q)
+    each (λ o. o.code ≡ n → (r : Refusal) × ((number r ≡ n) × (step_of s at k ≡ Err r)))
+        (λ m e h q. (m, (q, e)))
         (λ e q. absurd (omega arith))
         (λ i e h q. absurd (f (sym q)))
         (λ i e h q. absurd (let g = large i e in omega (arith, g, q))),
-    λ e. code_is (lent s at k fields (walk_refused s at k fields e) refl),
+    λ w. code_is (lent s at k fields (walk_refused s at k fields w.1.1) refl) ∙ w.1.0,
   )
 
   pub items_handed : ItemsHanded s fields at k
   items_handed = (
-    each (λ o. o.code % 2 ^ 16 ≡ items_kind → ((i : Item) × (step_of s at k ≡ Step.Item i)) × (10 ≤ length fields))
-        (λ n e h z. absurd (let l : n < 256 = h.high in omega arith))
+    each (λ o. o.code % 2 ^ 16 ≡ items_kind → ((i : Item) × (step_of s at k ≡ Ok (Some i))) × (10 ≤ length fields))
+        (λ n e h z. absurd (let l : number n < 256 = h.high in omega arith))
         (λ e z. absurd (omega arith))
         (λ i e h z. absurd (omega arith))
         (λ i e h z. ((i, e), h)),
@@ -115,7 +117,7 @@ module _ (s fields : List ℕ) (at k : ℕ) where
 
   pub items_15 : Items15 s fields at k
   items_15 = (
-    each (λ o. o.code ≡ 15 → ((i : Item) × (step_of s at k ≡ Step.Item i)) × (length fields < 10))
+    each (λ o. o.code ≡ 15 → ((i : Item) × (step_of s at k ≡ Ok (Some i))) × (length fields < 10))
         (λ n e h z. absurd (h.other z))
         (λ e z. absurd (omega arith))
         (λ i e h z. ((i, e), h))
@@ -125,8 +127,8 @@ module _ (s fields : List ℕ) (at k : ℕ) where
 
   pub items_over : ItemsOver s fields at k
   items_over = (
-    each (λ o. o.code ≡ over_kind → step_of s at k ≡ Step.Over)
-        (λ n e h z. absurd (let l : n < 256 = h.high in omega arith))
+    each (λ o. o.code ≡ over_kind → step_of s at k ≡ Ok None)
+        (λ n e h z. absurd (let l : number n < 256 = h.high in omega arith))
         (λ e z. e)
         (λ i e h z. absurd (omega arith))
         (λ i e h z. absurd (let g = kind-is i e in let y : passed_code passed % 2 ^ 16 ≡ 512 = ap (λ n. n % 2 ^ 16) z in omega (arith, g, y))),
@@ -139,7 +141,7 @@ module _ (s fields : List ℕ) (at k : ℕ) where
       (λ o. o.code % 2 ^ 16 ≡ items_kind
       → (items_from (length fields / 10) s at k ≡ items_back (o.code / 2 ^ 16 % 2 ^ 16) o.out)
       × (place_after at (items_from (length fields / 10) s at k) ≡ o.code / 2 ^ 32))
-      (λ n e h z. absurd (let l : n < 256 = h.high in omega arith))
+      (λ n e h z. absurd (let l : number n < 256 = h.high in omega arith))
       (λ e z. absurd (omega arith))
       (λ i e h z. absurd (omega arith))
       (λ i e h z.
@@ -151,7 +153,7 @@ module _ (s fields : List ℕ) (at k : ℕ) where
       each
       (λ o. o.code % 2 ^ 16 ≡ items_kind
       → (drop (10 * (o.code / 2 ^ 16 % 2 ^ 16)) o.out ≡ drop (10 * (o.code / 2 ^ 16 % 2 ^ 16)) fields) × (length o.out ≡ length fields))
-      (λ n e h z. absurd (let l : n < 256 = h.high in omega arith))
+      (λ n e h z. absurd (let l : number n < 256 = h.high in omega arith))
       (λ e z. absurd (omega arith))
       (λ i e h z. absurd (omega arith))
       (λ i e h z.
@@ -164,7 +166,7 @@ module _ (s fields : List ℕ) (at k : ℕ) where
   pub items_on : ItemsOn s fields at k
   items_on =
       each (λ o. o.code % 2 ^ 16 ≡ items_kind → (1 ≤ o.code / 2 ^ 16 % 2 ^ 16) × (at + 8 * (o.code / 2 ^ 16 % 2 ^ 16) ≤ o.code / 2 ^ 32))
-      (λ n e h z. absurd (let l : n < 256 = h.high in omega arith))
+      (λ n e h z. absurd (let l : number n < 256 = h.high in omega arith))
       (λ e z. absurd (omega arith))
       (λ i e h z. absurd (omega arith))
       (λ i e h z.
@@ -188,11 +190,11 @@ items_go_on (suc n) s at k m = go (λ to. items_go_on n s to (k + 1) m) (step_of
     go : ((to : ℕ) → items_from (n + m) s to (k + 1) ≡ items_from n s to (k + 1) ++ items_from m s (place_after to (items_from n s to (k + 1))) (k + 1 + length (items_from n s to (k + 1))))
         → (x : Step) → step_of s at k ≡ x
         → items_from (suc n + m) s at k ≡ items_from (suc n) s at k ++ items_from m s (place_after at (items_from (suc n) s at k)) (k + length (items_from (suc n) s at k))
-    go ih (Step.Item i) q =
+    go ih (Ok (Some i)) q =
         let z : k + suc (length (items_from n s i.next (k + 1))) ≡ k + 1 + length (items_from n s i.next (k + 1)) = omega arith in
         rw (more, bounds.from_next s at k (n + m) i q, bounds.from_next s at k n i q, z) (ap (λ is. i ∷ is) (ih i.next))
-    go ih Step.Over q = rw (bounds.from-over s at k (suc n + m) q, bounds.from-over s at k (suc n) q, same) (sym (bounds.from-over s at k m q))
-    go ih (Step.Refused x) q = rw (bounds.from-refused s at k (suc n + m) q, bounds.from-refused s at k (suc n) q, same) (sym (bounds.from-refused s at k m q))
+    go ih (Ok None) q = rw (bounds.from-over s at k (suc n + m) q, bounds.from-over s at k (suc n) q, same) (sym (bounds.from-over s at k m q))
+    go ih (Err x) q = rw (bounds.from-refused s at k (suc n + m) q, bounds.from-refused s at k (suc n) q, same) (sym (bounds.from-refused s at k m q))
 
 -- the items handed out are those of the walk, and the place after them is where it comes to
 pub handed_walk : (n : ℕ) (s : List ℕ) (at k : ℕ) → HandedWalk n s at k
@@ -201,9 +203,9 @@ handed_walk zero s at k = rw (bounds.from-none s at k) (refl, refl)
 handed_walk (suc n) s at k = go (λ to. handed_walk n s to (k + 1)) (step_of s at k) refl
   where
     go : ((to : ℕ) → HandedWalk n s to (k + 1)) → (x : Step) → step_of s at k ≡ x → HandedWalk (suc n) s at k
-    go ih (Step.Item i) q = let h = ih i.next in rw (bounds.from_next s at k n i q, q) (ap (λ is. i ∷ is) h.0, h.1)
-    go ih Step.Over q = rw (bounds.from-over s at k (suc n) q, q) (refl, refl)
-    go ih (Step.Refused m) q = rw (bounds.from-refused s at k (suc n) q, q) (refl, refl)
+    go ih (Ok (Some i)) q = let h = ih i.next in rw (bounds.from_next s at k n i q, q) (ap (λ is. i ∷ is) h.0, h.1)
+    go ih (Ok None) q = rw (bounds.from-over s at k (suc n) q, q) (refl, refl)
+    go ih (Err m) q = rw (bounds.from-refused s at k (suc n) q, q) (refl, refl)
 
 pub one_walk : (s : List ℕ) (at k : ℕ) (fields : List ℕ) → OneWalk s at k fields
 one_walk s at k fields x y f g p q = (ap (λ (w : Walked). w.walk) (p ∙ sym q), ap (λ (w : Walked). w.fields) (p ∙ sym q))
@@ -217,20 +219,20 @@ items_longest (suc n) s at k l i e = go (λ to. items_longest n s to (k + 1)) (s
     zero_more = omega arith
 
     go : ((to : ℕ) → ItemsLongest n s to (k + 1)) → (x : Step) → step_of s at k ≡ x → length (items_from (suc n) s at k) < suc n
-        → step_of s (place_after at (items_from (suc n) s at k)) (k + length (items_from (suc n) s at k)) ≡ Step.Item i → ⊥
-    go ih (Step.Item j) q l e =
+        → step_of s (place_after at (items_from (suc n) s at k)) (k + length (items_from (suc n) s at k)) ≡ Ok (Some i) → ⊥
+    go ih (Ok (Some j)) q l e =
         let f = bounds.from_next s at k n j q in
         let m : length (items_from n s j.next (k + 1)) < n = (let h = rw f at l in omega (arith, h)) in
         let z : k + suc (length (items_from n s j.next (k + 1))) ≡ k + 1 + length (items_from n s j.next (k + 1)) = omega arith in
         let h = rw f at e in ih j.next m i (rw z at h)
-    go ih Step.Over q l e =
+    go ih (Ok None) q l e =
         let h = rw (bounds.from-over s at k (suc n) q) at e in
-        let g : step_of s at k ≡ Step.Item i = rw zero_more at h in
-        let x : Step.Over ≡ Step.Item i = sym q ∙ g in let y : ◌≡◌ {A = ℕ} 0 1 = cc in omega arith
-    go ih (Step.Refused m) q l e =
+        let g : step_of s at k ≡ Ok (Some i) = rw zero_more at h in
+        let x : Ok None ≡ Ok (Some i) = sym q ∙ g in let y : ◌≡◌ {A = ℕ} 0 1 = cc in omega arith
+    go ih (Err m) q l e =
         let h = rw (bounds.from-refused s at k (suc n) q) at e in
-        let g : step_of s at k ≡ Step.Item i = rw zero_more at h in
-        let x : Step.Refused m ≡ Step.Item i = sym q ∙ g in let y : ◌≡◌ {A = ℕ} 0 1 = cc in omega arith
+        let g : step_of s at k ≡ Ok (Some i) = rw zero_more at h in
+        let x : Err m ≡ Ok (Some i) = sym q ∙ g in let y : ◌≡◌ {A = ℕ} 0 1 = cc in omega arith
 
 pub items_few : (n : ℕ) (s : List ℕ) (at k : ℕ) → ItemsFew n s at k
 items_few n s at k = bounds.items_few n s at k

@@ -15,12 +15,11 @@ use lib.ListN.{take-append-drop}
 use Rattle.base.specs.Bytes.{byte, part}
 use Rattle.base.specs.Octets.{Octets}
 use Rattle.base.proofs.Bytes.{length_part, octets-part}
-use Rattle.descriptors.specs.declared.Step.{Step}
-use Rattle.descriptors.specs.Loop.{step_of, descriptor_at}
+use Rattle.std.specs.Prelude.{Ok, Err, Some, None}
+use Rattle.descriptors.specs.Loop.{Step, step_of, descriptor_at}
 use Rattle.descriptors.specs.Walk.{walk, walk_of}
 use Rattle.descriptors.proofs.Steps.{step_over, step-reads, reads-there}
 use Rattle.programme.specs.Run.{run_of, behind}
-use Rattle.programme.specs.declared.Run.{Run}
 use Rattle.programme.proofs.Runs.{never_ends}
 use Rattle.programme_laws.specs.Walk.{Counted}
 use Rattle.programme_laws.specs.Layout.{Descriptor, loop_bytes, FitLoop}
@@ -31,7 +30,7 @@ abbrev laid : Descriptor → List ℕ → List ℕ
 laid d r = d.tag ∷ length d.content ∷ (d.content ++ r)
 
 module _ {s : List ℕ} {at : ℕ} (d : Descriptor) (r : List ℕ) (f : From s at (laid d r)) where
-  pub step-written : step_of s at ≡ Step.Descriptor (record { tag = d.tag; start = at + 2; length = length d.content; next = at + 2 + length d.content })
+  pub step-written : step_of s at ≡ Ok (Some (record { tag = d.tag; start = at + 2; length = length d.content; next = at + 2 + length d.content }))
   step-written =
       let tag : byte s at ≡ d.tag = first_byte d.tag (length d.content ∷ (d.content ++ r)) f in
       let size : byte s (at + 1) ≡ length d.content = byte_of f 1 in
@@ -54,13 +53,13 @@ unfolding loop_bytes
 loop-long d ds = simp length-append (omega arith)
 
 pub run-written : (ds : List Descriptor) {s : List ℕ} {at : ℕ} (r : List ℕ) → From s at (loop_bytes ds ++ r)
-    → run_of (length ds) s at ≡ Run.Ends (at + length (loop_bytes ds))
+    → run_of (length ds) s at ≡ Some (at + length (loop_bytes ds))
 unfolding run_of
 run-written [] {s} {at} r f = let e : at + length (loop_bytes []) ≡ at = rw loop-nil (omega arith) in rw e
 run-written (d ∷ ds) {s} {at} r f =
     let g : From s at (laid d (loop_bytes ds ++ r)) = rw (loop-more d ds r) at f in
     let e : at + 2 + length d.content + length (loop_bytes ds) ≡ at + length (loop_bytes (d ∷ ds)) = omega (arith, loop-long d ds) in
-    rw (step-written d (loop_bytes ds ++ r) g) (run-written ds r (step-behind d (loop_bytes ds ++ r) g) ∙ ap Run.Ends e)
+    rw (step-written d (loop_bytes ds ++ r) g) (run-written ds r (step-behind d (loop_bytes ds ++ r) g) ∙ ap Some e)
 
 -- the descriptors of a run that ends
 pub record Written (n : ℕ) (s : List ℕ) (at end : ℕ) : Type 0 where
@@ -69,18 +68,18 @@ pub record Written (n : ℕ) (s : List ℕ) (at end : ℕ) : Type 0 where
   pub fits : FitLoop loop
   pub bytes : drop at s ≡ loop_bytes loop ++ drop end s
 
-ends : (a b : ℕ) → Run.Ends a ≡ Run.Ends b → a ≡ b
+ends : (a b : ℕ) → Some a ≡ Some b → a ≡ b
 ends a b e = cc
 
-pub run-reads : (n : ℕ) (s : List ℕ) → Octets s → (at end : ℕ) → run_of n s at ≡ Run.Ends end → Written n s at end
+pub run-reads : (n : ℕ) (s : List ℕ) → Octets s → (at end : ℕ) → run_of n s at ≡ Some end → Written n s at end
 unfolding run_of
 run-reads zero s b at end e =
     record { loop = []; many = refl; fits = tt; bytes = rw (loop-nil, ends at end e) }
 run-reads (suc n) s b at end e = go (λ to. run-reads n s b to end) (step_of s at) refl e
   where
-    go : ((to : ℕ) → run_of n s to ≡ Run.Ends end → Written n s to end)
-        → (x : Step) → step_of s at ≡ x → behind x (run_of n s) ≡ Run.Ends end → Written (suc n) s at end
-    go ih (Step.Descriptor d) q r =
+    go : ((to : ℕ) → run_of n s to ≡ Some end → Written n s to end)
+        → (x : Step) → step_of s at ≡ x → behind x (run_of n s) ≡ Some end → Written (suc n) s at end
+    go ih (Ok (Some d)) q r =
         let h = reads-there s at d q in
         let here : d ≡ descriptor_at s at = h.here in
         let fits : at + 2 + byte s (at + 1) ≤ length s = h.ends in
@@ -102,8 +101,8 @@ run-reads (suc n) s b at end e = go (λ to. run-reads n s b to end) (step_of s a
               ∙ ap (λ l. byte s at ∷ l) (second ∙ ap (λ l. byte s (at + 1) ∷ l) (content ∙ ap (λ l. part s (at + 2) (byte s (at + 1)) ++ l) rest.bytes))
               ∙ sym (loop-more one rest.loop (drop end s) ∙ rw sized);
         }
-    go ih Step.Over q r = never_ends end r
-    go ih (Step.Refused m) q r = never_ends end r
+    go ih (Ok None) q r = never_ends end r
+    go ih (Err m) q r = never_ends end r
 
 -- half as many descriptors as bytes, at most
 loop-few : (ds : List Descriptor) → 2 * length ds ≤ length (loop_bytes ds)

@@ -7,10 +7,10 @@ use native.Mathlib.Omega.{arith}
 use lib.ListN.{length, take, drop, length-take, length-drop, take-append-drop}
 use lib.Seq.{take-append_seam}
 use Rattle.base.specs.Bytes.{part}
+use Rattle.std.specs.Prelude.{Ok, Some}
 use Rattle.programme.specs.Table.{content_descriptors_at}
 use Rattle.programme.specs.Reading.{programme_of, item_at, step_of}
 use Rattle.programme.specs.declared.Item.{Item}
-use Rattle.programme.specs.declared.Step.{Step}
 use Rattle.programme.proofs.Items as items
 use Rattle.programme_laws.specs.Layout.{content_then, content_bytes, item_in}
 use Rattle.programme_laws.specs.Theorems.{Stays}
@@ -32,7 +32,7 @@ stays s t b v w at k j i e same below =
     let there : step_of s at k ≡ item_at s at
     = sym (items.step-item s at k (programme_of s) (begun-reads s v) ((step_exactly s at k i).0 e).1) in
     let is : i ≡ item_in at c.content
-    = (let q : Step.Item i ≡ Step.Item (item_in at c.content) = sym e ∙ there ∙ item-written c.content c.fits _ here late in cc) in
+    = (let q : Ok (Some i) ≡ Ok (Some (item_in at c.content)) = sym e ∙ there ∙ item-written c.content c.fits _ here late in cc) in
     let n : ℕ = length (content_bytes c.content) in
     let size : i.next ≡ at + n = ap (λ (y : Item). y.next) is in
     let count : i.next - at ≡ n = omega arith in
@@ -53,4 +53,4 @@ stays s t b v w at k j i e same below =
     } in
     sym (items.step-item t at j (programme_of t) (begun-reads t w) below)
     ∙ item-written c.content c.fits _ stands late
-    ∙ ap Step.Item (sym is)
+    ∙ ap (λ i. Ok (Some i)) (sym is)

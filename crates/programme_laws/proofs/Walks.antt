@@ -16,15 +16,14 @@ use Rattle.base.specs.Bytes.{byte, part}
 use Rattle.base.specs.Octets.{Octets}
 use Rattle.base.proofs.Bytes.{part-add}
 use Rattle.base.proofs.Cases.{by}
+use Rattle.std.specs.Prelude.{Ok, Err, Some, None}
+use Rattle.refusal.specs.declared.Refusal.{Refusal}
 use Rattle.descriptors.specs.Walk as loops
 use Rattle.programme.specs.Table.{num_content_items, content_name_length, content_name_at, num_content_descriptors, num_content_descriptors_at, content_descriptors_at, num_descriptors}
 use Rattle.programme.specs.Run.{run_of}
-use Rattle.programme.specs.Reading.{read_of, step_of}
-use Rattle.programme.specs.declared.Run.{Run}
+use Rattle.programme.specs.Reading.{Reading, Step, read_of, step_of}
 use Rattle.programme.specs.declared.Programme.{Programme}
-use Rattle.programme.specs.declared.Reading.{Reading}
 use Rattle.programme.specs.declared.Item.{Item}
-use Rattle.programme.specs.declared.Step.{Step}
 use Rattle.programme.proofs.Items as items
 use Rattle.programme.proofs.Readings.{listed}
 use Rattle.programme.proofs.Runs.{run_lies}
@@ -45,42 +44,42 @@ part-one : (s : List ℕ) (p : ℕ) → p < length s → part s p 1 ≡ byte s p
 part-one s p l = rw (one s p l)
 
 -- where a step is an item, that stands there
-pub step-stands : (s : List ℕ) (at k : ℕ) (i : Item) → step_of s at k ≡ Step.Item i → Stands s at i
+pub step-stands : (s : List ℕ) (at k : ℕ) (i : Item) → step_of s at k ≡ Ok (Some i) → Stands s at i
 step-stands s at k i e = go (read_of s) refl
   where
-    not_refused : {n : ℕ} → Step.Refused n ≡ Step.Item i → Stands s at i
+    not_refused : {n : Refusal} → Err n ≡ Ok (Some i) → Stands s at i
     not_refused q = absurd (let z : ◌≡◌ {A = ℕ} 0 1 = cc in omega arith)
 
-    not-over : Step.Over ≡ Step.Item i → Stands s at i
+    not-over : ◌≡◌ {A = Step} (Ok None) (Ok (Some i)) → Stands s at i
     not-over q = absurd (let z : ◌≡◌ {A = ℕ} 0 1 = cc in omega arith)
 
     go : (r : Reading) → read_of s ≡ r → Stands s at i
-    go (Reading.Refused n) q = not_refused (items.step-refused s at k n q ∙ e)
-    go (Reading.Programme p) q =
+    go (Err n) q = not_refused (items.step-refused s at k n q ∙ e)
+    go (Ok p) q =
         by (leb p.items k)
         (λ t. not-over (items.step_over s at k p q (leb-true _ _ t) ∙ e))
         (λ f. item-stands s at i (items.step-item s at k p q (leb-false _ _ f) ∙ e))
 
 -- and there is an item of that number
-step-counted : (s : List ℕ) (at k : ℕ) (i : Item) → step_of s at k ≡ Step.Item i → k < num_content_items s
+step-counted : (s : List ℕ) (at k : ℕ) (i : Item) → step_of s at k ≡ Ok (Some i) → k < num_content_items s
 step-counted s at k i e = go (read_of s) refl
   where
-    not_refused : {n : ℕ} → Step.Refused n ≡ Step.Item i → k < num_content_items s
+    not_refused : {n : Refusal} → Err n ≡ Ok (Some i) → k < num_content_items s
     not_refused q = absurd (let z : ◌≡◌ {A = ℕ} 0 1 = cc in omega arith)
 
-    not-over : Step.Over ≡ Step.Item i → k < num_content_items s
+    not-over : ◌≡◌ {A = Step} (Ok None) (Ok (Some i)) → k < num_content_items s
     not-over q = absurd (let z : ◌≡◌ {A = ℕ} 0 1 = cc in omega arith)
 
     go : (r : Reading) → read_of s ≡ r → k < num_content_items s
-    go (Reading.Refused n) q = not_refused (items.step-refused s at k n q ∙ e)
-    go (Reading.Programme p) q =
+    go (Err n) q = not_refused (items.step-refused s at k n q ∙ e)
+    go (Ok p) q =
         let many : p.items ≡ num_content_items s = ap (λ (x : Programme). x.items) (listed s p q).says in
         by (leb p.items k)
         (λ t. not-over (items.step_over s at k p q (leb-true _ _ t) ∙ e))
         (λ f. let l : k < p.items = leb-false _ _ f in omega arith)
 
 -- the bytes of a run are its descriptors'
-run-part : (n : ℕ) (s : List ℕ) → Octets s → (at end : ℕ) → at ≤ length s → run_of n s at ≡ Run.Ends end → Counted n (loops.walk_of (part s at (end - at)))
+run-part : (n : ℕ) (s : List ℕ) → Octets s → (at end : ℕ) → at ≤ length s → run_of n s at ≡ Some end → Counted n (loops.walk_of (part s at (end - at)))
 run-part n s b at end l q =
     let w = run-reads n s b at end q in
     let lies = run_lies n s at end l q in
@@ -152,7 +151,7 @@ module _ (s : List ℕ) where
       go : ((to : ℕ) → tiles s to (walk most s to (k + 1)) ++ drop (reached to (walk most s to (k + 1))) s ≡ drop to s)
           → (x : Step) → step_of s at k ≡ x
           → tiles s at (x ∷ onward x (λ to. walk most s to (k + 1))) ++ drop (reached at (x ∷ onward x (λ to. walk most s to (k + 1)))) s ≡ drop at s
-      go ih (Step.Item i) q =
+      go ih (Ok (Some i)) q =
           let w = step-stands s at k i q in
           let next : i.next ≡ w.end = ap (λ (x : Item). x.next) w.says in
           let low : content_descriptors_at s at ≤ w.end = w.low in
@@ -160,8 +159,8 @@ module _ (s : List ℕ) where
           append_assoc (part s at (i.next - at)) _ _
           ∙ ap (λ l. part s at (i.next - at) ++ l) (ih i.next ∙ ap (λ p. drop p s) (sym to))
           ∙ some s at (i.next - at)
-      go ih Step.Over q = refl
-      go ih (Step.Refused n) q = refl
+      go ih (Ok None) q = refl
+      go ih (Err n) q = refl
 
   pub items_tile : ItemsTile s
   items_tile = tile-from (num_content_items s + 1) 17 0
@@ -186,17 +185,17 @@ module _ (s : List ℕ) where
   settled-from zero j at k h = rw add-suc (ap (λ xs. step_of s at k ∷ xs) (go (step_of s at k) refl))
     where
       go : (x : Step) → step_of s at k ≡ x → onward x (λ to. walk (j + 0) s to (k + 1)) ≡ onward x (λ to. walk 0 s to (k + 1))
-      go (Step.Item i) q = absurd (let l : k < num_content_items s = step-counted s at k i q in omega arith)
-      go Step.Over q = refl
-      go (Step.Refused n) q = refl
+      go (Ok (Some i)) q = absurd (let l : k < num_content_items s = step-counted s at k i q in omega arith)
+      go (Ok None) q = refl
+      go (Err n) q = refl
   settled-from (suc left) j at k h =
       rw add-suc (ap (λ xs. step_of s at k ∷ xs) (go (λ to. settled-from left j to (k + 1) (omega arith)) (step_of s at k)))
     where
       go : ((to : ℕ) → walk (j + suc left) s to (k + 1) ≡ walk (suc left) s to (k + 1))
           → (x : Step) → onward x (λ to. walk (j + suc left) s to (k + 1)) ≡ onward x (λ to. walk (suc left) s to (k + 1))
-      go ih (Step.Item i) = ih i.next
-      go ih Step.Over = refl
-      go ih (Step.Refused n) = refl
+      go ih (Ok (Some i)) = ih i.next
+      go ih (Ok None) = refl
+      go ih (Err n) = refl
 
   pub settled : Settled s
   settled j = rw add-one (settled-from (num_content_items s) j 17 0 (omega arith))
@@ -208,15 +207,15 @@ module _ (s : List ℕ) where
     where
       go : ((to : ℕ) → 8 * length (walk most s to (k + 1)) ≤ (length s - to) + 8)
           → (x : Step) → step_of s at k ≡ x → 8 * length (x ∷ onward x (λ to. walk most s to (k + 1))) ≤ (length s - at) + 8
-      go ih (Step.Item i) q =
+      go ih (Ok (Some i)) q =
           let w = step-stands s at k i q in
           let next : i.next ≡ w.end = ap (λ (x : Item). x.next) w.says in
           let low : content_descriptors_at s at ≤ w.end = w.low in
           let high : w.end ≤ length s = w.high in
           let rest : 8 * length (walk most s i.next (k + 1)) ≤ (length s - i.next) + 8 = ih i.next in
           omega arith
-      go ih Step.Over q = omega arith
-      go ih (Step.Refused n) q = omega arith
+      go ih (Ok None) q = omega arith
+      go ih (Err n) q = omega arith
 
   pub short : Short s
   short = omega (arith, short-from (num_content_items s + 1) 17 0)

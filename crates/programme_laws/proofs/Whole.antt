@@ -5,7 +5,6 @@
 --   exactly, stays
 use mathlib.Core.Path.{◌≡◌, refl, sym, ap, ◌∙◌}
 use mathlib.Core.List.{List, [], ◌∷◌, ◌++◌, append-nil}
-use mathlib.Core.Logic.{◌⊎◌, inl, inr, ⊎_elim}
 use Prim.Native.Nat.{ℕ, zero, suc, ◌+◌, ◌-◌, ◌*◌, ◌/◌, ◌%◌, ◌^◌, ◌<◌, ◌≤◌}
 use native.Mathlib.Nat.{suc-add, div-add-mod'}
 use native.Mathlib.Omega.{arith}
@@ -13,21 +12,20 @@ use lib.ListN.{length, drop}
 use lib.Seq.{drop-length}
 use Rattle.base.specs.Bytes.{byte}
 use Rattle.base.specs.Octets.{Octets}
-use Rattle.section.specs.Theorems.{OwnNumber}
-use Rattle.section.proofs.ExactlyWhen.{own-bounds}
 use Rattle.section.proofs.Laws.{sound-facts}
+use Rattle.std.specs.Prelude.{Ok, Err, Some, None}
+use Rattle.refusal.specs.Refusal.{number as number_of_refusal}
+use Rattle.refusal.specs.declared.Refusal.{Refusal}
+use Rattle.refusal.specs.declared.Refusal.TheVariants.{ProgrammePassesEnd}
+use Rattle.refusal.proofs.Numbers.{in_byte}
 use Rattle.programme.specs.Field.{number}
 use Rattle.programme.specs.Table.{num_content_items, time_span_length, service_id, time_span_start, num_descriptors}
 use Rattle.programme.specs.Run.{run_of}
-use Rattle.programme.specs.Reading.{read_of, programme_of, item_of, item_at, own_at, step_of, own_of, own_run}
+use Rattle.programme.specs.Reading.{Reading, Step, Own, read_of, programme_of, item_of, item_at, own_at, step_of, own_of, own_run}
 use Rattle.programme.specs.Answer.{reading_told, own_told}
-use Rattle.programme.specs.declared.Run.{Run}
 use Rattle.programme.specs.declared.Programme.{Programme}
-use Rattle.programme.specs.declared.Reading.{Reading}
 use Rattle.programme.specs.declared.Loop.{Loop}
 use Rattle.programme.specs.declared.Item.{Item}
-use Rattle.programme.specs.declared.Step.{Step}
-use Rattle.programme.specs.declared.Own.{Own}
 use Rattle.programme.proofs.Numbers.{service-is, start_is}
 use Rattle.programme.proofs.Items as items
 use Rattle.programme.proofs.Readings.{Listed, listed}
@@ -40,21 +38,21 @@ use Rattle.programme_laws.proofs.From.{From, long, next, first_byte}
 use Rattle.programme_laws.proofs.Digits.{field-says, field-after, field-reads, number_fits}
 use Rattle.programme_laws.proofs.Loops.{run-written, run-reads}
 use Rattle.programme_laws.proofs.Contents.{item-written, item-behind, item-found}
-use Rattle.programme_laws.proofs.ExactlyWhen.{begun-reads, ItemWay, item-way, read_range, own_range}
+use Rattle.programme_laws.proofs.ExactlyWhen.{begun-reads, ItemWay, item-way}
 use Rattle.programme_laws.proofs.Walks.{one}
 
 -- the walk of items that stand from a place on
-module _ (s : List ℕ) (p : Programme) (e : read_of s ≡ Reading.Programme p) where
+module _ (s : List ℕ) (p : Programme) (e : read_of s ≡ Ok p) where
   walk-written : (cs : List Content) (at k : ℕ) (r : List ℕ) → From s at (contents_then cs r) → FitContents cs → 17 ≤ at → k + length cs ≡ p.items
       → walk (length cs + 1) s at k ≡ steps_in at cs
   unfolding walk contents_then
   walk-written [] at k r f h l n =
       rw (← items.step_over s at k p e (omega arith))
   walk-written (c ∷ cs) at k r f h l n =
-      let here : step_of s at k ≡ Step.Item (item_in at c)
+      let here : step_of s at k ≡ Ok (Some (item_in at c))
       = sym (items.step-item s at k p e (omega arith)) ∙ item-written c h.0 (contents_then cs r) f l in
       rw (suc-add, here)
-      (ap (λ xs. Step.Item (item_in at c) ∷ xs)
+      (ap (λ xs. Ok (Some (item_in at c)) ∷ xs)
       (walk-written cs (at + length (content_bytes c)) (k + 1) r (item-behind c h.0 (contents_then cs r) f) h.1 (omega arith) (omega arith)))
 
 pub all-behind : (cs : List Content) {s : List ℕ} (at : ℕ) (r : List ℕ) → From s at (contents_then cs r) → FitContents cs → 17 ≤ at
@@ -68,11 +66,11 @@ reached-all [] at = refl
 reached-all (c ∷ cs) at = reached-all cs (at + length (content_bytes c))
 
 -- the table's own loop that stands at a place, to the end
-own-written : (ds : List Descriptor) {s : List ℕ} {at : ℕ} → From s at (length ds ∷ loop_bytes ds) → 17 ≤ at → own_at s at ≡ Own.Loop (loop_in at ds)
+own-written : (ds : List Descriptor) {s : List ℕ} {at : ℕ} → From s at (length ds ∷ loop_bytes ds) → 17 ≤ at → own_at s at ≡ Ok (loop_in at ds)
 own-written ds {s} {at} f l =
     let count : byte s at ≡ length ds = first_byte _ _ f in
     let g : From s (at + 1) (loop_bytes ds ++ []) = rw (← append-nil (loop_bytes ds)) at (next _ _ f) in
-    let run : own_run s at ≡ Run.Ends (at + 1 + length (loop_bytes ds))
+    let run : own_run s at ≡ Some (at + 1 + length (loop_bytes ds))
     = ap (λ n. run_of n s (at + 1)) count ∙ run-written ds [] g in
     let size : length s ≡ at + 1 + length (loop_bytes ds) = (let a : length s ≡ at + suc (length (loop_bytes ds)) = long f in omega arith) in
     sym (items.own-reads s at l (omega arith) (at + 1 + length (loop_bytes ds)) run (omega arith))
@@ -132,7 +130,7 @@ module _ (s : List ℕ) (of : OfNrtIt s) (b : Body) (h : FitBody b) (d : drop 8 
 
   pub bytes_read : answers_to s ≡ answers_of b
   bytes_read =
-      let reads : read_of s ≡ Reading.Programme (programme_of s) = begun-reads s begins in
+      let reads : read_of s ≡ Ok (programme_of s) = begun-reads s begins in
       let many : num_content_items s ≡ length b.items = items-say b h from-header in
       let steps : walk_of s ≡ steps_in 17 b.items
       = ap (λ n. walk (n + 1) s 17 0) many
@@ -140,7 +138,7 @@ module _ (s : List ℕ) (of : OfNrtIt s) (b : Body) (h : FitBody b) (d : drop 8 
       let end : reached 17 (walk_of s) ≡ past_all 17 b.items = ap (reached 17) steps ∙ reached-all b.items 17 in
       let behind = all-behind b.items 17 _ (at_first b h from-header) h.items (omega arith) in
       same-answers
-      (reads ∙ ap Reading.Programme (says b h from-header))
+      (reads ∙ ap Ok (says b h from-header))
       steps
       (ap (own_of s) end
       ∙ sym (items.own-there s (past_all 17 b.items) (programme_of s) reads)
@@ -148,20 +146,20 @@ module _ (s : List ℕ) (of : OfNrtIt s) (b : Body) (h : FitBody b) (d : drop 8 
 
 -- an item is never over, and is refused 43 alone
 module _ (s : List ℕ) (at : ℕ) where
-  never-over : item_at s at ≡ Step.Over → ⊥
+  never-over : item_at s at ≡ Ok None → ⊥
   never-over e = go (item-way s at)
     where
       go : ItemWay s at → ⊥
-      go (ItemWay.passes p q) = let r : Step.Over ≡ Step.Refused 43 = sym e ∙ q in let z : ◌≡◌ {A = ℕ} 0 1 = cc in omega arith
-      go (ItemWay.reads p q) = let r : Step.Over ≡ Step.Item (item_of s at) = sym e ∙ q in let z : ◌≡◌ {A = ℕ} 0 1 = cc in omega arith
+      go (ItemWay.passes p q) = let r : Ok None ≡ Err ProgrammePassesEnd = sym e ∙ q in let z : ◌≡◌ {A = ℕ} 0 1 = cc in omega arith
+      go (ItemWay.reads p q) = let r : Ok None ≡ Ok (Some (item_of s at)) = sym e ∙ q in let z : ◌≡◌ {A = ℕ} 0 1 = cc in omega arith
 
-  refused-43 : (m : ℕ) → item_at s at ≡ Step.Refused m → m ≡ 43
+  refused-43 : (m : Refusal) → item_at s at ≡ Err m → m ≡ ProgrammePassesEnd
   refused-43 m e = go (item-way s at)
     where
-      go : ItemWay s at → m ≡ 43
-      go (ItemWay.passes p q) = let r : Step.Refused m ≡ Step.Refused 43 = sym e ∙ q in cc
+      go : ItemWay s at → m ≡ ProgrammePassesEnd
+      go (ItemWay.passes p q) = let r : Err m ≡ Err ProgrammePassesEnd = sym e ∙ q in cc
       go (ItemWay.reads p q) =
-          let r : Step.Refused m ≡ Step.Item (item_of s at) = sym e ∙ q in absurd (let z : ◌≡◌ {A = ℕ} 0 1 = cc in omega arith)
+          let r : Err m ≡ Ok (Some (item_of s at)) = sym e ∙ q in absurd (let z : ◌≡◌ {A = ℕ} 0 1 = cc in omega arith)
 
 -- the items of a walk that nothing refuses
 pub record Listing (s : List ℕ) (at to n : ℕ) : Type 0 where
@@ -170,7 +168,7 @@ pub record Listing (s : List ℕ) (at to n : ℕ) : Type 0 where
   pub fits : FitContents contents
   pub bytes : drop at s ≡ contents_then contents (drop to s)
 
-module _ (s : List ℕ) (b : Octets s) (p : Programme) (e : read_of s ≡ Reading.Programme p) where
+module _ (s : List ℕ) (b : Octets s) (p : Programme) (e : read_of s ≡ Ok p) where
   walk-found : (left at k : ℕ) → k + left ≡ p.items → Accepted (walk (suc left) s at k) → Listing s at (reached at (walk (suc left) s at k)) left
   unfolding walk contents_then
   walk-found zero at k n a =
@@ -183,7 +181,7 @@ module _ (s : List ℕ) (b : Octets s) (p : Programme) (e : read_of s ≡ Readin
       go : ((to : ℕ) → Accepted (walk (suc left) s to (k + 1)) → Listing s to (reached to (walk (suc left) s to (k + 1))) left)
           → (x : Step) → step_of s at k ≡ x → Accepted (x ∷ onward x (λ to. walk (suc left) s to (k + 1)))
           → Listing s at (reached at (x ∷ onward x (λ to. walk (suc left) s to (k + 1)))) (suc left)
-      go ih (Step.Item i) q a =
+      go ih (Ok (Some i)) q a =
           let w = item-stands s at i (there ∙ q) in
           let next : i.next ≡ w.end = ap (λ (x : Item). x.next) w.says in
           let c = item-found s b at w.fits w.end w.run in
@@ -194,8 +192,8 @@ module _ (s : List ℕ) (b : Octets s) (p : Programme) (e : read_of s ≡ Readin
             fits = (c.fits, rest.fits);
             bytes = c.bytes ∙ ap (content_then c.content) (ap (λ to. drop to s) (sym next) ∙ rest.bytes);
           }
-      go ih Step.Over q a = absurd (never-over s at (there ∙ q))
-      go ih (Step.Refused m) q a = absurd (let z : m ≡ 43 = refused-43 s at m (there ∙ q) in let y : m ≡ 0 = a.0 in omega arith)
+      go ih (Ok None) q a = absurd (never-over s at (there ∙ q))
+      go ih (Err m) q a = absurd (let z : number_of_refusal m ≡ 43 = ap number_of_refusal (refused-43 s at m (there ∙ q)) in let y : number_of_refusal m ≡ 0 = a.0 in omega arith)
 
 -- what is read as a list
 pub record Said (s : List ℕ) : Type 0 where
@@ -255,18 +253,18 @@ module _ (s : List ℕ) (b : Octets s) where
   pub read_bytes : Unrefused (answers_to s) → Said s
   read_bytes u = reads (read_of s) refl
     where
-      none : {n : ℕ} → n ≡ 0 → OwnNumber n ⊎ ((n ≡ 43) ⊎ ((n ≡ 44) ⊎ (n ≡ 45))) → Said s
-      none {n} z x = absurd (⊎_elim (λ y. omega (arith, (own-bounds n y).0)) (λ y. ⊎_elim (λ q. omega arith) (λ y. ⊎_elim (λ q. omega arith) (λ q. omega arith) y) y) x)
+      none : (n : Refusal) → ¬ (number_of_refusal n ≡ 0)
+      none n z = let l : 0 < number_of_refusal n = (in_byte n).0 in omega arith
 
       owns : (p : Programme) → Listed s p → (to : ℕ) → Listing s 17 to (num_content_items s) → (x : Own) → own_of s to ≡ x → (own_told x).number ≡ 0 → Said s
-      owns p r to l (Own.Loop o) q z = body-found p r to l o (own-ends s to o q)
-      owns p r to l (Own.Refused n) q z = none z (own_range s to n q)
+      owns p r to l (Ok o) q z = body-found p r to l o (own-ends s to o q)
+      owns p r to l (Err n) q z = absurd (none n z)
 
       reads : (r : Reading) → read_of s ≡ r → Said s
-      reads (Reading.Refused n) q =
-          let z : (reading_told (Reading.Refused n)).number ≡ 0 = rw q at u.reading in
-          none z (⊎_elim (λ y. inl y) (λ y. ⊎_elim (λ w. inr (inl w)) (λ w. inr (inr (inr w))) y) (read_range s n q))
-      reads (Reading.Programme p) q =
+      reads (Err n) q =
+          let z : (reading_told (Err n)).number ≡ 0 = rw q at u.reading in
+          absurd (none n z)
+      reads (Ok p) q =
           let r = listed s p q in
           let many : 0 + num_content_items s ≡ p.items = (let z : p.items ≡ num_content_items s = ap (λ (x : Programme). x.items) r.says in omega arith) in
           let l : Listing s 17 (reached 17 (walk_of s)) (num_content_items s)

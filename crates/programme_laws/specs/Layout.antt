@@ -1,14 +1,12 @@
 -- Source document 004, Table 6.5: the bytes of a section's body from what it says, in the table's order. Reserved bits are fields here, so
 -- that every body that is read is some list's; no answer shows them.
-use Rattle.std.specs.Prelude.{ℕ, zero, suc, ◌+◌, ◌*◌, ◌/◌, ◌%◌, ◌^◌, ◌<◌, List, [], ◌∷◌, ◌++◌, length}
+use Rattle.std.specs.Prelude.{ℕ, zero, suc, ◌+◌, ◌*◌, ◌/◌, ◌%◌, ◌^◌, ◌<◌, List, [], ◌∷◌, ◌++◌, length, Ok, Some, None}
 use Rattle.base.specs.Octets.{Octets}
 use Rattle.programme.specs.Table.{first_item_at}
 use Rattle.programme.specs.declared.Programme.{Programme}
-use Rattle.programme.specs.declared.Reading.{Reading}
 use Rattle.programme.specs.declared.Loop.{Loop}
 use Rattle.programme.specs.declared.Item.{Item}
-use Rattle.programme.specs.declared.Step.{Step}
-use Rattle.programme.specs.declared.Own.{Own}
+use Rattle.programme.specs.Reading.{Step}
 use Rattle.programme_laws.specs.Walk.{Answers}
 
 -- a number in n bytes, high byte first; and how many numbers n bytes have
@@ -192,8 +190,8 @@ item_in at c =
     }
 
 abbrev pub steps_in : ℕ → List Content → List Step
-steps_in at [] = Step.Over ∷ []
-steps_in at (c ∷ cs) = Step.Item (item_in at c) ∷ steps_in (at + length (content_bytes c)) cs
+steps_in at [] = Ok None ∷ []
+steps_in at (c ∷ cs) = Ok (Some (item_in at c)) ∷ steps_in (at + length (content_bytes c)) cs
 
 -- the place behind items
 abbrev pub past_all : ℕ → List Content → ℕ
@@ -206,7 +204,7 @@ programme_in b = record { service = b.service; start = b.start; minutes = b.minu
 abbrev pub answers_of : Body → Answers
 answers_of b =
     record {
-      reading = Reading.Programme (programme_in b);
+      reading = Ok (programme_in b);
       steps = steps_in first_item_at b.items;
-      own = Own.Loop (loop_in (past_all first_item_at b.items) b.descriptors);
+      own = Ok (loop_in (past_all first_item_at b.items) b.descriptors);
     }

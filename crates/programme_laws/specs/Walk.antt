@@ -1,20 +1,17 @@
 -- The walk of an NRT-IT section: its fields, item after item, and the table's own loop behind them, as a host asks for them.
-use Rattle.std.specs.Prelude.{ℕ, zero, suc, ◌+◌, ◌-◌, ◌≡◌, List, [], ◌∷◌, ◌++◌}
+use Rattle.std.specs.Prelude.{ℕ, zero, suc, ◌+◌, ◌-◌, ◌≡◌, List, [], ◌∷◌, ◌++◌, Ok, Err, Some, None}
 use Rattle.base.specs.Bytes.{part}
-use Rattle.descriptors.specs.declared.Step as loops
+use Rattle.descriptors.specs.Loop as loops
 use Rattle.programme.specs.Table.{first_item_at, num_content_items}
-use Rattle.programme.specs.Reading.{read_of, step_of, own_of}
+use Rattle.programme.specs.Reading.{Reading, Step, Own, read_of, step_of, own_of}
 use Rattle.programme.specs.Answer.{reading_told, step_told, own_told}
-use Rattle.programme.specs.declared.Reading.{Reading}
 use Rattle.programme.specs.declared.Item.{Item}
-use Rattle.programme.specs.declared.Step.{Step}
-use Rattle.programme.specs.declared.Own.{Own}
 
 -- a walk goes on behind an item, and behind nothing else
 abbrev pub onward : Step → (ℕ → List Step) → List Step
-onward (Step.Item i) go = go i.next
-onward Step.Over go = []
-onward (Step.Refused n) go = []
+onward (Ok (Some i)) go = go i.next
+onward (Ok None) go = []
+onward (Err r) go = []
 
 -- the answers of a walk from a place and an item's number, at most so many of them
 unfoldable pub walk : ℕ → List ℕ → ℕ → ℕ → List Step
@@ -28,16 +25,16 @@ walk_of s = walk (num_content_items s + 1) s first_item_at 0
 -- the place that a walk from a place comes to
 abbrev pub reached : ℕ → List Step → ℕ
 reached at [] = at
-reached at (Step.Item i ∷ xs) = reached i.next xs
-reached at (Step.Over ∷ xs) = at
-reached at (Step.Refused n ∷ xs) = at
+reached at (Ok (Some i) ∷ xs) = reached i.next xs
+reached at (Ok None ∷ xs) = at
+reached at (Err r ∷ xs) = at
 
 -- its items
 abbrev pub items_of : List Step → List Item
 items_of [] = []
-items_of (Step.Item i ∷ xs) = i ∷ items_of xs
-items_of (Step.Over ∷ xs) = items_of xs
-items_of (Step.Refused n ∷ xs) = items_of xs
+items_of (Ok (Some i) ∷ xs) = i ∷ items_of xs
+items_of (Ok None ∷ xs) = items_of xs
+items_of (Err r ∷ xs) = items_of xs
 
 -- what a host is answered about a section. The table's own loop is asked for where the walk came to, which is behind the last item where
 -- no step is refused
@@ -62,14 +59,14 @@ pub record Unrefused (a : Answers) : Type 0 where
 -- the bytes of each item of a walk from a place, joined in order
 abbrev pub tiles : List ℕ → ℕ → List Step → List ℕ
 tiles s at [] = []
-tiles s at (Step.Item i ∷ xs) = part s at (i.next - at) ++ tiles s i.next xs
-tiles s at (Step.Over ∷ xs) = []
-tiles s at (Step.Refused n ∷ xs) = []
+tiles s at (Ok (Some i) ∷ xs) = part s at (i.next - at) ++ tiles s i.next xs
+tiles s at (Ok None ∷ xs) = []
+tiles s at (Err r ∷ xs) = []
 
 -- the walk of a descriptor loop gives n descriptors, and then is over
 abbrev pub Counted : ℕ → List loops.Step → Type 0
-Counted zero xs = xs ≡ loops.Step.Over ∷ []
+Counted zero xs = xs ≡ Ok None ∷ []
 Counted (suc n) [] = ⊥
-Counted (suc n) (loops.Step.Descriptor d ∷ xs) = Counted n xs
-Counted (suc n) (loops.Step.Over ∷ xs) = ⊥
-Counted (suc n) (loops.Step.Refused m ∷ xs) = ⊥
+Counted (suc n) (Ok (Some d) ∷ xs) = Counted n xs
+Counted (suc n) (Ok None ∷ xs) = ⊥
+Counted (suc n) (Err m ∷ xs) = ⊥
