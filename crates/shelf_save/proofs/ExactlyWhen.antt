@@ -19,12 +19,13 @@ use Rattle.shelf.specs.Record.{place_of}
 use Rattle.key.specs.declared.Key.{Key}
 use Rattle.shelf.specs.Record.{Shelf}
 use Rattle.shelf_ask.specs.Ask.{unasked, holding_of}
-use Rattle.shelf_ask.specs.declared.Holding.{Holding}
+use Rattle.std.specs.Prelude.{Ok, Err}
+use Rattle.refusal.specs.Refusal.{number_of}
+use Rattle.refusal.specs.declared.Refusal.{Refusal}
 use Rattle.shelf.proofs.Words.{spoiled-exactly, not-held}
 use Rattle.shelf_ask.proofs.ExactlyWhen.{asked-table, asked-decided}
 use Rattle.file.specs.Layout.{largest_file}
-use Rattle.shelf_save.specs.Save.{Save, number_of, refuse, unsaved, written, saved_file, save_of}
-use Rattle.shelf_save.specs.declared.Saved.{Saved}
+use Rattle.shelf_save.specs.Save.{Save, refuse, unsaved, written, saved_file, save_of}
 use Rattle.shelf_save.proofs.Saving.{held-stands, file-in, file-most}
 
 -- the number of what a call leaves
@@ -36,10 +37,10 @@ module _ (shelf : Shelf) (store : List ℕ) (key : Key) where
   abbrev pub Asked : Type 0
   Asked = None (asked-table shelf store key)
 
-  held_in_lem : Asked → holding_of shelf (length store) key ≡ Holding.In (place_of shelf key)
+  held_in_lem : Asked → holding_of shelf (length store) key ≡ Ok (place_of shelf key)
   unfolding holding_of
   held_in_lem none =
-      silent Holding.Refused (unasked shelf store key) (Holding.In (place_of shelf key)) (asked-table shelf store key) (asked-decided shelf store key) none
+      silent Err (unasked shelf store key) (Ok (place_of shelf key)) (asked-table shelf store key) (asked-decided shelf store key) none
 
   pub saved-largest : Asked → length (saved_file shelf store key) ≤ largest_file
   saved-largest none =
@@ -74,9 +75,9 @@ module _ (shelf : Shelf) (store : List ℕ) (key : Key) where
     unfolding save_of
     save-answered w = silent (refuse out) rows (written (saved_file shelf store key) out) save-table decided w
 
-    pub save-untouched : (n : ℕ) → (save_of shelf store key out).said ≡ Saved.Refused n → (save_of shelf store key out).out ≡ out
+    pub save-untouched : (r : Refusal) → (save_of shelf store key out).said ≡ Err r → (save_of shelf store key out).out ≡ out
     unfolding save_of
-    save-untouched n e =
-        among (refuse out) (λ s. s.said ≡ Saved.Refused n → s.out ≡ out) rows (written (saved_file shelf store key) out)
+    save-untouched r e =
+        among (refuse out) (λ s. s.said ≡ Err r → s.out ≡ out) rows (written (saved_file shelf store key) out)
         (λ _. refl, (λ _. refl, (λ _. refl, (λ _. refl, tt))))
         (λ q. absurd (let z : ◌≡◌ {A = ℕ} 0 1 = cc in omega arith)) e

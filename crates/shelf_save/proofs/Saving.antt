@@ -20,14 +20,15 @@ use Rattle.shelf.specs.Record.{place_at}
 use Rattle.key.specs.declared.Key.{Key}
 use Rattle.shelf.specs.Record.{Shelf}
 use Rattle.shelf_ask.specs.Ask.{holding_of}
-use Rattle.shelf_ask.specs.declared.Holding.{Holding}
+use Rattle.std.specs.Prelude.{Ok, Err}
+use Rattle.refusal.specs.declared.Refusal.{Refusal}
+use Rattle.refusal.specs.declared.Refusal.TheVariants.{OutputTooSmall}
 use Rattle.shelf_ask.proofs.Held.{held, asked-refused, asked-held}
 use Rattle.file_number.specs.Number.{spelt}
 use Rattle.file_number.proofs.Bounds.{spelt-1-long, spelt-2-long}
 use Rattle.file.specs.Layout.{form, largest_file, listed, file_of}
 use Rattle.shelf_save.specs.Sizes.{size_of, count_of, size_below, count_below, Berthed}
 use Rattle.shelf_save.specs.Save.{Save, held_below, place_file, save, refuse, unsaved, written, place_saved, saved_file, save_of}
-use Rattle.shelf_save.specs.declared.Saved.{Saved}
 use Rattle.shelf_save.proofs.Listing.{Stands, Ready, small, held-count, listed-size}
 
 -- a place, with its count and its bytes as they were added up
@@ -60,7 +61,7 @@ module _ {lengths store : List ℕ} {p count bytes : ℕ} (z : Sized lengths sto
   pub file-size : length (place_file lengths store p) ≡ 2 + bytes
   file-size = ap length in_parts ∙ rw (length-append, front-size, body-size)
 
-  pub saved-15 : (out : List ℕ) → length out < 2 + bytes → save (Saved.Refused 15) out ≡ place_saved lengths store p out
+  pub saved-15 : (out : List ℕ) → length out < 2 + bytes → save (Err OutputTooSmall) out ≡ place_saved lengths store p out
   unfolding place_saved
   saved-15 out h = rw (file-size, lt-ltb (length out) (2 + bytes) h)
 
@@ -90,7 +91,7 @@ module _ {lengths store : List ℕ} {p count bytes : ℕ} (z : Sized lengths sto
               fits = omega (arith, late-length, form-size, count-size, z.sized);
             }
 
-        pub saved-done : {end : List ℕ} → end ≡ laid late from body → save (Saved.Bytes (2 + bytes)) end ≡ place_saved lengths store p out
+        pub saved-done : {end : List ℕ} → end ≡ laid late from body → save (Ok (2 + bytes)) end ≡ place_saved lengths store p out
         unfolding place_saved laid
         saved-done e =
             let front = spelt form ++ spelt count in
@@ -99,7 +100,7 @@ module _ {lengths store : List ℕ} {p count bytes : ℕ} (z : Sized lengths sto
             rw (late-front, s) (laid_beside out 0 front (omega arith) body (omega (arith, front-size))) ∙ ap (laid out 0) (sym in_parts) in
             let n : 0 + length (place_file lengths store p) ≡ length (place_file lengths store p) = zero-add _ in
             rw (← file-size, le-ltb (length out) (length (place_file lengths store p)) (rw file-size room))
-            (ap (save (Saved.Bytes (length (place_file lengths store p))))
+            (ap (save (Ok (length (place_file lengths store p))))
             (e ∙ all ∙ ap (λ k. place_file lengths store p ++ drop k out) n))
 
 -- a section takes at most 1,026 bytes of the file
@@ -127,7 +128,7 @@ file-most {lengths} {store} {p} s =
     rw (file-size z) (omega arith)
 
 module _ (shelf : Shelf) (store : List ℕ) (key : Key) where
-  module _ (p : ℕ) (e : holding_of shelf (length store) key ≡ Holding.In p) where
+  module _ (p : ℕ) (e : holding_of shelf (length store) key ≡ Ok p) where
     pub held-stands : Stands (place_at shelf p).lengths store p
     unfolding Berthed
     held-stands =
@@ -138,13 +139,13 @@ module _ (shelf : Shelf) (store : List ℕ) (key : Key) where
     file-in = ap (λ q. place_file (place_at shelf q).lengths store q) (held shelf (length store) key p e).at
 
   module _ (out : List ℕ) where
-    pub save-refused : (number : ℕ) → holding_of shelf (length store) key ≡ Holding.Refused number → save (Saved.Refused number) out ≡ save_of shelf store key out
+    pub save-refused : (r : Refusal) → holding_of shelf (length store) key ≡ Err r → save (Err r) out ≡ save_of shelf store key out
     unfolding save_of
-    save-refused number e =
+    save-refused r e =
         sym
-        (asked-refused (refuse out) (unsaved (saved_file shelf store key) out) (written (saved_file shelf store key) out) shelf (length store) key number e)
+        (asked-refused (refuse out) (unsaved (saved_file shelf store key) out) (written (saved_file shelf store key) out) shelf (length store) key r e)
 
-    pub save-held : (p : ℕ) (e : holding_of shelf (length store) key ≡ Holding.In p)
+    pub save-held : (p : ℕ) (e : holding_of shelf (length store) key ≡ Ok p)
         → place_saved (place_at shelf p).lengths store p out ≡ save_of shelf store key out
     unfolding save_of place_saved
     save-held p e =
@@ -153,6 +154,6 @@ module _ (shelf : Shelf) (store : List ℕ) (key : Key) where
         ∙ ap (λ file. first (refuse out) (unsaved file out) (written file out)) (file-in p e))
 
     -- by the lengths that were read
-    pub save-by : (p : ℕ) (e : holding_of shelf (length store) key ≡ Holding.In p) {x : Save} {lengths : List ℕ}
+    pub save-by : (p : ℕ) (e : holding_of shelf (length store) key ≡ Ok p) {x : Save} {lengths : List ℕ}
         → lengths ≡ (place_at shelf p).lengths → x ≡ place_saved lengths store p out → x ≡ save_of shelf store key out
     save-by p e q s = s ∙ ap (λ l. place_saved l store p out) q ∙ save-held p e

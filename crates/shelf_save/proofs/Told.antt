@@ -5,12 +5,13 @@ use Prim.Native.Nat.{ℕ}
 use Rattle.answers.specs.Answers.{out}
 use Rattle.key.specs.declared.Key.{Key}
 use Rattle.shelf.specs.Layout.{shelf_at}
-use Rattle.shelf_save.specs.declared.Saved.{Saved}
+use Rattle.std.specs.Prelude.{Result}
+use Rattle.refusal.specs.declared.Refusal.{Refusal}
 use Rattle.shelf_save.specs.Save.{save, save_of}
 use Rattle.shelf_save.specs.Answer.{saved_code, save_out, save_lent}
 
 pub told :
-    {said : Saved}
+    {said : Result ℕ Refusal}
     {code : ℕ}
     {left : List ℕ}
     (words store : List ℕ)

@@ -1,6 +1,6 @@
 -- What is written at a place of the output.
 --   lent-end                              the rest of an output, lent from a place on, comes back with bytes at its front
---   wrote_count, wrote-number, never-15   a number that fits
+--   wrote_ok, wrote_count, wrote-number   a number that fits
 --   laid-nothing                          nothing laid changes nothing
 --   held_none, held-end, held-written     a section after its length, where there is room (`Room`)
 use mathlib.Core.Path.{◌≡◌, sym, ap, ◌∙◌}
@@ -19,7 +19,8 @@ use Rattle.berth.proofs.Berths.{standing-length}
 use Rattle.berth.proofs.Laid.{laid-length, laid_beside}
 use Rattle.berth.proofs.Steps.{is-berth}
 use Rattle.file_number.specs.Number.{spelt, Writing, writing, written_of}
-use Rattle.file_number.specs.declared.Written.{Written}
+use Rattle.std.specs.Prelude.{Result, Ok, IsOk, is_ok}
+use Rattle.refusal.specs.declared.Refusal.{Refusal}
 use Rattle.file.specs.Layout.{listed}
 use Rattle.shelf_save.specs.Sizes.{held_of, size_of}
 use Rattle.shelf_save.proofs.Adding.{no_size, some_size}
@@ -44,29 +45,28 @@ module _ (old : List ℕ) (at : ℕ) where
       rw (none, append-nil, e, lent-whole (omega arith), drop-drop)
 
 -- a number that fits
-module _ (n at : ℕ) (old : List ℕ) {back : List ℕ} {r : Written} (h : at + length (spelt n) ≤ length old)
+module _ (n at : ℕ) (old : List ℕ) {back : List ℕ} {r : Result ℕ Refusal} (h : at + length (spelt n) ≤ length old)
     (e : writing r back ≡ written_of n (mid_of at (length old - at) old)) where
-  wrote : writing r back ≡ writing (Written.Bytes (length (spelt n))) (spelt n ++ drop (length (spelt n)) (mid_of at (length old - at) old))
+  wrote : writing r back ≡ writing (Ok (length (spelt n))) (spelt n ++ drop (length (spelt n)) (mid_of at (length old - at) old))
   unfolding written_of
   wrote =
       let lent = mid_of at (length old - at) old in
       let l : length (spelt n) ≤ length lent = rw (lent_length old at (omega arith)) (omega arith) in
       e ∙ rw (le-ltb (length lent) (length (spelt n)) l)
 
-  pub wrote_count : {count : ℕ} → r ≡ Written.Bytes count → at + count ≡ at + length (spelt n)
+  wrote-size : r ≡ Ok (length (spelt n))
+  wrote-size = ap (λ (w : Writing). w.said) wrote
+
+  pub wrote_ok : IsOk r
+  wrote_ok = ap is_ok wrote-size
+
+  pub wrote_count : {count : ℕ} → r ≡ Ok count → count ≡ length (spelt n)
   wrote_count {count} q =
-      let k : Written.Bytes (length (spelt n)) ≡ Written.Bytes count = ap (λ (w : Writing). w.said) (sym wrote) ∙ q in
-      let c : length (spelt n) ≡ count = cc in
-      omega arith
+      let e : ◌≡◌ {A = Result ℕ Refusal} (Ok count) (Ok (length (spelt n))) = sym q ∙ wrote-size in
+      cc
 
   pub wrote-number : put_mid at (length old - at) old back ≡ laid old at (spelt n)
   wrote-number = lent-end old at (spelt n) back h (ap (λ (w : Writing). w.out) wrote)
-
-  pub never-15 : {k : ℕ} → r ≡ Written.Refused k → ⊥
-  never-15 {k} q =
-      let x : Written.Bytes (length (spelt n)) ≡ Written.Refused k = ap (λ (w : Writing). w.said) (sym wrote) ∙ q in
-      let z : ◌≡◌ {A = ℕ} 0 1 = cc in
-      omega arith
 
 -- a section in a berth, and room for it in the output
 pub record Room (store : List ℕ) (p n size : ℕ) (old : List ℕ) (at : ℕ) : Type 0 where

@@ -82,10 +82,8 @@ fn write_at(n: u16, out: &mut [u8], at: usize) -> usize
     ensures value { result ≡ at + length (spelt n) }
     ensures out_after { out.new ≡ laid out.old at (spelt n) }
 {
-    match file_number::write_number(n, &mut out[at..]) {
-        Ok(count) => at + count,
-        Err(_) => at,
-    }
+    let written = file_number::write_number(n, &mut out[at..]);
+    at + written.unwrap()
 }
 
 // Writes section n of place p with its length at a place of the output; the place after it.
@@ -121,12 +119,7 @@ fn write_sections(store: &[u8], p: usize, lengths: [u16; 16], out: &mut [u8], fr
 }
 
 // Saves the table in place p; how many bytes the file has.
-fn save_place(
-    store: &[u8],
-    p: usize,
-    lengths: [u16; 16],
-    out: &mut [u8],
-) -> Result<usize, Refusal>
+fn save_place(store: &[u8], p: usize, lengths: [u16; 16], out: &mut [u8]) -> Result<usize, Refusal>
     requires p_lt_places { (p < places) × (length store.now ≡ store_size) }
     requires berthed { Berthed lengths }
     ensures { save result out.new ≡ place_saved lengths store.now p out.old }
@@ -145,12 +138,7 @@ fn save_place(
 
 // Saves the table with that key as a file at the front of the output; what lies past the file stays as it was. The answer is how many bytes
 // the file has.
-pub fn save_table(
-    words: &[u16],
-    store: &[u8],
-    key: Key,
-    out: &mut [u8],
-) -> Result<usize, Refusal>
+pub fn save_table(words: &[u16], store: &[u8], key: Key, out: &mut [u8]) -> Result<usize, Refusal>
     ensures { save result out.new ≡ save_of (shelf_at words.now) store.now key out.old }
 {
     let p = shelf_ask::held_in(words, store.len(), key)?;

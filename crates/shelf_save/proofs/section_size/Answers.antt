@@ -8,4 +8,4 @@ pub returns-then-size-eq0 : goal.returns-then-size-eq0
 returns-then-size-eq0 c = (no_size _ c.if-size-eq0.true, omega arith)
 
 pub returns : goal.returns
-returns c = (rw (c.number_size.ensures.0, c.wide.ensures) (some_size _ c.if-size-eq0.false), search rules)
+returns c = (rw (c.number_size.ensures.0, c.from.ensures) (some_size _ c.if-size-eq0.false), search rules)

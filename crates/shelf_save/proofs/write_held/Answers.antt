@@ -35,14 +35,14 @@ overflow_add-result c =
     let q = c.requires.p_lt_places in
     let r : Room c.args.store.now c.args.p c.args.n c.args.size c.args.out.now c.args.at =
     record { whole = q.2; place = q.0; number = q.1; small = c.requires.size_le_berth_size.0; some = c.if-size-eq0.false; fits = c.requires.size_le_berth_size.1 } in let wrote = c.write_at-start in
-    omega (arith, held-end r wrote.ensures.value wrote.ensures.out_after c.wide-count.ensures, c.requires.size_le_berth_size.1)
+    omega (arith, held-end r wrote.ensures.value wrote.ensures.out_after c.from-count.ensures, c.requires.size_le_berth_size.1)
 
 pub returns-clause-value : goal.returns-clause-value
 returns-clause-value c = let q = c.requires.p_lt_places in
     let r : Room c.args.store.now c.args.p c.args.n c.args.size c.args.out.now c.args.at =
     record { whole = q.2; place = q.0; number = q.1; small = c.requires.size_le_berth_size.0; some = c.if-size-eq0.false; fits = c.requires.size_le_berth_size.1 } in
     let wrote = c.write_at-start in
-    let size = c.wide-count in
+    let size = c.from-count in
     held-end r wrote.ensures.value wrote.ensures.out_after size.ensures
 
 pub returns-clause-out_after : goal.returns-clause-out_after
@@ -50,5 +50,5 @@ returns-clause-out_after c = let q = c.requires.p_lt_places in
     let r : Room c.args.store.now c.args.p c.args.n c.args.size c.args.out.now c.args.at =
     record { whole = q.2; place = q.0; number = q.1; small = c.requires.size_le_berth_size.0; some = c.if-size-eq0.false; fits = c.requires.size_le_berth_size.1 } in
     let wrote = c.write_at-start in
-    let size = c.wide-count in
+    let size = c.from-count in
     held-written r wrote.ensures.value wrote.ensures.out_after size.ensures c.copy_out.ensures
