@@ -6,3 +6,4 @@ pub mod Front
 pub mod Held
 pub mod Unique
 pub mod Told
+pub mod Heading

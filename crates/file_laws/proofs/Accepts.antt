@@ -11,17 +11,16 @@ use lib.ListN.{length, take, drop, get_or, set, length-append, length-drop, leng
 use lib.Seq.{drop-drop, drop-append_seam, take-append_seam, get_or-set_same, get_or-set_other}
 use borrow.Author.Tests.{le-ltb, eq-eqb, ne_eqb}
 use Rattle.base.specs.Bytes.{part}
+use Rattle.std.specs.Prelude.{Ok}
+use Rattle.std.specs.Prelude.{Some}
+use Rattle.std.specs.Option.{unwrap_or}
 use Rattle.section.specs.Section.{read_of, header_of}
 use Rattle.section.specs.declared.Header.{Header}
-use Rattle.section.specs.declared.Reading.{Reading}
-use Rattle.file_number.specs.Number.{spelling, spelt, number_in, number_at}
-use Rattle.file_number.specs.declared.Number.{Number}
+use Rattle.file_number.specs.Number.{numeral, spelling, spelt, number_in, number_at}
 use Rattle.file_number.proofs.OneSpelling.{read-spelt}
 use Rattle.file_number.proofs.Bounds.{spelt-some}
 use Rattle.file.specs.Layout.{form, most_counted, shortest, longest, listed, file_of, chosen, same_table, Rising, SoundTable}
-use Rattle.file.specs.Scan.{Seen, accepted, nothing, first_of, added, reading_of, section_at, sections_of, scan_of, found_at, found_in, table_in}
-use Rattle.file.specs.declared.Part.{Part}
-use Rattle.file.specs.declared.Scan.{Scan}
+use Rattle.file.specs.Scan.{heading, lying, Seen, accepted, nothing, first_of, added, reading_of, section_at, sections_of, scan_of, found_at, found_in, sections_in, table_of, table_in}
 use Rattle.file.proofs.Parts.{read_as}
 use Rattle.file.proofs.Found.{sound-size, sound-number}
 use Rattle.file.proofs.Sections.{next}
@@ -50,13 +49,13 @@ module _ (file s rest : List ℕ) (at : ℕ) (here : drop at file ≡ spelt (len
       let b : 1 ≤ length (spelt (length s)) = spelt-some (length s) in
       omega arith
 
-  pub its-part : (h : Header) → read_of s ≡ Reading.Sound h → section_at file at ≡ Part.Section h start (length s)
+  pub its-part : (h : Header) → read_of s ≡ Ok h → section_at file at ≡ Ok (lying h start (length s))
   its-part h r =
       let w : (shortest ≤ length s) × (length s ≤ longest) = sound-size s h r in
       let i : start + length s ≤ length file = its-end in
-      let e : number_at file at ≡ Number.Value (length s) start
+      let e : number_at file at ≡ Ok (numeral (length s) start)
       = ap (λ d. number_in d at) here ∙ read-spelt (length s) (omega arith) (s ++ rest) at in
-      read_as file at (length s) start e w.0 w.1 (length s) refl (omega arith) ∙ ap (reading_of start (length s)) (ap read_of its-bytes ∙ r)
+      read_as file at (numeral (length s) start) e w.0 w.1 (length s) refl (omega arith) ∙ ap (reading_of start (length s)) (ap read_of its-bytes ∙ r)
 
 -- no section is seen yet from the lowest allowed number on
 pub record Clear (seen : Seen) : Type 0 where
@@ -106,12 +105,12 @@ module _ (file : List ℕ) (seen : Seen) (c : Clear seen) (h : Header) (start si
 
 -- what the scan of n sections from here on answers and finds
 pub record Reads (file : List ℕ) (seen : Seen) (first : Header) (n : ℕ) (ss : List (List ℕ)) : Type 0 where
-  pub answers : (sections_of n file seen).answer ≡ Scan.Table first
-  pub finds : found_in file (sections_of n file seen).starts (sections_of n file seen).lengths ≡ found_in file seen.starts seen.lengths ++ ss
+  pub answers : heading (sections_of n file seen) ≡ Ok first
+  pub finds : sections_in file (sections_of n file seen) ≡ found_in file seen.starts seen.lengths ++ ss
 
 -- one section is taken
 module _ (file s rest : List ℕ) (seen : Seen) (c : Clear seen) (here : drop seen.next file ≡ spelt (length s) ++ (s ++ rest))
-    (r : read_of s ≡ Reading.Sound (header_of s)) (same : same_table (first_of seen (header_of s)) (header_of s) ≡ true)
+    (r : read_of s ≡ Ok (header_of s)) (same : same_table (first_of seen (header_of s)) (header_of s) ≡ true)
     (rises : seen.lowest ≤ (header_of s).number) where
   abbrev pub taken : Seen
   taken = added seen (header_of s) (start file s rest seen.next here) (length s)
@@ -125,7 +124,7 @@ module _ (file s rest : List ℕ) (seen : Seen) (c : Clear seen) (here : drop se
   pub step : (n : ℕ) → sections_of (suc n) file seen ≡ sections_of n file taken
   step n =
       let e : suc n - 1 ≡ n = omega arith in
-      next file seen (suc n) (λ z. omega arith) (header_of s) (start file s rest seen.next here) (length s)
+      next file seen (suc n) (λ z. omega arith) (lying (header_of s) (start file s rest seen.next here) (length s))
       (its-part file s rest seen.next here (header_of s) r) same rises
       ∙ ap (λ k. sections_of k file taken) e
 
@@ -135,9 +134,9 @@ module _ (file s rest : List ℕ) (seen : Seen) (c : Clear seen) (here : drop se
       = found-added file seen c (header_of s) (start file s rest seen.next here) (length s) rises few s
       (its-bytes file s rest seen.next here) some in
       record {
-        answers = ap (λ x. x.answer) (step n) ∙ k.answers;
+        answers = ap heading (step n) ∙ k.answers;
         finds =
-            ap (λ x. found_in file x.starts x.lengths) (step n)
+            ap (sections_in file) (step n)
             ∙ k.finds
             ∙ ap (λ l. l ++ ss) found
             ∙ append_assoc (found_in file seen.starts seen.lengths) (s ∷ []) ss;
@@ -156,20 +155,23 @@ ends : (file : List ℕ) (seen : Seen) → length file ≤ seen.next → section
 unfolding sections_of
 ends file seen l = rw (le-ltb seen.next (length file) l)
 
-reads : (file : List ℕ) (first : Header) (ss : List (List ℕ)) (seen : Seen) → seen.begun ≡ true → seen.first ≡ first → Clear seen
+reads : (file : List ℕ) (first : Header) (ss : List (List ℕ)) (seen : Seen) → seen.first ≡ Some first → Clear seen
     → drop seen.next file ≡ listed ss → Rising first seen.lowest ss → Reads file seen first (length ss) ss
 unfolding listed
-reads file first [] seen b f c here rising =
+reads file first [] seen f c here rising =
     let e : sections_of 0 file seen ≡ accepted seen = ends file seen (at-end file seen.next here) in
     record {
-      answers = ap (λ x. x.answer) e ∙ ap Scan.Table f;
-      finds = ap (λ x. found_in file x.starts x.lengths) e ∙ sym (append-nil (found_in file seen.starts seen.lengths));
+      answers = ap heading e ∙ ap (λ o. heading (table_of seen.starts seen.lengths o)) f;
+      finds =
+          ap (sections_in file) e
+          ∙ ap (λ o. sections_in file (table_of seen.starts seen.lengths o)) f
+          ∙ sym (append-nil (found_in file seen.starts seen.lengths));
     }
-reads file first (s ∷ ss) seen b f c here rising =
-    let first-is : first_of seen (header_of s) ≡ first = rw b f in
+reads file first (s ∷ ss) seen f c here rising =
+    let first-is : first_of seen (header_of s) ≡ first = ap (λ o. unwrap_or o (header_of s)) f in
     let same : same_table (first_of seen (header_of s)) (header_of s) ≡ true = rw first-is rising.1 in
     one-taken file s (listed ss) seen c here rising.0 same rising.2 first (length ss) ss
-    (reads file first ss (taken file s (listed ss) seen c here rising.0 same rising.2) refl first-is
+    (reads file first ss (taken file s (listed ss) seen c here rising.0 same rising.2) (ap Some first-is)
     (taken-clear file s (listed ss) seen c here rising.0 same rising.2)
     (taken-rest file s (listed ss) seen c here rising.0 same rising.2)
     rising.3)
@@ -188,7 +190,7 @@ unfolding listed
 all_read file s ss at here rising =
     one-taken file s (listed ss) (nothing at) (clear-nothing at) here rising.0 rising.1 rising.2 (header_of s) (length ss) ss
     (reads file (header_of s) ss
-    (taken file s (listed ss) (nothing at) (clear-nothing at) here rising.0 rising.1 rising.2) refl refl
+    (taken file s (listed ss) (nothing at) (clear-nothing at) here rising.0 rising.1 rising.2) refl
     (taken-clear file s (listed ss) (nothing at) (clear-nothing at) here rising.0 rising.1 rising.2)
     (taken-rest file s (listed ss) (nothing at) (clear-nothing at) here rising.0 rising.1 rising.2)
     rising.3)
@@ -212,28 +214,28 @@ module _ (ss : List (List ℕ)) where
       ∙ ap (drop (length (spelt (length ss)))) counts-here
       ∙ drop-append_seam (spelt (length ss)) (listed ss)
 
-  form-here : number_at (file_of ss) 0 ≡ Number.Value form count_at
+  form-here : number_at (file_of ss) 0 ≡ Ok (numeral form count_at)
   unfolding file_of
   form-here = read-spelt form (omega arith) (spelt (length ss) ++ listed ss) 0
 
-  count-here : length ss ≤ most_counted → number_at (file_of ss) count_at ≡ Number.Value (length ss) (first-at (length ss))
+  count-here : length ss ≤ most_counted → number_at (file_of ss) count_at ≡ Ok (numeral (length ss) (first-at (length ss)))
   count-here few = ap (λ d. number_in d count_at) counts-here ∙ read-spelt (length ss) (omega arith) (listed ss) count_at
 
   scan-front : 1 ≤ length ss → length ss ≤ most_counted → scan_of (file_of ss) ≡ sections_of (length ss) (file_of ss) (nothing (first-at (length ss)))
   scan-front some few =
-      sym (formed (file_of ss) form count_at form-here refl)
-      ∙ sym (counted (file_of ss) count_at (length ss) (first-at (length ss)) (count-here few) some few)
+      sym (formed (file_of ss) (numeral form count_at) form-here refl)
+      ∙ sym (counted (file_of ss) count_at (numeral (length ss) (first-at (length ss))) (count-here few) some few)
 
 module _ (s : List ℕ) (ss : List (List ℕ)) (t : SoundTable (s ∷ ss)) where
   all : Reads (file_of (s ∷ ss)) (nothing (first-at (length (s ∷ ss)))) (header_of s) (length (s ∷ ss)) (s ∷ ss)
   all = all_read (file_of (s ∷ ss)) s ss (first-at (length (s ∷ ss))) (lists-here (s ∷ ss)) t.1
 
-  pub accepted-as : (scan_of (file_of (s ∷ ss))).answer ≡ Scan.Table (header_of s)
-  accepted-as = ap (λ x. x.answer) (scan-front (s ∷ ss) (omega arith) t.0) ∙ all.answers
+  pub accepted-as : heading (scan_of (file_of (s ∷ ss))) ≡ Ok (header_of s)
+  accepted-as = ap heading (scan-front (s ∷ ss) (omega arith) t.0) ∙ all.answers
 
   found_all : table_in (file_of (s ∷ ss)) ≡ s ∷ ss
   found_all =
-      ap (λ x. found_in (file_of (s ∷ ss)) x.starts x.lengths) (scan-front (s ∷ ss) (omega arith) t.0)
+      ap (sections_in (file_of (s ∷ ss))) (scan-front (s ∷ ss) (omega arith) t.0)
       ∙ all.finds
       ∙ ap (λ l. l ++ (s ∷ ss)) (none_found (file_of (s ∷ ss)) (first-at (length (s ∷ ss))))
 

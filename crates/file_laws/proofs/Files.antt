@@ -9,19 +9,19 @@ use mathlib.Core.Logic.{◌↔◌}
 use Prim.Native.Nat.{ℕ, ◌<◌, ◌≤◌}
 use native.Mathlib.Omega.{arith}
 use lib.ListN.{length}
+use Rattle.std.specs.Prelude.{Ok}
 use Rattle.section.specs.Section.{header_of}
 use Rattle.section.specs.declared.Header.{Header}
 use Rattle.file_number.specs.Number.{Bytes}
 use Rattle.file.specs.Layout.{largest_file, file_of, SoundTable}
-use Rattle.file.specs.Scan.{scan_of, table_in}
-use Rattle.file.specs.declared.Scan.{Scan}
+use Rattle.file.specs.Scan.{heading, scan_of, table_in}
 use Rattle.file_laws.proofs.Accepts.{accepted-as, in-one-way}
 use Rattle.file_laws.proofs.Only.{only-files}
 use Rattle.file_laws.proofs.Largest.{largest-file}
 
 -- the file is accepted: its reading gives a table
 abbrev pub Accepted : List ℕ → Type 0
-Accepted file = (h : Header) × ((scan_of file).answer ≡ Scan.Table h)
+Accepted file = (h : Header) × (heading (scan_of file) ≡ Ok h)
 
 -- it is the file of some sound table
 abbrev pub IsFile : List ℕ → Type 0

@@ -1,6 +1,6 @@
 -- "The first fault from the left gives the answer": behind sound sections of one table the answer is the next section's fault,
 -- whatever stands after it.
---   lowest_after, first_or    the lowest number that a section behind others may have, and the header of the first section
+--   lowest_after, first_some, first_or    the lowest number that a section behind others may have, and the header of the first section
 --   Behind, behind          where the scan stands after them
 --   first-fault             the next section's own fault: 11, its length and running past the file (12), its own number
 --   other-table, not-rising     then key, version, last and rising number (12)
@@ -16,14 +16,17 @@ use borrow.Author.Tests.{lt-ltb, le-ltb, ltb-true, ltb-false}
 use Rattle.base.specs.Bytes.{part}
 use lib.Seq.{drop-drop, drop-append_seam}
 use Rattle.base.proofs.Cases.{by}
+use Rattle.std.specs.Prelude.{Result, Ok, Err}
+use Rattle.std.specs.Prelude.{Option, None, Some}
+use Rattle.std.specs.Option.{unwrap_or}
+use Rattle.refusal.specs.declared.Refusal.{Refusal}
+use Rattle.refusal.specs.declared.Refusal.TheVariants.{BadFile}
 use Rattle.section.specs.Section.{read_of, header_of}
 use Rattle.section.specs.declared.Header.{Header}
-use Rattle.section.specs.declared.Reading.{Reading}
-use Rattle.file_number.specs.Number.{largest, spelling, spelt, groups, worth, cut_off, not_shortest, number_in}
-use Rattle.file_number.specs.declared.Number.{Number}
+use Rattle.file_number.specs.Number.{numeral, largest, spelling, spelt, groups, worth, cut_off, not_shortest, number_in}
 use Rattle.file_number.proofs.OneSpelling.{read-spelt}
 use Rattle.file.specs.Layout.{form, fewest, most_counted, shortest, longest, listed, same_table, Rising}
-use Rattle.file.specs.Scan.{Seen, refused, nothing, first_of, reading_of, length_of, section_at, sections_of, scan_of}
+use Rattle.file.specs.Scan.{lying, Seen, nothing, first_of, reading_of, length_of, section_at, sections_of, scan_of}
 use Rattle.file.specs.declared.Part.{Part}
 use Rattle.file.proofs.Sections.{faulty, other, fallen}
 use Rattle.file.proofs.Front.{counted, formed}
@@ -31,9 +34,9 @@ use Rattle.file_laws.specs.Fault.{Begins, ToCome}
 use Rattle.file_laws.proofs.Accepts.{Clear, clear-nothing, taken, taken-clear, taken-rest, its-end, step, count_at, first-at}
 
 -- what is read at a place of the file, as what is read at the front of the bytes from that place on
-abbrev pub moved : ℕ → Part → Part
-moved at (Part.Section h start size) = Part.Section h (at + start) size
-moved at (Part.Refused n) = Part.Refused n
+abbrev pub moved : ℕ → Result Part Refusal → Result Part Refusal
+moved at (Ok p) = Ok (lying p.header (at + p.start) p.length)
+moved at (Err r) = Err r
 
 module _ (file rest : List ℕ) (at : ℕ) (here : drop at file ≡ rest) (inside : at ≤ length file) where
   long : length file ≡ at + length rest
@@ -42,11 +45,11 @@ module _ (file rest : List ℕ) (at : ℕ) (here : drop at file ≡ rest) (insid
   bytes-moved : (start size : ℕ) → part file (at + start) size ≡ part rest start size
   bytes-moved start size = ap (take size) (sym (drop-drop start at file) ∙ ap (drop start) here)
 
-  reading-moved : (start size : ℕ) (r : Reading) → reading_of (at + start) size r ≡ moved at (reading_of start size r)
-  reading-moved start size (Reading.Sound h) = refl
-  reading-moved start size (Reading.Refused n) = refl
+  reading-moved : (start size : ℕ) (r : Result Header Refusal) → reading_of (at + start) size r ≡ moved at (reading_of start size r)
+  reading-moved start size (Ok h) = refl
+  reading-moved start size (Err n) = refl
 
-  length_moved : (size start : ℕ) → length_of file (Number.Value size (at + start)) ≡ moved at (length_of rest (Number.Value size start))
+  length_moved : (size start : ℕ) → length_of file (Ok (numeral size (at + start))) ≡ moved at (length_of rest (Ok (numeral size start)))
   length_moved size start =
       by (ltb size shortest || ltb longest size)
       (λ t. rw t)
@@ -85,21 +88,20 @@ record Walked (file rest : List ℕ) (first : Header) (low more n : ℕ) (seen :
   goes : sections_of (more + n) file seen ≡ sections_of n file after
   here : drop after.next file ≡ rest
   inside : after.next ≤ length file
-  begun : after.begun ≡ true
-  shares : after.first ≡ first
+  shares : after.first ≡ Some first
   lowest : after.lowest ≡ low
 
-walks : (file rest : List ℕ) (first : Header) (n : ℕ) (ss : List (List ℕ)) (seen : Seen) → seen.begun ≡ true → seen.first ≡ first → Clear seen
+walks : (file rest : List ℕ) (first : Header) (n : ℕ) (ss : List (List ℕ)) (seen : Seen) → seen.first ≡ Some first → Clear seen
     → seen.next ≤ length file → drop seen.next file ≡ listed ss ++ rest → Rising first seen.lowest ss → Walked file rest first (lowest_after seen.lowest ss) (length ss) n seen
 unfolding listed
-walks file rest first n [] seen b f c i here rising =
-    record { after = seen; goes = ap (λ k. sections_of k file seen) (let e : 0 + n ≡ n = omega arith in e); here = here; inside = i; begun = b; shares = f; lowest = refl }
-walks file rest first n (s ∷ ss) seen b f c i here rising =
-    let first-is : first_of seen (header_of s) ≡ first = rw b f in
+walks file rest first n [] seen f c i here rising =
+    record { after = seen; goes = ap (λ k. sections_of k file seen) (let e : 0 + n ≡ n = omega arith in e); here = here; inside = i; shares = f; lowest = refl }
+walks file rest first n (s ∷ ss) seen f c i here rising =
+    let first-is : first_of seen (header_of s) ≡ first = ap (λ o. unwrap_or o (header_of s)) f in
     let same : same_table (first_of seen (header_of s)) (header_of s) ≡ true = rw first-is rising.1 in
     let here' : drop seen.next file ≡ spelt (length s) ++ (s ++ (listed ss ++ rest))
     = here ∙ append_assoc (spelt (length s)) (s ++ listed ss) rest ∙ ap (λ l. spelt (length s) ++ l) (append_assoc s (listed ss) rest) in
-    let w = walks file rest first n ss (taken file s (listed ss ++ rest) seen c here' rising.0 same rising.2) refl first-is
+    let w = walks file rest first n ss (taken file s (listed ss ++ rest) seen c here' rising.0 same rising.2) (ap Some first-is)
     (taken-clear file s (listed ss ++ rest) seen c here' rising.0 same rising.2)
     (its-end file s (listed ss ++ rest) seen.next here')
     (taken-rest file s (listed ss ++ rest) seen c here' rising.0 same rising.2) rising.3 in
@@ -111,15 +113,17 @@ walks file rest first n (s ∷ ss) seen b f c i here rising =
           ∙ w.goes;
       here = w.here;
       inside = w.inside;
-      begun = w.begun;
       shares = w.shares;
       lowest = w.lowest;
     }
 
--- the header of the first section, which is this one where none stands before it
+-- the header of the first section, if there is one, and this one else
+abbrev pub first_some : List (List ℕ) → Option Header
+first_some [] = None
+first_some (s ∷ ss) = Some (header_of s)
+
 abbrev pub first_or : Header → List (List ℕ) → Header
-first_or h [] = h
-first_or h (s ∷ ss) = header_of s
+first_or h ss = unwrap_or (first_some ss) h
 
 -- the scan behind good sections, with so many to come
 pub record Behind (file rest : List ℕ) (ss : List (List ℕ)) (left : ℕ) : Type 0 where
@@ -150,8 +154,8 @@ module _ (n : ℕ) (some : fewest ≤ n) (few : n ≤ most_counted) (body : List
 
   front : scan_of counts ≡ sections_of n counts (nothing (first-at n))
   front =
-      sym (formed counts form count_at (read-spelt form (omega arith) (spelt n ++ body) 0) refl)
-      ∙ sym (counted counts count_at n (first-at n)
+      sym (formed counts (numeral form count_at) (read-spelt form (omega arith) (spelt n ++ body) 0) refl)
+      ∙ sym (counted counts count_at (numeral n (first-at n))
       (ap (λ d. number_in d count_at) count-here ∙ read-spelt n (omega arith) body count_at) some few)
 
 module _ (s : List ℕ) (ss : List (List ℕ)) (rest : List ℕ) (n : ℕ) (some : fewest ≤ n) (few : n ≤ most_counted) (more : length (s ∷ ss) ≤ n)
@@ -174,7 +178,7 @@ module _ (s : List ℕ) (ss : List (List ℕ)) (rest : List ℕ) (n : ℕ) (some
 
   walked : Walked file rest (header_of s) (lowest_after 0 (s ∷ ss)) (length ss) left one
   walked =
-      walks file rest (header_of s) left ss one refl refl
+      walks file rest (header_of s) left ss one refl
       (taken-clear file s (listed ss ++ rest) (nothing (first-at n)) (clear-nothing (first-at n)) here' rising.0 rising.1 rising.2)
       (its-end file s (listed ss ++ rest) (first-at n) here')
       (taken-rest file s (listed ss ++ rest) (nothing (first-at n)) (clear-nothing (first-at n)) here' rising.0 rising.1 rising.2)
@@ -192,7 +196,7 @@ module _ (s : List ℕ) (ss : List (List ℕ)) (rest : List ℕ) (n : ℕ) (some
             ∙ walked.goes;
         here = walked.here;
         inside = walked.inside;
-        first = λ h. rw walked.begun walked.shares;
+        first = λ h. ap (λ o. unwrap_or o h) walked.shares;
         lowest = walked.lowest;
       }
 
@@ -223,33 +227,33 @@ module _ (file : List ℕ) (ss : List (List ℕ)) (rest : List ℕ) (w : ToCome 
   some_left : w.n - length ss ≡ 0 → ⊥
   some_left e = let l : length ss < w.n = w.left in omega arith
 
-  pub first-fault : (m : ℕ) → section_at rest 0 ≡ Part.Refused m → scan_of file ≡ refused m
+  pub first-fault : (m : Refusal) → section_at rest 0 ≡ Err m → scan_of file ≡ Err m
   first-fault m e =
       at_next.goes ∙ faulty file at_next.seen (w.n - length ss) some_left m (next-part ∙ ap (moved at_next.seen.next) e)
 
-  module _ (h : Header) (start size : ℕ) (e : section_at rest 0 ≡ Part.Section h start size) where
-    next-section : section_at file at_next.seen.next ≡ Part.Section h (at_next.seen.next + start) size
+  module _ (h : Header) (start size : ℕ) (e : section_at rest 0 ≡ Ok (lying h start size)) where
+    next-section : section_at file at_next.seen.next ≡ Ok (lying h (at_next.seen.next + start) size)
     next-section = next-part ∙ ap (moved at_next.seen.next) e
 
-    pub other-table : same_table (first_or h ss) h ≡ false → scan_of file ≡ refused 12
+    pub other-table : same_table (first_or h ss) h ≡ false → scan_of file ≡ Err BadFile
     other-table d =
         at_next.goes
-        ∙ other file at_next.seen (w.n - length ss) some_left h (at_next.seen.next + start) size next-section
+        ∙ other file at_next.seen (w.n - length ss) some_left (lying h (at_next.seen.next + start) size) next-section
         (ap (λ k. same_table k h) (at_next.first h) ∙ d)
 
-    pub not-rising : same_table (first_or h ss) h ≡ true → h.number < lowest_after 0 ss → scan_of file ≡ refused 12
+    pub not-rising : same_table (first_or h ss) h ≡ true → h.number < lowest_after 0 ss → scan_of file ≡ Err BadFile
     not-rising d l =
         at_next.goes
-        ∙ fallen file at_next.seen (w.n - length ss) some_left h (at_next.seen.next + start) size next-section
+        ∙ fallen file at_next.seen (w.n - length ss) some_left (lying h (at_next.seen.next + start) size) next-section
         (ap (λ k. same_table k h) (at_next.first h) ∙ d)
         (rw at_next.lowest l)
 
-over : (file : List ℕ) (seen : Seen) → seen.next < length file → sections_of 0 file seen ≡ refused 12
+over : (file : List ℕ) (seen : Seen) → seen.next < length file → sections_of 0 file seen ≡ Err BadFile
 unfolding sections_of
 over file seen l = rw (lt-ltb seen.next (length file) l)
 
 pub left_over : (file : List ℕ) (ss : List (List ℕ)) (rest : List ℕ) → Begins file (length ss) ss rest → 0 < length rest
-    → scan_of file ≡ refused 12
+    → scan_of file ≡ Err BadFile
 left_over file ss rest b l =
     let w = behind file (length ss) ss rest b (omega arith) in
     let e : length file - w.seen.next ≡ length rest = sym (length-drop w.seen.next file) ∙ ap length w.here in

@@ -13,14 +13,16 @@ use lib.Seq.{take-take, take-nil, length-take-le}
 use borrow.Author.Tests.{lt-ltb, le-ltb, ltb-true, ltb-false, eqb-true}
 use Rattle.base.specs.Bytes.{part}
 use Rattle.base.proofs.Cases.{by, same_or, or_right}
+use Rattle.std.specs.Prelude.{Result, Ok, Err}
+use Rattle.refusal.specs.declared.Refusal.{Refusal}
+use Rattle.refusal.specs.declared.Refusal.TheVariants.{BadNumber, BadFile}
 use Rattle.section.specs.Section.{read_of}
 use Rattle.section.specs.declared.Header.{Header}
-use Rattle.section.specs.declared.Reading.{Reading}
-use Rattle.file_number.specs.Number.{groups, cut_off, number_in, number_at}
+use Rattle.file_number.specs.Number.{numeral, groups, cut_off, number_in, number_at}
 use Rattle.file_number.specs.declared.Number.{Number}
 use Rattle.file_number.proofs.Reading.{one_in, zero_in, two_in, zero-in-3, three-in, above_in}
 use Rattle.file.specs.Layout.{form, fewest, most_counted, shortest, longest, largest_file, same_table}
-use Rattle.file.specs.Scan.{Seen, nothing, first_of, added, reading_of, length_of, section_at, sections_of, follow_of, count_of, form_of, scan_of}
+use Rattle.file.specs.Scan.{lying, Seen, nothing, first_of, added, reading_of, length_of, section_at, sections_of, follow_of, count_of, form_of, scan_of}
 use Rattle.file.specs.declared.Part.{Part}
 
 -- a number and the place after it: below 128 it takes one byte, and below 128 × 128 two at most
@@ -30,27 +32,27 @@ Near at n next = (n < 128 → next ≤ at + 1) × (n < 16384 → next ≤ at + 2
 -- what a reading of s says, s' says too
 record Alike (s s' : List ℕ) (at : ℕ) : Type 0 where
   same : number_in s at ≡ number_in s' at
-  near : (n next : ℕ) → number_in s at ≡ Number.Value n next → Near at n next
+  near : (n next : ℕ) → number_in s at ≡ Ok (numeral n next) → Near at n next
 
-value : {n m next after : ℕ} → Number.Value n next ≡ Number.Value m after → (n ≡ m) × (next ≡ after)
-value e = (cc, cc)
+value : {n m next after : ℕ} → ◌≡◌ {A = Result Number Refusal} (Ok (numeral n next)) (Ok (numeral m after)) → (n ≡ m) × (next ≡ after)
+value {n = n} {m = m} {next = next} {after = after} e = let q : numeral n next ≡ numeral m after = cc in (ap (λ w. w.value) q, ap (λ w. w.next) q)
 
-no_value : {A : Type 0} {n next no : ℕ} → Number.Refused no ≡ Number.Value n next → A
-no_value e = absurd (let z : ◌≡◌ {A = ℕ} 0 1 = cc in omega arith)
+no_value : {A : Type 0} {n next : ℕ} {r : Refusal} → ◌≡◌ {A = Result Number Refusal} (Err r) (Ok (numeral n next)) → A
+no_value e = cc
 
-refused-alike : (s s' : List ℕ) (at : ℕ) → number_in s at ≡ Number.Refused 11 → number_in s' at ≡ Number.Refused 11 → Alike s s' at
+refused-alike : (s s' : List ℕ) (at : ℕ) → number_in s at ≡ Err BadNumber → number_in s' at ≡ Err BadNumber → Alike s s' at
 refused-alike s s' at e f = record { same = e ∙ sym f; near = λ n next q. no_value (sym e ∙ q) }
 
 module _ (at : ℕ) where
-  cut-1 : number_in [] at ≡ Number.Refused 11
+  cut-1 : number_in [] at ≡ Err BadNumber
   unfolding number_in cut_off
   cut-1 = refl
 
-  cut-2 : (a : ℕ) → 128 ≤ a → number_in (a ∷ []) at ≡ Number.Refused 11
+  cut-2 : (a : ℕ) → 128 ≤ a → number_in (a ∷ []) at ≡ Err BadNumber
   unfolding number_in cut_off groups
   cut-2 a high = rw (le-ltb a 128 high)
 
-  value-alike : (s s' : List ℕ) (v after : ℕ) → number_in s at ≡ Number.Value v after → number_in s' at ≡ Number.Value v after
+  value-alike : (s s' : List ℕ) (v after : ℕ) → number_in s at ≡ Ok (numeral v after) → number_in s' at ≡ Ok (numeral v after)
       → Near at v after → Alike s s' at
   value-alike s s' v after e f near =
       record {
@@ -70,7 +72,7 @@ module _ (at : ℕ) where
       (three-in at a high b more c s' z (ltb-false 3 c t)) (λ l. absurd (omega arith), λ l. absurd (omega arith))))
       (same_or c 0)
 
-  cut-3 : (a b : ℕ) → 128 ≤ a → 128 ≤ b → number_in (a ∷ b ∷ []) at ≡ Number.Refused 11
+  cut-3 : (a b : ℕ) → 128 ≤ a → 128 ≤ b → number_in (a ∷ b ∷ []) at ≡ Err BadNumber
   unfolding number_in cut_off groups
   cut-3 a b high more = rw (le-ltb a 128 high, le-ltb b 128 more)
 
@@ -110,12 +112,13 @@ drop-take zero (suc at) l h = absurd (omega arith)
 drop-take (suc n) (suc at) [] h = sym (take-nil (suc n - suc at))
 drop-take (suc n) (suc at) (x ∷ l) h = drop-take n at l (omega arith) ∙ ap (λ k. take k (drop at l)) (let e : n - at ≡ suc n - suc at = omega arith in e)
 
-apart-part : (n : ℕ) (h : Header) (start size : ℕ) → Part.Refused n ≡ Part.Section h start size → ⊥
-apart-part n h start size e = let z : ◌≡◌ {A = ℕ} 0 1 = cc in omega arith
+apart-part : {A : Type 0} (r : Refusal) (h : Header) (start size : ℕ) → Err r ≡ Ok (lying h start size) → A
+apart-part r h start size e = cc
 
-places : (r : Reading) (start size : ℕ) (h : Header) (s k : ℕ) → reading_of start size r ≡ Part.Section h s k → (start ≡ s) × (size ≡ k)
-places (Reading.Sound g) start size h s k e = (cc, cc)
-places (Reading.Refused n) start size h s k e = absurd (apart-part n h s k e)
+places : (r : Result Header Refusal) (start size : ℕ) (h : Header) (s k : ℕ) → reading_of start size r ≡ Ok (lying h s k) → (start ≡ s) × (size ≡ k)
+places (Ok g) start size h s k e =
+    let q : lying g start size ≡ lying h s k = cc in (ap (λ (p : Part). p.start) q, ap (λ (p : Part). p.length) q)
+places (Err r) start size h s k e = apart-part r h s k e
 
 -- the lister's buffer, and what fills it of a longer input
 abbrev buffer : ℕ
@@ -139,13 +142,15 @@ module _ (file : List ℕ) (long : largest_file < length file) where
   parts start size l = ap (take size) (drop-take buffer start file (omega arith)) ∙ take-take size (buffer - start) (drop start file) (omega arith)
 
   -- a number's length of a section says the same of both, and the section ends near
-  lengths : (at : ℕ) → at + 1026 ≤ largest_file → (m : Number) → ((n next : ℕ) → m ≡ Number.Value n next → Near at n next)
+  lengths : (at : ℕ) → at + 1026 ≤ largest_file → (m : Result Number Refusal) → ((n next : ℕ) → m ≡ Ok (numeral n next) → Near at n next)
       → (length_of front m ≡ length_of file m)
-      × ((h : Header) (start size : ℕ) → length_of file m ≡ Part.Section h start size → start + size ≤ at + 1026)
-  lengths at l (Number.Refused n) near = (refl, λ h start size e. absurd (apart-part n h start size e))
-  lengths at l (Number.Value size start) near =
+      × ((h : Header) (start size : ℕ) → length_of file m ≡ Ok (lying h start size) → start + size ≤ at + 1026)
+  lengths at l (Err r) near = (refl, λ h start size e. apart-part r h start size e)
+  lengths at l (Ok found) near =
+      let size = found.value in
+      let start = found.next in
       by (ltb size shortest || ltb longest size)
-      (λ t. (rw t, λ h s k e. absurd (apart-part 12 h s k (rw t at e))))
+      (λ t. (rw t, λ h s k e. apart-part BadFile h s k (rw t at e)))
       (λ t.
       let few : size ≤ longest = ltb-false _ _ (or_right (ltb size shortest) _ t) in
       let close : start ≤ at + 2 = (near size start refl).1 (omega arith) in
@@ -170,15 +175,18 @@ module _ (file : List ℕ) (long : largest_file < length file) where
       ∙ ap (follow_of (sections_of n front) seen) w.0
       ∙ follows n seen (length_of file (number_at file seen.next)) w.1 l (sections n)
     where
-      follows : (n : ℕ) (seen : Seen) (p : Part) → ((h : Header) (start size : ℕ) → p ≡ Part.Section h start size → start + size ≤ seen.next + 1026)
+      follows : (n : ℕ) (seen : Seen) (p : Result Part Refusal) → ((h : Header) (start size : ℕ) → p ≡ Ok (lying h start size) → start + size ≤ seen.next + 1026)
           → seen.next + 1026 * suc n ≤ largest_file
           → ((seen : Seen) → seen.next + 1026 * n ≤ largest_file → sections_of n front seen ≡ sections_of n file seen)
           → follow_of (sections_of n front) seen p ≡ follow_of (sections_of n file) seen p
-      follows n seen (Part.Refused k) ends l more = refl
-      follows n seen (Part.Section h start size) ends l more =
-          let end : start + size ≤ seen.next + 1026 = ends h start size refl in
-          by (same_table (first_of seen h) h)
-          (λ s. by (ltb h.number seen.lowest) (λ t. rw (s, t)) (λ t. rw (s, t) (more (added seen h start size) (omega arith))))
+      follows n seen (Err k) ends l more = refl
+      follows n seen (Ok p) ends l more =
+          let end : p.start + p.length ≤ seen.next + 1026 = ends p.header p.start p.length refl in
+          by (same_table (first_of seen p.header) p.header)
+          (λ s.
+          by (ltb p.header.number seen.lowest)
+          (λ t. rw (s, t))
+          (λ t. rw (s, t) (more (added seen p.header p.start p.length) (omega arith))))
           (λ s. rw s)
 
   counts : (at : ℕ) → at ≤ 1 → count_of front (number_at front at) ≡ count_of file (number_at file at)
@@ -186,9 +194,11 @@ module _ (file : List ℕ) (long : largest_file < length file) where
       let a = numbers at (omega arith) in
       ap (count_of front) (sym a.same) ∙ go (number_at file at) a.near
     where
-      go : (m : Number) → ((n next : ℕ) → m ≡ Number.Value n next → Near at n next) → count_of front m ≡ count_of file m
-      go (Number.Refused n) near = refl
-      go (Number.Value count next) near =
+      go : (m : Result Number Refusal) → ((n next : ℕ) → m ≡ Ok (numeral n next) → Near at n next) → count_of front m ≡ count_of file m
+      go (Err n) near = refl
+      go (Ok found) near =
+          let count = found.value in
+          let next = found.next in
           by (ltb count fewest || ltb most_counted count)
           (λ t. rw t)
           (λ t.
@@ -202,12 +212,12 @@ module _ (file : List ℕ) (long : largest_file < length file) where
       let a = numbers 0 (omega arith) in
       ap (form_of front) (sym a.same) ∙ go (number_at file 0) a.near
     where
-      go : (m : Number) → ((n next : ℕ) → m ≡ Number.Value n next → Near 0 n next) → form_of front m ≡ form_of file m
-      go (Number.Refused n) near = refl
-      go (Number.Value found next) near =
-          by (eqb found form)
+      go : (m : Result Number Refusal) → ((n next : ℕ) → m ≡ Ok (numeral n next) → Near 0 n next) → form_of front m ≡ form_of file m
+      go (Err n) near = refl
+      go (Ok found) near =
+          by (eqb found.value form)
           (λ t.
-          let is : found ≡ form = eqb-true _ _ t in
-          let close : next ≤ 0 + 1 = (near found next refl).0 (omega arith) in
-          rw t (counts next (omega arith)))
+          let is : found.value ≡ form = eqb-true _ _ t in
+          let close : found.next ≤ 0 + 1 = (near found.value found.next refl).0 (omega arith) in
+          rw t (counts found.next (omega arith)))
           (λ t. rw t)

@@ -7,10 +7,10 @@ use Prim.Native.Nat.{ℕ, zero, suc, ◌+◌, ◌*◌, ◌≤◌}
 use native.Mathlib.Omega.{arith}
 use lib.ListN.{length, replicate, length-append}
 use borrow.Author.Tests.{le-ltb}
+use Rattle.std.specs.Prelude.{Ok}
 use Rattle.key.specs.Key.{key_from}
 use Rattle.section.specs.Section.{read_of, header_of}
 use Rattle.section.specs.declared.Header.{Header}
-use Rattle.section.specs.declared.Reading.{Reading}
 use Rattle.file_number.specs.Number.{spelling, spelt}
 use Rattle.file_number.proofs.Bounds.{spelt-1-long, spelt-2-long}
 use Rattle.file.specs.Layout.{form, most_counted, shortest, longest, largest_file, listed, file_of, same_table, Rising, SoundTable}
@@ -44,7 +44,7 @@ abbrev fulls : ℕ → ℕ → List (List ℕ)
 fulls zero n = []
 fulls (suc k) n = full n ∷ fulls k (n + 1)
 
-full-sound : (n : ℕ) → n ≤ 15 → read_of (full n) ≡ Reading.Sound (header_of (full n))
+full-sound : (n : ℕ) → n ≤ 15 → read_of (full n) ≡ Ok (header_of (full n))
 unfolding read_of
 full-sound n l = rw (le-ltb 15 n l)
 

@@ -2,13 +2,13 @@
 --   longest_list   the file of sixteen full sections of an NRT-IT has a list of 421 bytes
 use mathlib.Core.Path.{◌≡◌, refl, ap, ◌∙◌}
 use mathlib.Core.List.{List, ◌∷◌, ◌++◌}
-use Prim.Native.Nat.{ℕ, ◌+◌, ◌<◌, ◌≤◌}
+use Prim.Native.Nat.{ℕ, ◌≤◌}
 use native.Mathlib.Omega.{arith}
 use lib.ListN.{length, replicate}
 use borrow.Author.Tests.{le-ltb}
+use Rattle.std.specs.Prelude.{Ok}
 use Rattle.key.specs.Key.{key_from}
 use Rattle.section.specs.Section.{read_of, header_of}
-use Rattle.section.specs.declared.Reading.TheVariants.{Sound}
 use Rattle.file.specs.Layout.{same_table}
 use Rattle.file_listing.specs.Words.{place, places, decimal, long_decimal, lines}
 use Rattle.file_listing.specs.Listing.{added_words, head_line, section_line, complete_line}
@@ -20,7 +20,7 @@ abbrev full : ℕ → List ℕ
 full n =
     0xDF ∷ 0x73 ∷ 0xFD ∷ 0xC3 ∷ 0x50 ∷ 0xFF ∷ n ∷ 15 ∷ 0xC3 ∷ 0x50 ∷ 0xEE ∷ 0x6B ∷ 0x28 ∷ 0x00 ∷ replicate 1010 0
 
-full-sound : (n : ℕ) → n ≤ 15 → read_of (full n) ≡ Sound (header_of (full n))
+full-sound : (n : ℕ) → n ≤ 15 → read_of (full n) ≡ Ok (header_of (full n))
 unfolding read_of
 full-sound n l = rw (le-ltb 15 n l)
 

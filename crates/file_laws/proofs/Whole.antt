@@ -16,15 +16,15 @@ use Rattle.base.specs.Bytes.{part}
 use Rattle.base.proofs.Cases.{same_or, unlike}
 use Rattle.base.proofs.Below.{every-all}
 use Rattle.base.proofs.Bytes.{length_part}
+use Rattle.std.specs.Prelude.{Ok}
 use Rattle.section.specs.Section.{read_of, header_of}
 use Rattle.section.specs.declared.Header.{Header}
-use Rattle.section.specs.declared.Reading.TheVariants.{Sound}
 use Rattle.section.proofs.Laws.{sound-facts}
 use Rattle.file.specs.Layout.{file_of, same_table, Rising, SoundTable}
-use Rattle.file.specs.Scan.{scan_of, table_in, found_at, found_in}
-use Rattle.file.specs.declared.Scan.{Scan}
+use Rattle.file.specs.Scan.{heading, scan_of, table_in, found_at, found_in, sections_in}
 use Rattle.file.proofs.Found.{sound-header}
 use Rattle.file.proofs.Held.{Lies, held}
+use Rattle.file.proofs.Heading.{Headed, headed}
 use Rattle.file_listing.specs.Words.{lines}
 use Rattle.file_listing.specs.Listing.{head_line, section_line, complete_line, section_of, end_of, table_text, text_of}
 use Rattle.file_laws.proofs.Accepts.{accepted-as, in-one-way}
@@ -72,7 +72,7 @@ module _ (section : ℕ → List ℕ) where
   -- the sections of one table, from 0 to its last number
   pub record Numbered (last : ℕ) : Type 0 where
     pub few : last ≤ 15
-    pub sound : (k : ℕ) → k ≤ last → read_of (section k) ≡ Sound (header_of (section k))
+    pub sound : (k : ℕ) → k ≤ last → read_of (section k) ≡ Ok (header_of (section k))
     pub shares : (k : ℕ) → k ≤ last → same_table (header_of (section 0)) (header_of (section k)) ≡ true
     pub number : (k : ℕ) → k ≤ last → (header_of (section k)).number ≡ k
     pub ends : (header_of (section 0)).last ≡ last
@@ -101,25 +101,32 @@ module _ (section : ℕ → List ℕ) where
     abbrev pub file_of_all : List ℕ
     file_of_all = file_of (sections_to (last + 1))
 
-    pub accepted-all : (scan_of file_of_all).answer ≡ Scan.Table (header_of (section 0))
+    pub accepted-all : heading (scan_of file_of_all) ≡ Ok (header_of (section 0))
     unfolding sections_from
-    accepted-all = ap (λ ss. (scan_of (file_of ss)).answer) all_from ∙ accepted-as (section 0) (sections_from 1 last) sound-from
+    accepted-all = ap (λ ss. heading (scan_of (file_of ss))) all_from ∙ accepted-as (section 0) (sections_from 1 last) sound-from
 
     pub holds-all : table_in file_of_all ≡ sections_to (last + 1)
     holds-all = in-one-way (sections_to (last + 1)) sound-all
 
+    -- the table that is read
+    read : Headed (scan_of file_of_all) (header_of (section 0))
+    read = headed (scan_of file_of_all) (header_of (section 0)) accepted-all
+
     -- the byte length that the file has for section k
     abbrev lengths : List ℕ
-    lengths = (scan_of file_of_all).lengths
+    lengths = read.table.lengths
 
     abbrev bytes_at : ℕ → List ℕ
-    bytes_at k = part file_of_all (get_or (scan_of file_of_all).starts k 0) (get_or lengths k 0)
+    bytes_at k = part file_of_all (get_or read.table.starts k 0) (get_or lengths k 0)
+
+    found : found_in file_of_all read.table.starts lengths ≡ sections_to (last + 1)
+    found = ap (sections_in file_of_all) (sym read.is) ∙ holds-all
 
     section-in : (k : ℕ) → k ≤ last → (n : ℕ) × (found_at lengths n ≡ true) × (section k ≡ bytes_at n)
     unfolding found_in
     section-in k l =
         mem-chosen (found_at lengths) bytes_at 16
-        (subst (Memᴰ (section k)) (sym holds-all) (in-sections (last + 1) k (omega arith)))
+        (subst (Memᴰ (section k)) (sym found) (in-sections (last + 1) k (omega arith)))
 
     its-length : (k : ℕ) → k ≤ last → get_or lengths k 0 ≡ length (section k)
     its-length k l = go (section-in k l)
@@ -128,13 +135,13 @@ module _ (section : ℕ → List ℕ) where
         go w =
             ⊎_elim
             (λ z. absurd (unlike (sym w.1 ∙ ap not (eq-eqb (get_or lengths w.0 0) 0 z))))
-            (λ (f : Lies file_of_all (header_of (section 0)) w.0 (get_or (scan_of file_of_all).starts w.0 0) (get_or lengths w.0 0)).
-            let reads : read_of (section k) ≡ Sound f.header = ap read_of w.2 ∙ f.sound in
+            (λ (f : Lies file_of_all read.table.header w.0 (get_or read.table.starts w.0 0) (get_or lengths w.0 0)).
+            let reads : read_of (section k) ≡ Ok f.header = ap read_of w.2 ∙ f.sound in
             let h : f.header ≡ header_of (section k) = sound-header (section k) f.header reads in
             let n : w.0 ≡ k = sym f.number ∙ ap (λ (x : Header). x.number) h ∙ each.number k l in
             let size : length (bytes_at w.0) ≡ get_or lengths w.0 0 = length_part file_of_all _ (get_or lengths w.0 0) f.inside in
             ap (λ m. get_or lengths m 0) (sym n) ∙ sym size ∙ ap length (sym w.2))
-            ((held file_of_all (header_of (section 0)) accepted-all).each w.0)
+            ((held file_of_all read.table read.is).each w.0)
 
     some : (k : ℕ) → k ≤ last → found_at lengths k ≡ true
     some k l =
@@ -165,4 +172,4 @@ module _ (section : ℕ → List ℕ) where
 
     pub lists-all : text_of file_of_all ≡ head_line (header_of (section 0)) ++ (lines (last + 1) line_at ++ complete_line)
     unfolding text_of
-    lists-all = rw accepted-all table-text
+    lists-all = rw (read.is, read.header) table-text
