@@ -1,12 +1,12 @@
 // The clock that applies activations to applications (document 01, "Applications and the clock").
-// Each call is lent the clock record, and a call that changes it leaves the next one there. Any record may be lent: a spoiled one is refused.
+// An offer and a move take the clock record and hand back the next one. Any record may be handed in: a spoiled one is refused.
 
 #![tactic(auto)]
 
 ghost use Rattle.std.specs.Prelude.{◌≡◌};
 ghost use Rattle.clock_record.specs.Book.{fresh};
 ghost use Rattle.clock_states.specs.States.{apps_in, states_word};
-ghost use Rattle.clock.specs.Record.{book_of, clock_of, left_by};
+ghost use Rattle.clock.specs.Record.{book_of, clock_of, left_by, offer_to, move_to};
 ghost use Rattle.clock.specs.Offer.{offer_in};
 ghost use Rattle.clock.specs.Move.{move_in};
 ghost use Rattle.clock.specs.Ask.{sound_in, time_in, state_in};
@@ -31,6 +31,13 @@ pub struct Clock {
 pub enum Heard {
     Applied,
     Waiting,
+}
+
+// The answer to a call, and the next record.
+#[derive(Drop)]
+pub struct Handed<T> {
+    pub clock: Clock,
+    pub answer: Result<T, Refusal>,
 }
 
 // The states' word has its states below this bit.
@@ -70,10 +77,8 @@ impl Clock {
         Ok(())
     }
 
-    // Hears an activation: one at or before the clock is applied now, and a later one waits. Refused are, in this order,
-    // a spoiled record, an application above 7, a time more than 60,000 before the clock, one that is held (the first heard
-    // stands, whatever the action), and where 32 are held. A refusal leaves the record as it was.
-    pub fn offer(&mut self, a: Activation) -> Result<Heard, Refusal>
+    // One at or before the clock is applied now, and a later one waits.
+    fn hear(&mut self, a: Activation) -> Result<Heard, Refusal>
         ensures value { result ≡ (offer_in (book_of self.old) a).answer }
         ensures record_after { self.new ≡ left_by self.old (offer_in (book_of self.old) a) }
     {
@@ -109,9 +114,8 @@ impl Clock {
         Ok(Heard::Waiting)
     }
 
-    // Moves the clock: each waiting activation that it reaches is applied, in order of time, then application, then event,
-    // and the answer is how many. Refused are a spoiled record and then a move back, and the record is then as it was.
-    pub fn move_to(&mut self, to: u32) -> Result<usize, Refusal>
+    // Each waiting one that a move reaches is applied.
+    fn advance(&mut self, to: u32) -> Result<usize, Refusal>
         ensures value { result ≡ (move_in (book_of self.old) to).answer }
         ensures record_after { self.new ≡ left_by self.old (move_in (book_of self.old) to) }
     {
@@ -122,6 +126,28 @@ impl Clock {
         let ran = run(to, &self.words);
         self.words = keep(to, ran.states, &self.words);
         Ok(ran.count)
+    }
+
+    // Hears an activation: one at or before the clock is applied now, and a later one waits. Refused are, in this order,
+    // a spoiled record, an application above 7, a time more than 60,000 before the clock, one that is held (the first heard
+    // stands, whatever the action), and where 32 are held. A refusal hands the record back as it was. By value, as document 01
+    // names it: the call takes the record and hands back the next one.
+    pub fn offer(self, a: Activation) -> Handed<Heard>
+        ensures { result ≡ offer_to self a }
+    {
+        let mut clock = self;
+        let answer = clock.hear(a);
+        Handed { clock, answer }
+    }
+
+    // Moves the clock: each waiting activation that it reaches is applied, in order of time, then application, then event,
+    // and the answer is how many. Refused are a spoiled record and then a move back, and the record is then as it was.
+    pub fn move_to(self, to: u32) -> Handed<usize>
+        ensures { result ≡ move_to self to }
+    {
+        let mut clock = self;
+        let answer = clock.advance(to);
+        Handed { clock, answer }
     }
 
     // The clock's time. A spoiled record is refused.

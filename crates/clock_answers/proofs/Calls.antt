@@ -5,7 +5,7 @@
 --   offer-255, offer-35, offer-answered                of an offer
 --   move-35, move-answered, few                        of a move, which applies at most 32
 --   time-35, time-asked, state-35, state-asked         of the questions
-use mathlib.Core.Path.{◌≡◌, sym}
+use mathlib.Core.Path.{◌≡◌, sym, ap}
 use mathlib.Core.List.{List, [], ◌∷◌}
 use Prim.Native.Nat.{ℕ, ◌<◌, ◌≤◌}
 use native.Mathlib.Omega.{arith}
@@ -26,12 +26,14 @@ use Rattle.clock_record.proofs.Waiting.{due-fewer}
 use Rattle.clock_record.proofs.Back.{sized}
 use Rattle.clock.specs.declared.Clock.{Clock}
 use Rattle.clock.specs.declared.Heard.{Heard}
+use Rattle.clock.specs.declared.Handed.{Handed}
+use Rattle.clock_activation.specs.declared.Activation.{Activation}
 use Rattle.clock.specs.Answered.{Answered}
 use Rattle.clock.specs.Offer.{offer_in}
 use Rattle.clock.specs.Move.{faults, advanced, move_in}
 use Rattle.clock.specs.Move as Move
 use Rattle.clock.specs.Ask.{time_in, state_in}
-use Rattle.clock.specs.Record.{book_of, left_with, left_by}
+use Rattle.clock.specs.Record.{book_of, left_with, left_by, offer_to, move_to}
 use Rattle.clock_answers.specs.Calls.{unsized, record_of, record_in, Left, refused, left_in, FewIn, fresh_on, offer_on, move_on, time_on, state_on}
 
 ok-same : {A : Type 0} {x y : A} → ◌≡◌ {A = Result A Refusal} (Ok x) (Ok y) → x ≡ y
@@ -73,6 +75,17 @@ module _ (w : List ℕ) where
   pub fresh-put : length w ≡ 67 → record { answer = Ok tt; words = words_of fresh } ≡ fresh_on w
   unfolding fresh_on
   fresh-put z = rw (eq-eqb _ _ z)
+
+-- what is handed back is the answer and the record of what the call makes
+pub offer-told : (c : Clock) (a : Activation) (h : Handed Heard) → h ≡ offer_to c a
+    → (h.answer ≡ (offer_in (book_of c) a).answer) × (h.clock ≡ left_by c (offer_in (book_of c) a))
+unfolding offer_to
+offer-told c a h e = (ap (λ x. x.answer) e, ap (λ x. x.clock) e)
+
+pub move-told : (c : Clock) (to : ℕ) (h : Handed ℕ) → h ≡ move_to c to
+    → (h.answer ≡ (move_in (book_of c) to).answer) × (h.clock ≡ left_by c (move_in (book_of c) to))
+unfolding move_to
+move-told c to h e = (ap (λ x. x.answer) e, ap (λ x. x.clock) e)
 
 -- a refused one leaves the record that was lent
 pub kept : {A : Type 0} (c : Clock) (x : Result A Refusal) (b : Book) (r : Refusal) → x ≡ Err r → left_with c x b ≡ c

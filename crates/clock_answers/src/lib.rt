@@ -63,14 +63,15 @@ fn offer(
     if LAST_ACTION < action {
         return Err(Refusal::NoSuchAction);
     }
-    let mut clock = record_in(words)?;
-    let heard = clock.offer(Activation {
+    let clock = record_in(words)?;
+    let next = clock.offer(Activation {
         application,
         event,
         action: action_of(u32::from(action)),
         time,
-    })?;
-    words.copy_from_slice(&clock.words);
+    });
+    let heard = next.answer?;
+    words.copy_from_slice(&next.clock.words);
     Ok(heard)
 }
 
@@ -96,9 +97,10 @@ fn move_to(words: &mut [u32], to: u32) -> Result<usize, Refusal>
     ensures value { result ≡ (move_on words.old to).answer }
     ensures words_after { words.new ≡ (move_on words.old to).words }
 {
-    let mut clock = record_in(words)?;
-    let applied = clock.move_to(to)?;
-    words.copy_from_slice(&clock.words);
+    let clock = record_in(words)?;
+    let next = clock.move_to(to);
+    let applied = next.answer?;
+    words.copy_from_slice(&next.clock.words);
     Ok(applied)
 }
 

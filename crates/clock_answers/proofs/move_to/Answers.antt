@@ -9,7 +9,7 @@ use Rattle.clock.specs.declared.Clock.{Clock}
 use Rattle.clock.specs.Move.{move_in}
 use Rattle.clock.specs.Record.{book_of}
 use Rattle.clock_answers.specs.Calls.{Left}
-use Rattle.clock_answers.proofs.Calls.{is-record, no-record, kept, move-35, move-answered}
+use Rattle.clock_answers.proofs.Calls.{is-record, no-record, kept, move-told, move-35, move-answered}
 use Rattle.clock_answers.proofs.move_to.Goals as goal
 
 pub returns-in_err-clock-clause-value : goal.returns-in_err-clock-clause-value
@@ -27,31 +27,31 @@ returns-in_err-applied-clause-value c = let w = c.args.words.now in
     let y = is-record w (sym c.in_ok-clock.was ∙ c.record_in.ensures) in
     handed_on c.from_residual-in_err-applied.result c.from_residual-in_err-applied.ensures.1
     ∙ sym c.in_err-applied.was
-    ∙ c.move_to.ensures.value
+    ∙ (move-told _ _ _ c.move_to-next.ensures).0
     ∙ ap (λ (x : Left ℕ). x.answer) (move-answered w c.args.to y.0 c.in_ok-clock.clock y.1)
 
 pub returns-in_err-applied-clause-words_after : goal.returns-in_err-applied-clause-words_after
 returns-in_err-applied-clause-words_after c = let w = c.args.words.now in
     let y = is-record w (sym c.in_ok-clock.was ∙ c.record_in.ensures) in
     let r = move_in (book_of c.in_ok-clock.clock) c.args.to in
-    sym (ap (λ (x : Clock). x.words) (kept c.in_ok-clock.clock r.answer r.book _ (sym c.move_to.ensures.value ∙ c.in_err-applied.was) ∙ y.1))
+    sym (ap (λ (x : Clock). x.words) (kept c.in_ok-clock.clock r.answer r.book _ (sym (move-told _ _ _ c.move_to-next.ensures).0 ∙ c.in_err-applied.was) ∙ y.1))
     ∙ ap (λ (x : Left ℕ). x.words) (move-answered w c.args.to y.0 c.in_ok-clock.clock y.1)
 
 pub copy_from_slice-requires : goal.copy_from_slice-requires
 copy_from_slice-requires c =
     let y = is-record c.args.words.now (sym c.in_ok-clock.was ∙ c.record_in.ensures) in
-    let e : length c.move_to.new.self.words ≡ 67 = search rules in y.0 ∙ sym e
+    let e : length c.move_to-next.result.clock.words ≡ 67 = search rules in y.0 ∙ sym e
 
 pub returns-clause-value : goal.returns-clause-value
 returns-clause-value c = let w = c.args.words.now in
     let y = is-record w (sym c.in_ok-clock.was ∙ c.record_in.ensures) in
     sym c.in_ok-applied.was
-    ∙ c.move_to.ensures.value
+    ∙ (move-told _ _ _ c.move_to-next.ensures).0
     ∙ ap (λ (x : Left ℕ). x.answer) (move-answered w c.args.to y.0 c.in_ok-clock.clock y.1)
 
 pub returns-clause-words_after : goal.returns-clause-words_after
 returns-clause-words_after c = let w = c.args.words.now in
     let y = is-record w (sym c.in_ok-clock.was ∙ c.record_in.ensures) in
     c.copy_from_slice.ensures.after
-    ∙ ap (λ (x : Clock). x.words) c.move_to.ensures.record_after
+    ∙ ap (λ (x : Clock). x.words) (move-told _ _ _ c.move_to-next.ensures).1
     ∙ ap (λ (x : Left ℕ). x.words) (move-answered w c.args.to y.0 c.in_ok-clock.clock y.1)

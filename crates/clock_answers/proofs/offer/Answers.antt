@@ -8,7 +8,7 @@ use Rattle.clock_activation.specs.Places.{action_no}
 use Rattle.clock.specs.declared.Clock.{Clock}
 use Rattle.clock.specs.declared.Heard.{Heard}
 use Rattle.clock_answers.specs.Calls.{Left}
-use Rattle.clock_answers.proofs.Calls.{is-record, no-record, kept, offer-255, offer-35, heard, offer-answered}
+use Rattle.clock_answers.proofs.Calls.{is-record, no-record, kept, offer-told, offer-255, offer-35, heard, offer-answered}
 use Rattle.clock_answers.proofs.offer.Goals as goal
 
 pub returns-then-action-gt-LAST_ACTION-clause-value : goal.returns-then-action-gt-LAST_ACTION-clause-value
@@ -36,7 +36,7 @@ returns-in_err-heard-clause-value c = let g = c.args in
     let y = is-record g.words.now (sym c.in_ok-clock.was ∙ c.record_in.ensures) in
     handed_on c.from_residual-in_err-heard.result c.from_residual-in_err-heard.ensures.1
     ∙ sym c.in_err-heard.was
-    ∙ c.offer.ensures.value
+    ∙ (offer-told _ _ _ c.offer-next.ensures).0
     ∙ ap (λ (x : Left Heard). x.answer)
     (offer-answered g.words.now g.application g.event g.action g.time c.if-action-gt-LAST_ACTION.false y.0 c.in_ok-clock.clock y.1 c.action_of.result (c.action_of.ensures ∙ ap action_no c.from.ensures))
 
@@ -45,20 +45,20 @@ returns-in_err-heard-clause-words_after c = let g = c.args in
     let y = is-record g.words.now (sym c.in_ok-clock.was ∙ c.record_in.ensures) in
     let q = c.action_of.ensures ∙ ap action_no c.from.ensures in
     let r = heard g.words.now g.application g.event g.action g.time c.if-action-gt-LAST_ACTION.false y.0 c.in_ok-clock.clock y.1 c.action_of.result q in
-    sym (ap (λ (x : Clock). x.words) (kept c.in_ok-clock.clock r.answer r.book _ (sym c.offer.ensures.value ∙ c.in_err-heard.was) ∙ y.1))
+    sym (ap (λ (x : Clock). x.words) (kept c.in_ok-clock.clock r.answer r.book _ (sym (offer-told _ _ _ c.offer-next.ensures).0 ∙ c.in_err-heard.was) ∙ y.1))
     ∙ ap (λ (x : Left Heard). x.words)
     (offer-answered g.words.now g.application g.event g.action g.time c.if-action-gt-LAST_ACTION.false y.0 c.in_ok-clock.clock y.1 c.action_of.result q)
 
 pub copy_from_slice-requires : goal.copy_from_slice-requires
 copy_from_slice-requires c =
     let y = is-record c.args.words.now (sym c.in_ok-clock.was ∙ c.record_in.ensures) in
-    let e : length c.offer.new.self.words ≡ 67 = search rules in y.0 ∙ sym e
+    let e : length c.offer-next.result.clock.words ≡ 67 = search rules in y.0 ∙ sym e
 
 pub returns-clause-value : goal.returns-clause-value
 returns-clause-value c = let g = c.args in
     let y = is-record g.words.now (sym c.in_ok-clock.was ∙ c.record_in.ensures) in
     sym c.in_ok-heard.was
-    ∙ c.offer.ensures.value
+    ∙ (offer-told _ _ _ c.offer-next.ensures).0
     ∙ ap (λ (x : Left Heard). x.answer)
     (offer-answered g.words.now g.application g.event g.action g.time c.if-action-gt-LAST_ACTION.false y.0 c.in_ok-clock.clock y.1 c.action_of.result (c.action_of.ensures ∙ ap action_no c.from.ensures))
 
@@ -66,6 +66,6 @@ pub returns-clause-words_after : goal.returns-clause-words_after
 returns-clause-words_after c = let g = c.args in
     let y = is-record g.words.now (sym c.in_ok-clock.was ∙ c.record_in.ensures) in
     c.copy_from_slice.ensures.after
-    ∙ ap (λ (x : Clock). x.words) c.offer.ensures.record_after
+    ∙ ap (λ (x : Clock). x.words) (offer-told _ _ _ c.offer-next.ensures).1
     ∙ ap (λ (x : Left Heard). x.words)
     (offer-answered g.words.now g.application g.event g.action g.time c.if-action-gt-LAST_ACTION.false y.0 c.in_ok-clock.clock y.1 c.action_of.result (c.action_of.ensures ∙ ap action_no c.from.ensures))
