@@ -10,7 +10,7 @@ use key::Key;
 use refusal::Refusal;
 
 // A section that is not there has length 0.
-#[derive(Drop)]
+#[derive(Clone, Copy, Debug, PartialEq, Eq)]
 pub struct Table {
     pub key: Key,
     pub version: u16,
@@ -31,7 +31,6 @@ fn put(t: Table, fields: &mut [u16])
     requires { 23 ≤ length fields.old }
     ensures { fields.new ≡ table_numbers t ++ drop 23 fields.old }
 {
-    let lengths = t.lengths;
     let key = t.key;
     fields[0] = u16::from(key.table);
     fields[1] = key.extension;
@@ -40,11 +39,7 @@ fn put(t: Table, fields: &mut [u16])
     fields[4] = key::low(key.start);
     fields[5] = t.version;
     fields[6] = t.last;
-    let mut n: usize = 0;
-    while n < LENGTHS {
-        fields[HEAD + n] = lengths[n];
-        n += 1;
-    }
+    fields[HEAD..FIELDS].copy_from_slice(&t.lengths);
 }
 
 // Puts a table's numbers at the front of the buffer, and answers 0; 15 where they do not fit.
