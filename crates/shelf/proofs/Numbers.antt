@@ -5,25 +5,26 @@
 --   key-told, free-told           what a search looks at
 --   among-place, among-free, among-key, among-version, among-last, among-length   what is found in 96 numbers
 --   at-id, at-further             the table id and the extension of the key in a place
---   no-key-count, no-key-place, found-key, key-read   the key in a place, as it is read
+--   key-summed, rest-summed, key-read   numbers of a place put together
+--   found-key                     the key in a place
 --   number-other, other-same, service-other, start-decides     whether a place has the table of a key
 use mathlib.Core.Path.{◌≡◌, refl, sym, ap, ◌∙◌}
 use mathlib.Core.Bool.{Bool, true, false, not, ◌&&◌}
 use mathlib.Core.List.{List}
-use Prim.Native.Nat.{ℕ, zero, suc, ◌+◌, ◌*◌, ◌/◌, ◌%◌, ◌<◌, ◌≤◌}
+use Prim.Native.Nat.{ℕ, zero, suc, ◌+◌, ◌*◌, ◌/◌, ◌%◌, ◌<◌}
 use native.Mathlib.Omega.{arith}
 use lib.Dec.{eqb}
 use lib.ListN.{length, get_or}
-use borrow.Author.Tests.{eq-eqb, ne_eqb, eqb-true, eqb-false, lt-ltb, le-ltb}
+use borrow.Author.Tests.{eq-eqb, ne_eqb, eqb-true, eqb-false, lt-ltb}
 use Rattle.base.specs.Below.{some}
 use Rattle.base.proofs.Cases.{by, unlike, and_left, and_right}
-use Rattle.shelf.specs.Record.{no_key, length_at, holds, spoiled_place, spoiled_of, place_at, fresh, has_key, place_of, free_of}
+use Rattle.shelf.specs.Record.{length_at, holds, spoiled_place, spoiled_of, place_at, fresh, has_key, place_of, free_of}
 use Rattle.key.specs.declared.Key.{Key}
 use Rattle.key.specs.Key.{nrt_it, key_from}
 use Rattle.key.proofs.Keys.{Proper, begins_with, ends_with}
 use Rattle.base.specs.Bits.{bit}
 use Rattle.shelf.specs.Layout.{key_number, rest_number, key_at, number_for, length_in, lengths_in, table_in, taken_in, place_in, shelf_in, shelf_at, no_record}
-use Rattle.shelf.specs.Calls.{has_place, has_section, key_among, rest_among, key_found, place_among, free_among, version_among, last_among, mask_among, length_among}
+use Rattle.shelf.specs.Calls.{has_place, has_section, number_among, key_among, rest_among, key_found, place_among, free_among, version_among, last_among, mask_among, length_among}
 use Rattle.shelf.proofs.Lists.{get_d-listed}
 
 -- 96 numbers, or none
@@ -104,15 +105,6 @@ apart-still : (a b c : Bool) → a && b ≡ false → a && (b && c) ≡ false
 apart-still true b c e = rw e
 apart-still false b c e = refl
 
--- where there is no place there is no key
-pub no-key-count : (words : List ℕ) (p : ℕ) → (length words ≡ 96 → ⊥) → key_found words p ≡ no_key
-unfolding key_found
-no-key-count words p d = rw (ne_eqb (length words) 96 d)
-
-pub no-key-place : (words : List ℕ) (p : ℕ) → length words ≡ 96 → 4 ≤ p → key_found words p ≡ no_key
-unfolding key_found
-no-key-place words p n h = rw (eq-eqb (length words) 96 n, le-ltb p 4 h)
-
 -- a start is another exactly when it is another with its halves exchanged
 turned : (h l s : ℕ) → h < 65536 → l < 65536 → s < 4294967296 → eqb (l * 65536 + h) (s % 65536 * 65536 + s / 65536) ≡ eqb (h * 65536 + l) s
 turned h l s a b c =
@@ -165,6 +157,36 @@ module _ (words : List ℕ) (p : ℕ) where
   unfolding key_at
   at-further = (begins_with _ _ _ _).further
 
+-- numbers of place p put together, as they are found in any numbers
+module _ (words : List ℕ) (p : ℕ) where
+  pub key-summed : {a b : ℕ} → a ≡ number_among words 64 4 p → b ≡ number_among words 65 4 p → a + 65536 * b ≡ key_among words p
+  unfolding key_among number_among
+  key-summed e f = rw (e, f) (by (has_place (length words) p) (λ t. rw t) (λ t. rw t))
+
+  pub rest-summed :
+      {a h l start : ℕ}
+      → a ≡ number_among words 84 3 p
+      → h ≡ number_among words 85 3 p
+      → l ≡ number_among words 86 3 p
+      → start ≡ h * 65536 + l
+      → a + 65536 * start ≡ rest_among words p
+  unfolding rest_among number_among
+  rest-summed e f g s = rw (e, s, f, g) (by (has_place (length words) p) (λ t. rw t) (λ t. rw t))
+
+  pub key-read :
+      {t e a h l start : ℕ}
+      {k : Key}
+      → t ≡ number_among words 64 4 p
+      → e ≡ number_among words 65 4 p
+      → a ≡ number_among words 84 3 p
+      → h ≡ number_among words 85 3 p
+      → l ≡ number_among words 86 3 p
+      → start ≡ h * 65536 + l
+      → k ≡ key_from (t % 256) e a start
+      → k ≡ key_found words p
+  unfolding key_found key_at number_among key_from
+  key-read i j m f g s k = k ∙ rw (i, j, m, s, f, g) (by (has_place (length words) p) (λ t. rw t) (λ t. rw t))
+
 module _ (words : List ℕ) (p : ℕ) (fits : length words ≡ 96) (hp : p < 4) where
   pub has-place : has_place (length words) p ≡ true
   has-place = rw (eq-eqb (length words) 96 fits, lt-ltb p 4 hp)
@@ -173,16 +195,16 @@ module _ (words : List ℕ) (p : ℕ) (fits : length words ≡ 96) (hp : p < 4) 
   has-section n h = rw (has-place, lt-ltb n 16 h)
 
   pub among-version : version_among words p ≡ get_or words (66 + 4 * p) 0
-  unfolding version_among
+  unfolding version_among number_among
   among-version = rw has-place
 
   pub among-last : last_among words p ≡ get_or words (67 + 4 * p) 0
-  unfolding last_among
+  unfolding last_among number_among
   among-last = rw has-place
 
   pub among-mask : mask_among words p ≡ get_or words (80 + p) 0
-  unfolding mask_among
-  among-mask = rw has-place
+  unfolding mask_among number_among
+  among-mask = let e : 1 * p ≡ p = omega arith in rw (has-place, e)
 
   pub among-length : (n : ℕ) → n < 16 → length_among words p n ≡ length_in words p n
   unfolding length_among
@@ -200,32 +222,13 @@ module _ (words : List ℕ) (p : ℕ) (fits : length words ≡ 96) (hp : p < 4) 
     pub number-not : (m ≡ n → ⊥) → eqb (key_number words p) n ≡ false
     number-not d = ne_eqb _ _ (λ e. d (i ∙ among-key ∙ e))
 
-  pub key-summed : {a b : ℕ} → a ≡ get_or words (64 + 4 * p) 0 → b ≡ get_or words (65 + 4 * p) 0 → a + 65536 * b ≡ key_among words p
-  key-summed e f = rw (e, f, among-key)
-
   pub among-rest : rest_among words p ≡ rest_number words p
   unfolding rest_among
   among-rest = rw has-place
 
-  pub rest-summed :
-      {a b : ℕ}
-      → a ≡ get_or words (84 + 3 * p) 0
-      → b ≡ get_or words (85 + 3 * p) 0 * 65536 + get_or words (86 + 3 * p) 0
-      → a + 65536 * b ≡ rest_among words p
-  rest-summed e f = rw (e, f, among-rest)
-
   pub found-key : key_found words p ≡ key_at words p
   unfolding key_found
   found-key = rw has-place
-
-  pub key-read :
-      {start : ℕ}
-      {k : Key}
-      → start ≡ get_or words (85 + 3 * p) 0 * 65536 + get_or words (86 + 3 * p) 0
-      → k ≡ key_from (get_or words (64 + 4 * p) 0 % 256) (get_or words (65 + 4 * p) 0) (get_or words (84 + 3 * p) 0) start
-      → k ≡ key_found words p
-  unfolding key_at
-  key-read e f = f ∙ rw e (sym found-key)
 
   -- against a key, where the numbers differ and where they are the same
   module _ {m n : ℕ} (key : Key) (t : key.table < 256) (h : get_or words (64 + 4 * p) 0 < 65536) (i : m ≡ key_among words p) (k : n ≡ number_for key) where

@@ -11,7 +11,7 @@ ghost use Rattle.key.specs.Theorems.{Proper};
 ghost use Rattle.shelf.specs.Record.{has_key, place_of};
 ghost use Rattle.base.specs.Bits.{bit};
 ghost use Rattle.shelf.specs.Layout.{count, held_length, key_number, place_in, shelf_in, number_for};
-ghost use Rattle.shelf.specs.Calls.{key_among, rest_among, key_found, place_among, free_among, version_among, last_among, mask_among, length_among, lengths_among};
+ghost use Rattle.shelf.specs.Calls.{number_among, key_among, rest_among, key_found, place_among, free_among, version_among, last_among, mask_among, length_among, lengths_among};
 
 use berth::{PLACES, SECTIONS};
 use key::Key;
@@ -30,20 +30,13 @@ pub const REST: usize = 3;
 
 pub const WORDS: usize = RESTS + REST * PLACES;
 
-// What stands for the key where there is no table.
-const NO_KEY: Key = Key {
-    table: 0,
-    extension: 0,
-    service: 0,
-    start: 0,
-};
-
 // Added to the table id of a taken place.
 pub const TAKEN: u16 = 256;
 
-// The first two numbers of the head of place p as one: whether it is taken, table id and extension. Where it differs, so do the tables.
-pub fn key_number(words: &[u16], p: usize) -> u32
-    ensures { result ≡ key_among words.now p }
+// The one of four numbers that is of place p: the first of them stands at a place of the record, and the next each so much later.
+fn number_of(words: &[u16], first: usize, each: usize, p: usize) -> u16
+    requires { first + each * 3 < count }
+    ensures { result ≡ number_among words.now first each p }
 {
     if words.len() != WORDS {
         return 0;
@@ -51,8 +44,15 @@ pub fn key_number(words: &[u16], p: usize) -> u32
     if PLACES <= p {
         return 0;
     }
-    let table = u32::from(words[HEADS + HEAD * p]);
-    let extension = u32::from(words[HEADS + 1 + HEAD * p]);
+    words[first + each * p]
+}
+
+// The first two numbers of the head of place p as one: whether it is taken, table id and extension. Where it differs, so do the tables.
+pub fn key_number(words: &[u16], p: usize) -> u32
+    ensures { result ≡ key_among words.now p }
+{
+    let table = u32::from(number_of(words, HEADS, HEAD, p));
+    let extension = u32::from(number_of(words, HEADS + 1, HEAD, p));
     table + 65536 * extension
 }
 
@@ -60,17 +60,11 @@ pub fn key_number(words: &[u16], p: usize) -> u32
 pub fn key_in(words: &[u16], p: usize) -> Key
     ensures { result ≡ key_found words.now p }
 {
-    if words.len() != WORDS {
-        return NO_KEY;
-    }
-    if PLACES <= p {
-        return NO_KEY;
-    }
-    let table = (words[HEADS + HEAD * p] % TAKEN) as u8;
-    let extension = words[HEADS + 1 + HEAD * p];
-    let service = words[RESTS + REST * p];
-    let high = words[RESTS + 1 + REST * p];
-    let low = words[RESTS + 2 + REST * p];
+    let table = (number_of(words, HEADS, HEAD, p) % TAKEN) as u8;
+    let extension = number_of(words, HEADS + 1, HEAD, p);
+    let service = number_of(words, RESTS, REST, p);
+    let high = number_of(words, RESTS + 1, REST, p);
+    let low = number_of(words, RESTS + 2, REST, p);
     key::from(table, extension, service, key::start_of(high, low))
 }
 
@@ -78,15 +72,10 @@ pub fn key_in(words: &[u16], p: usize) -> Key
 pub fn rest_number(words: &[u16], p: usize) -> u64
     ensures { result ≡ rest_among words.now p }
 {
-    if words.len() != WORDS {
-        return 0;
-    }
-    if PLACES <= p {
-        return 0;
-    }
-    let service = u32::from(words[RESTS + REST * p]) as u64;
-    let start = key::start_of(words[RESTS + 1 + REST * p], words[RESTS + 2 + REST * p]) as u64;
-    service + 65536 * start
+    let service = u64::from(number_of(words, RESTS, REST, p));
+    let high = number_of(words, RESTS + 1, REST, p);
+    let low = number_of(words, RESTS + 2, REST, p);
+    service + 65536 * u64::from(key::start_of(high, low))
 }
 
 // The first number where a table with that key is in the place.
@@ -106,8 +95,8 @@ fn exchanged(start: u32) -> u32
 }
 
 // Whether the list with that key is in place p.
-fn has_list(words: &[u16], p: usize, key: Key, number: u32) -> bool
-    requires { (length words.now ≡ count) × (p < places) × (key.table ≡ nrt_it) × (number ≡ number_for key) }
+fn has_list(words: &[u16; WORDS], p: usize, key: Key, number: u32) -> bool
+    requires { (p < places) × (key.table ≡ nrt_it) × (number ≡ number_for key) }
     ensures { result ≡ has_key (place_in words.now p) key }
 {
     if key_number(words, p) != number {
@@ -121,42 +110,37 @@ fn has_list(words: &[u16], p: usize, key: Key, number: u32) -> bool
 }
 
 // The place of a list's key.
-fn place_of_list(words: &[u16], key: Key, number: u32) -> usize
-    requires { (length words.now ≡ count) × (key.table ≡ nrt_it) × (number ≡ number_for key) }
+fn place_of_list(words: &[u16; WORDS], key: Key, number: u32) -> usize
+    requires { (key.table ≡ nrt_it) × (number ≡ number_for key) }
     ensures { (result ≡ place_of (shelf_in words.now) key) × (result ≤ places) }
 {
-    let mut p: usize = 0;
-    while p < PLACES {
+    for p in 0..PLACES {
         if has_list(words, p, key, number) {
             return p;
         }
-        p += 1;
     }
-    p
+    PLACES
 }
 
 // The lowest place whose head has that number, or 4.
-fn first_alike(words: &[u16], number: u32) -> usize
-    requires { length words.now ≡ count }
+fn first_alike(words: &[u16; WORDS], number: u32) -> usize
     ensures { (result ≡ lowest places (λ p. eqb (key_number words.now p) number)) × (result ≤ places) }
 {
-    let mut p: usize = 0;
-    while p < PLACES {
+    for p in 0..PLACES {
         if key_number(words, p) == number {
             return p;
         }
-        p += 1;
     }
-    p
+    PLACES
 }
 
 // The place of a key that four numbers say, as that of a section is, or 4 where it is not held. Of tables of other ids the first two numbers of a head decide.
 pub fn place_of_said(words: &[u16], key: Key) -> usize
     ensures { (Proper key → result ≡ place_among words.now key) × (result ≤ places) }
 {
-    if words.len() != WORDS {
+    let Ok(words) = <&[u16; WORDS]>::try_from(words) else {
         return PLACES;
-    }
+    };
     let number = number_for(key);
     if key.table == key::NRT_IT {
         return place_of_list(words, key, number);
@@ -169,7 +153,7 @@ pub fn place_of(words: &[u16], key: Key) -> usize
     ensures { (result ≡ place_among words.now key) × (result ≤ places) }
 {
     let said = key::from(key.table, key.extension, key.service, key.start);
-    if !key::same(said, key) {
+    if said != key {
         return PLACES;
     }
     place_of_said(words, key)
@@ -182,56 +166,33 @@ pub fn free_of(words: &[u16]) -> usize
     if words.len() != WORDS {
         return PLACES;
     }
-    let mut free: usize = 0;
-    while free < PLACES {
+    for free in 0..PLACES {
         if words[HEADS + HEAD * free] / TAKEN != 1 {
             return free;
         }
-        free += 1;
     }
-    free
+    PLACES
 }
 
 // The version of the table in place p.
 pub fn version_of(words: &[u16], p: usize) -> u16
     ensures { result ≡ version_among words.now p }
 {
-    if words.len() != WORDS {
-        return 0;
-    }
-    if PLACES <= p {
-        return 0;
-    }
-    let version = words[HEADS + 2 + HEAD * p];
-    version
+    number_of(words, HEADS + 2, HEAD, p)
 }
 
 // Its last number.
 pub fn last_of(words: &[u16], p: usize) -> u16
     ensures { result ≡ last_among words.now p }
 {
-    if words.len() != WORDS {
-        return 0;
-    }
-    if PLACES <= p {
-        return 0;
-    }
-    let last = words[HEADS + 3 + HEAD * p];
-    last
+    number_of(words, HEADS + 3, HEAD, p)
 }
 
 // Which of its sections are held: bit n is 1 for section n.
 pub fn mask_of(words: &[u16], p: usize) -> u16
     ensures { result ≡ mask_among words.now p }
 {
-    if words.len() != WORDS {
-        return 0;
-    }
-    if PLACES <= p {
-        return 0;
-    }
-    let mask = words[MASKS + p];
-    mask
+    number_of(words, MASKS, 1, p)
 }
 
 fn held_length(mask: u16, n: usize, size: u16) -> u16
@@ -268,10 +229,8 @@ pub fn lengths_of(words: &[u16], p: usize) -> [u16; 16]
     ensures { result ≡ lengths_among words.now p }
 {
     let mut lengths = [0u16; 16];
-    let mut n: usize = 0;
-    while n < SECTIONS {
+    for n in 0..SECTIONS {
         lengths[n] = length_of(words, p, n);
-        n += 1;
     }
     lengths
 }

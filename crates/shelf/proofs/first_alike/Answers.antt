@@ -7,12 +7,12 @@ use Rattle.shelf.proofs.Numbers.{number-told, number-not}
 use Rattle.shelf.proofs.first_alike.Goals as goal
 
 pub loop-p-init : goal.loop-p-init
-loop-p-init c = (search rules, search rules, lowest-none _)
+loop-p-init c = lowest-none _
 
 pub returns-then-key_number-number : goal.returns-then-key_number-number
 returns-then-key_number-number c = let k = c.loop-p in
-    (sym (lowest-found _ 4 k.p (omega arith) k.invariant.2 (number-told _ k.p k.invariant.1 (omega arith) c.key_number.ensures c.if-key_number-number.true)), search rules)
+    (sym (lowest-found _ 4 k.p (omega arith) k.invariant (number-told _ k.p (search rules) (omega arith) c.key_number.ensures c.if-key_number-number.true)), search rules)
 
 pub loop-p-preserved : goal.loop-p-preserved
 loop-p-preserved c = let k = c.loop-p in
-    (search rules, k.invariant.1, lowest-more _ k.p k.invariant.2 (number-not _ k.p k.invariant.1 (omega arith) c.key_number.ensures c.if-key_number-number.false))
+    lowest-more _ k.p k.invariant (number-not _ k.p (search rules) (omega arith) c.key_number.ensures c.if-key_number-number.false)

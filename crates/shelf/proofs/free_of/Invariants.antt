@@ -1,7 +1,6 @@
 -- `shelf::free_of` meets its promise: the search for the lowest place that is free.
 use mathlib.Core.Path.{◌≡◌}
 use mathlib.Core.Bool.{not}
-use Prim.Native.Nat.{◌≤◌, ◌-◌}
 use lib.ListN.{length}
 use Rattle.base.specs.Below.{lowest}
 use Rattle.shelf.specs.Record.{place_at}
@@ -9,7 +8,4 @@ use Rattle.shelf.specs.Layout.{shelf_in}
 use Rattle.shelf.proofs.free_of.Given as goal
 
 abbrev pub invariant-loop-free : goal.invariant-loop-free
-invariant-loop-free l = (l.free ≤ 4) × (length l.words ≡ 96) × (lowest l.free (λ k. not (place_at (shelf_in l.words) k).taken) ≡ l.free)
-
-abbrev pub decreases-loop-free : goal.decreases-loop-free
-decreases-loop-free l = 4 - l.free
+invariant-loop-free l = (length l.words ≡ 96) × (lowest l.free (λ k. not (place_at (shelf_in l.words) k).taken) ≡ l.free)

@@ -5,4 +5,4 @@ use Rattle.shelf.proofs.lengths_of.Goals as goal
 
 pub returns : goal.returns
 returns c = let k = c.loop-n in
-    filled-all _ 16 _ _ (omega arith) k.invariant.1 k.invariant.2
+    filled-all _ 16 _ _ (omega arith) k.invariant.0 k.invariant.1

@@ -1,13 +1,9 @@
 -- `shelf::lengths_of` meets its promise: length by length.
 use mathlib.Core.Path.{◌≡◌}
-use Prim.Native.Nat.{◌≤◌, ◌-◌}
 use lib.ListN.{length}
 use Rattle.shelf.specs.Calls.{length_among}
 use Rattle.shelf.proofs.Lists.{Filled}
 use Rattle.shelf.proofs.lengths_of.Given as goal
 
 abbrev pub invariant-loop-n : goal.invariant-loop-n
-invariant-loop-n l = (l.n ≤ 16) × (length l.lengths ≡ 16) × Filled l.lengths l.n (length_among l.words l.p)
-
-abbrev pub decreases-loop-n : goal.decreases-loop-n
-decreases-loop-n l = 16 - l.n
+invariant-loop-n l = (length l.lengths ≡ 16) × Filled l.lengths l.n (length_among l.words l.p)

@@ -1,17 +1,7 @@
--- `shelf::version_of` meets its promise: each `return` is a case of the definition.
-use Rattle.base.proofs.Tests.{tests}
+-- `shelf::version_of` meets its promise.
 use Rattle.shelf.specs.Calls.{version_among}
-use borrow.Author.Rules.{rules}
 use Rattle.shelf.proofs.version_of.Goals as goal
-
-pub returns-then-words-ne-WORDS : goal.returns-then-words-ne-WORDS
-unfolding version_among
-returns-then-words-ne-WORDS c = search (tests, rules)
-
-pub returns-then-p-ge-PLACES : goal.returns-then-p-ge-PLACES
-unfolding version_among
-returns-then-p-ge-PLACES c = search (tests, rules)
 
 pub returns : goal.returns
 unfolding version_among
-returns c = search (tests, rules)
+returns c = c.number_of.ensures
