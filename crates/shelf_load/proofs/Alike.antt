@@ -11,15 +11,16 @@ use lib.ListN.{length}
 use borrow.Author.Tests.{eqb-false}
 use Rattle.base.proofs.Cases.{by}
 use Rattle.berth.specs.Berth.{places, store_size}
-use Rattle.section.specs.declared.Header.{Header}
 use Rattle.shelf.specs.Record.{spoiled_of, place_of, free_of, Same}
 use Rattle.shelf.specs.Record.{Shelf}
 use Rattle.shelf.proofs.Equal.{Four, same-spoiled, same_place, same-free, same-with}
 use Rattle.shelf.proofs.Find.{free-le}
 use Rattle.shelf.specs.Record.{key_of}
 use Rattle.file.specs.Scan.{scan_of}
-use Rattle.file.specs.declared.Scan.{Scan}
-use Rattle.file.specs.declared.Scanned.{Scanned}
+use Rattle.std.specs.Prelude.{Result, Ok, Err}
+use Rattle.refusal.specs.declared.Refusal.{Refusal}
+use Rattle.refusal.specs.declared.Refusal.TheVariants.{NoFreePlace, KeyHeld, StoreSize, ShelfSpoiled}
+use Rattle.file.specs.declared.Table.{Table}
 use Rattle.shelf_load.specs.Load.{After, loaded_place, no, table_of, answered, load_of}
 
 pub record Alike (x y : After) : Type 0 where
@@ -28,30 +29,31 @@ pub record Alike (x y : After) : Type 0 where
   pub shelf : Same x.shelf y.shelf
 
 module _ (a b : Shelf) (s : Same a b) (fa : Four a) (fb : Four b) (store file : List ℕ) where
-  same-no : (n : ℕ) → Alike (no a store file n) (no b store file n)
-  same-no n = record { said = refl; store = refl; shelf = s }
+  same-no : (r : Refusal) → Alike (no a store file r) (no b store file r)
+  same-no r = record { said = refl; store = refl; shelf = s }
 
-  same-table : (scanned : Scanned) (h : Header) → Alike (table_of a store file scanned h) (table_of b store file scanned h)
+  same-table : (table : Table) → Alike (table_of a store file table) (table_of b store file table)
   unfolding table_of
-  same-table scanned h =
+  same-table table =
+      let h = table.header in
       rw (← same_place a b s (key_of h), ← same-free a b s)
       (by (eqb (place_of a (key_of h)) places)
       (λ k.
       by (eqb (free_of a) places)
-      (λ f. rw (k, f) (same-no 9))
+      (λ f. rw (k, f) (same-no NoFreePlace))
       (λ f.
       let n : free_of a ≡ places → ⊥ = eqb-false _ _ f in
       rw (k, f)
       (record {
         said = refl;
         store = refl;
-        shelf = same-with a b s fa fb (free_of a) (omega (arith, free-le a)) (loaded_place h scanned.lengths);
+        shelf = same-with a b s fa fb (free_of a) (omega (arith, free-le a)) (loaded_place h table.lengths);
       })))
-      (λ k. rw k (same-no 13)))
+      (λ k. rw k (same-no KeyHeld)))
 
-  same-answered : (scanned : Scanned) (r : Scan) → Alike (answered a store file scanned r) (answered b store file scanned r)
-  same-answered scanned (Scan.Table h) = same-table scanned h
-  same-answered scanned (Scan.Refused n) = same-no n
+  same-answered : (r : Result Table Refusal) → Alike (answered a store file r) (answered b store file r)
+  same-answered (Ok table) = same-table table
+  same-answered (Err r) = same-no r
 
   pub load_same : Alike (load_of a store file) (load_of b store file)
   unfolding load_of
@@ -60,6 +62,6 @@ module _ (a b : Shelf) (s : Same a b) (fa : Four a) (fb : Four b) (store file : 
       (by (eqb (length store) store_size)
       (λ w.
       by (spoiled_of a)
-      (λ t. rw (w, t) (same-no 18))
-      (λ t. rw (w, t) (same-answered (scan_of file) (scan_of file).answer)))
-      (λ w. rw w (same-no 17)))
+      (λ t. rw (w, t) (same-no ShelfSpoiled))
+      (λ t. rw (w, t) (same-answered (scan_of file))))
+      (λ w. rw w (same-no StoreSize)))

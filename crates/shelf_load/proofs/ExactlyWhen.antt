@@ -22,6 +22,11 @@ use Rattle.base.specs.Tables.{Rule, ◌says◌, None, above, said, Agree, Decide
 use Rattle.base.proofs.Cases.{by}
 use Rattle.base.proofs.Tables.{words, given, passed, silent, among}
 use Rattle.section.specs.declared.Header.{Header}
+use Rattle.std.specs.Prelude.{Result, Ok, Err}
+use Rattle.refusal.specs.Refusal.{number as number_for, number_of}
+use Rattle.refusal.specs.declared.Refusal.{Refusal}
+use Rattle.refusal.specs.declared.Refusal.TheVariants as refusal
+use Rattle.refusal.proofs.Numbers.{once}
 use Rattle.berth.specs.Berth.{sections, places, store_size}
 use Rattle.shelf.specs.Record.{place_at, with_place, spoiled_of, place_of, free_of}
 use Rattle.key.specs.declared.Key.{Key}
@@ -30,10 +35,8 @@ use Rattle.shelf.proofs.Find.{place-le, place-has}
 use Rattle.shelf.proofs.Words.{Some, HasKey, has-key, Spoiled, decided, not-held, none_free}
 use Rattle.shelf.specs.Record.{key_of}
 use Rattle.file.specs.Scan.{scan_of}
-use Rattle.file.specs.declared.Scan.{Scan}
-use Rattle.file.specs.declared.Scanned.{Scanned}
-use Rattle.shelf_load.specs.Load.{After, number_of, loaded_place, stored_below, no, table_of, answered, load_of}
-use Rattle.shelf_load.specs.declared.Loaded.{Loaded}
+use Rattle.file.specs.declared.Table.{Table}
+use Rattle.shelf_load.specs.Load.{After, loaded_place, stored_below, no, table_of, answered, load_of}
 use Rattle.shelf_load.proofs.Faults.{FileFault, scan-range}
 
 -- the number of what a call leaves
@@ -97,26 +100,26 @@ module _ (shelf : Shelf) (store file : List ℕ) where
 
   -- the file holds a table of which that is so
   abbrev pub Holds : (Header → Type 0) → Type 0
-  Holds p = (h : Header) × ((scan_of file).answer ≡ Scan.Table h) × p h
+  Holds p = (t : Table) × (scan_of file ≡ Ok t) × p t.header
 
   abbrev pub number : ℕ
   number = num (load_of shelf store file)
 
-  abbrev refuse : ℕ → After
+  abbrev refuse : Refusal → After
   refuse = no shelf store file
 
   abbrev early-rows : List Row
-  early-rows = 17 if not (eqb (length store) store_size) ∷ 18 if spoiled_of shelf ∷ []
+  early-rows = refusal.StoreSize if not (eqb (length store) store_size) ∷ refusal.ShelfSpoiled if spoiled_of shelf ∷ []
 
   abbrev late-rows : Header → List Row
-  late-rows h = 13 if not (eqb (place_of shelf (key_of h)) places) ∷ 9 if eqb (free_of shelf) places ∷ []
+  late-rows h = refusal.KeyHeld if not (eqb (place_of shelf (key_of h)) places) ∷ refusal.NoFreePlace if eqb (free_of shelf) places ∷ []
 
-  abbrev done : Scanned → Header → After
-  done scanned h =
+  abbrev done : Table → After
+  done table =
       record {
-        said = Loaded.Done;
-        shelf = with_place shelf (free_of shelf) (loaded_place h scanned.lengths);
-        store = stored_below sections file scanned.starts scanned.lengths store (free_of shelf);
+        said = Ok tt;
+        shelf = with_place shelf (free_of shelf) (loaded_place table.header table.lengths);
+        store = stored_below sections file table.starts table.lengths store (free_of shelf);
       }
 
   early-so : Agree early-rows early
@@ -125,57 +128,60 @@ module _ (shelf : Shelf) (store file : List ℕ) where
   late-so : (h : Header) → Agree (late-rows h) (late h)
   late-so h = search (words, key-held, none_free)
 
-  module _ (scanned : Scanned) (h : Header) where
-    late-given : (n : ℕ) → 0 < n → (num (table_of shelf store file scanned h) ≡ n) ↔ (None (above n (late h)) × said n (late h))
-    unfolding table_of
-    late-given n p = given refuse num (λ n. refl) (late-rows h) (done scanned h) (late h) (late-so h) refl n (omega arith)
+  module _ (table : Table) where
+    abbrev h : Header
+    h = table.header
 
-    late-none : (num (table_of shelf store file scanned h) ≡ 0) ↔ None (late h)
+    late-given : (n : ℕ) → 0 < n → (num (table_of shelf store file table) ≡ n) ↔ (None (above n (late h)) × said n (late h))
     unfolding table_of
-    late-none = Iff.trans (passed refuse num (λ n. refl) (late-rows h) (done scanned h) (late h) (late-so h) 0 refl) (λ w. w.0, λ w. (w, refl))
+    late-given n p = given refuse num (λ n. refl) (late-rows h) (done table) (late h) (late-so h) refl n (omega arith)
 
-    late-done : None (late h) → table_of shelf store file scanned h ≡ done scanned h
+    late-none : (num (table_of shelf store file table) ≡ 0) ↔ None (late h)
     unfolding table_of
-    late-done w = silent refuse (late-rows h) (done scanned h) (late h) (late-so h) w
+    late-none = Iff.trans (passed refuse num (λ n. refl) (late-rows h) (done table) (late h) (late-so h) 0 refl) (λ w. w.0, λ w. (w, refl))
+
+    late-done : None (late h) → table_of shelf store file table ≡ done table
+    unfolding table_of
+    late-done w = silent refuse (late-rows h) (done table) (late h) (late-so h) w
 
     -- 13, 9 or none
-    late-range : (P : After → Type 0) → P (refuse 13) → P (refuse 9) → P (done scanned h) → P (table_of shelf store file scanned h)
+    late-range : (P : After → Type 0) → P (refuse refusal.KeyHeld) → P (refuse refusal.NoFreePlace) → P (done table) → P (table_of shelf store file table)
     unfolding table_of
-    late-range P a b c = among refuse P (late-rows h) (done scanned h) (a, (b, tt)) c
+    late-range P a b c = among refuse P (late-rows h) (done table) (a, (b, tt)) c
 
   -- what is answered of the file
   abbrev answer : After
-  answer = answered shelf store file (scan_of file) (scan_of file).answer
+  answer = answered shelf store file (scan_of file)
 
   -- by the two answers of the scan
-  module _ (P : After → Type 0) (f : (n : ℕ) → (scan_of file).answer ≡ Scan.Refused n → P (refuse n))
-      (t : (h : Header) → (scan_of file).answer ≡ Scan.Table h → P (table_of shelf store file (scan_of file) h)) where
+  module _ (P : After → Type 0) (f : (r : Refusal) → scan_of file ≡ Err r → P (refuse r))
+      (t : (table : Table) → scan_of file ≡ Ok table → P (table_of shelf store file table)) where
     by-scan : P answer
-    by-scan = go (scan_of file).answer refl
+    by-scan = go (scan_of file) refl
       where
-        go : (scan : Scan) → (scan_of file).answer ≡ scan → P (answered shelf store file (scan_of file) scan)
-        go (Scan.Refused n) e = f n e
-        go (Scan.Table h) e = t h e
+        go : (scan : Result Table Refusal) → scan_of file ≡ scan → P (answered shelf store file scan)
+        go (Err r) e = f r e
+        go (Ok table) e = t table e
 
-  apart : {n : ℕ} {h : Header} {A : Type 0} → (scan_of file).answer ≡ Scan.Refused n → (scan_of file).answer ≡ Scan.Table h → A
+  apart : {r : Refusal} {t : Table} {A : Type 0} → scan_of file ≡ Err r → scan_of file ≡ Ok t → A
   apart e q = absurd (let z : ◌≡◌ {A = ℕ} 0 1 = cc in omega arith)
 
-  one-header : {h k : Header} → (scan_of file).answer ≡ Scan.Table h → (scan_of file).answer ≡ Scan.Table k → h ≡ k
-  one-header e q = cc
+  one-table : {t u : Table} → scan_of file ≡ Ok t → scan_of file ≡ Ok u → t ≡ u
+  one-table e q = cc
 
   -- of a number that no fault of the file has
   held-so : (m : ℕ) → ((n : ℕ) → FileFault n → n ≡ m → ⊥) → (p : Header → Type 0)
-      → ((h : Header) → (num (table_of shelf store file (scan_of file) h) ≡ m) ↔ p h) → (num answer ≡ m) ↔ Holds p
+      → ((t : Table) → (num (table_of shelf store file t) ≡ m) ↔ p t.header) → (num answer ≡ m) ↔ Holds p
   held-so m none p t =
       by-scan (λ a. (num a ≡ m) ↔ Holds p)
-      (λ n e. (λ q. absurd (none n (scan-range file n e) q), λ w. apart e w.1))
-      (λ h e. (λ q. (h, e, (t h).0 q), λ w. (t h).1 (subst p (one-header w.1 e) w.2)))
+      (λ r e. (λ q. absurd (none (number_for r) (scan-range file r e) q), λ w. apart e w.1))
+      (λ u e. (λ q. (u, e, (t u).0 q), λ w. (t u).1 (subst p (ap (λ x. x.header) (one-table w.1 e)) w.2)))
 
   small : Late (num answer)
   small =
       by-scan (λ a. Late (num a))
-      (λ n e. (fault-other n (scan-range file n e)).late)
-      (λ h e. late-range (scan_of file) h (λ a. Late (num a)) (not-early 13 (omega arith)) (not-early 9 (omega arith)) (not-early 0 (omega arith)))
+      (λ r e. (fault-other (number_for r) (scan-range file r e)).late)
+      (λ t e. late-range t (λ a. Late (num a)) (not-early 13 (omega arith)) (not-early 9 (omega arith)) (not-early 0 (omega arith)))
 
   early-given : (n : ℕ) → (Late n → ⊥) → (number ≡ n) ↔ (None (above n early) × said n early)
   unfolding load_of
@@ -197,15 +203,16 @@ module _ (shelf : Shelf) (store file : List ℕ) where
   refused-18 = early-given 18 (λ l. l.1 refl)
 
   -- the first fault of the file from the left
-  pub refused-file : (n : ℕ) → FileFault n → (number ≡ n) ↔ (None early × ((scan_of file).answer ≡ Scan.Refused n))
-  refused-file n f =
+  pub refused-file : (r : Refusal) → FileFault (number_for r) → (number ≡ number_for r) ↔ (None early × (scan_of file ≡ Err r))
+  refused-file r f =
+      let n = number_for r in
       let k = fault-other n f in
       Iff.trans (late-passed n k.late)
       (within
-      (by-scan (λ a. (num a ≡ n) ↔ ((scan_of file).answer ≡ Scan.Refused n))
-      (λ m e. (λ q. e ∙ ap Scan.Refused q, λ q. cc))
-      (λ h e. (
-        λ q. late-range (scan_of file) h (λ a. num a ≡ n → (scan_of file).answer ≡ Scan.Refused n)
+      (by-scan (λ a. (num a ≡ n) ↔ (scan_of file ≡ Err r))
+      (λ m e. (λ q. e ∙ ap Err (once m r q), λ q. ap number_of (sym e ∙ q)))
+      (λ t e. (
+        λ q. late-range t (λ a. num a ≡ n → scan_of file ≡ Err r)
             (λ z. absurd (k.held (sym z))) (λ z. absurd (k.place (sym z))) (λ z. absurd (k.some (sym z))) q,
         λ q. apart q e,
       ))))
@@ -214,34 +221,34 @@ module _ (shelf : Shelf) (store file : List ℕ) where
   refused-13 =
       Iff.trans (late-passed 13 (not-early 13 (omega arith)))
       (within
-      (held-so 13 (λ n f e. (fault-other n f).held e) KeyHeld (λ h. Iff.trans (late-given (scan_of file) h 13 (omega arith)) true-and)))
+      (held-so 13 (λ n f e. (fault-other n f).held e) KeyHeld (λ t. Iff.trans (late-given t 13 (omega arith)) true-and)))
 
   pub refused-9 : (number ≡ 9) ↔ (None early × Holds (λ h. None (above 9 (late h)) × NoFreePlace))
   refused-9 =
       Iff.trans (late-passed 9 (not-early 9 (omega arith)))
-      (within (held-so 9 (λ n f e. (fault-other n f).place e) (λ h. None (above 9 (late h)) × NoFreePlace) (λ h. late-given (scan_of file) h 9 (omega arith))))
+      (within (held-so 9 (λ n f e. (fault-other n f).place e) (λ h. None (above 9 (late h)) × NoFreePlace) (λ t. late-given t 9 (omega arith))))
 
   pub not_refused : (number ≡ 0) ↔ (None early × Holds (λ h. None (late h)))
   not_refused =
       Iff.trans (late-passed 0 (not-early 0 (omega arith)))
-      (within (held-so 0 (λ n f e. (fault-other n f).some e) (λ h. None (late h)) (λ h. late-none (scan_of file) h)))
+      (within (held-so 0 (λ n f e. (fault-other n f).some e) (λ h. None (late h)) (λ t. late-none t)))
 
-  pub load-done : None early → (w : Holds (λ h. None (late h))) → load_of shelf store file ≡ done (scan_of file) w.0
+  pub load-done : None early → (w : Holds (λ h. None (late h))) → load_of shelf store file ≡ done w.0
   unfolding load_of
   load-done e w =
       silent refuse early-rows answer early early-so e
-      ∙ ap (answered shelf store file (scan_of file)) w.1
-      ∙ late-done (scan_of file) w.0 w.2
+      ∙ ap (answered shelf store file) w.1
+      ∙ late-done w.0 w.2
 
-  pub refused-untouched : (n : ℕ) → (load_of shelf store file).said ≡ Loaded.Refused n → load_of shelf store file ≡ refuse n
+  pub refused-untouched : (r : Refusal) → (load_of shelf store file).said ≡ Err r → load_of shelf store file ≡ refuse r
   unfolding load_of
-  refused-untouched n e =
+  refused-untouched r e =
       among refuse Untouched early-rows answer (λ q. same q, (λ q. same q, tt))
-      (by-scan Untouched (λ m _ q. same q) (λ h _. late-range (scan_of file) h Untouched (λ q. same q) (λ q. same q) (λ q. absurd (let z : ◌≡◌ {A = ℕ} 0 1 = cc in omega arith))))
+      (by-scan Untouched (λ m _ q. same q) (λ t _. late-range t Untouched (λ q. same q) (λ q. same q) (λ q. absurd (let z : ◌≡◌ {A = ℕ} 0 1 = cc in omega arith))))
       e
     where
       Untouched : After → Type 0
-      Untouched a = a.said ≡ Loaded.Refused n → a ≡ refuse n
+      Untouched a = a.said ≡ Err r → a ≡ refuse r
 
-      same : {m : ℕ} → Loaded.Refused m ≡ Loaded.Refused n → refuse m ≡ refuse n
-      same {m} q = let k : m ≡ n = cc in ap refuse k
+      same : {m : Refusal} → ◌≡◌ {A = Result (Unit {0}) Refusal} (Err m) (Err r) → refuse m ≡ refuse r
+      same {m} q = let k : m ≡ r = cc in ap refuse k

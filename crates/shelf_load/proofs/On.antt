@@ -1,7 +1,8 @@
 -- A load on lent numbers is the load on the record that they are.
 --   below-lent, loaded-lent                    the record after a table's head and lengths are written
 --   load_said, load-shelf, load_store          the load
-use Rattle.std.specs.Prelude.{if◌then◌else◌}
+use Rattle.std.specs.Prelude.{if◌then◌else◌, Result, Ok, Err}
+use Rattle.refusal.specs.declared.Refusal.{Refusal}
 use mathlib.Core.Path.{◌≡◌, refl, sym, ap, ◌∙◌}
 use mathlib.Core.Bool.{true, false, not}
 use mathlib.Core.List.{List}
@@ -33,9 +34,9 @@ use Rattle.shelf.proofs.Numbers.{at_count, spoiled-count, taken_at}
 use Rattle.shelf_write.proofs.Lent.{four, with_at, with-with, head-lent, head-fits, held-lent}
 use Rattle.file.specs.Scan.{scan_of}
 use Rattle.file.specs.Layout.{same_table}
-use Rattle.file.specs.declared.Scan.{Scan}
+use Rattle.file.specs.declared.Table.{Table}
 use Rattle.file.proofs.Held.{held}
-use Rattle.shelf_load.specs.declared.Loaded.{Loaded}
+use Rattle.refusal.specs.declared.Refusal.TheVariants.{StoreSize, ShelfSpoiled}
 use Rattle.shelf_load.specs.Load.{table_of, answered, load_of}
 use Rattle.shelf_load.specs.On.{held_below, table_by, words_by, load_on}
 use Rattle.shelf_load.proofs.Holding.{below_length}
@@ -135,20 +136,21 @@ record Narrow (h : Header) (lengths : List ℕ) : Type 0 where
   sixteen : length lengths ≡ 16
 
 module _ (file : List ℕ) (o : Octets file) where
-  narrow : (h : Header) → (scan_of file).answer ≡ Scan.Table h → Narrow h (scan_of file).lengths
+  narrow : (t : Table) → scan_of file ≡ Ok t → Narrow t.header t.lengths
   unfolding same_table
-  narrow h e =
-      let w = held file h e in
+  narrow t e =
+      let h = t.header in
+      let w = held file t e in
       let n = w.some.0 in
       ⊎_elim
       (λ z. absurd (let m = w.some.1 in omega (arith, m, z)))
       (λ l.
       let g = l.header in
-      let s = part file (get_or (scan_of file).starts n 0) (get_or (scan_of file).lengths n 0) in
+      let s = part file (get_or t.starts n 0) (get_or t.lengths n 0) in
       let k : h.key ≡ g.key = same_key_lem h.key g.key (and_left (same_key h.key g.key) _ l.shares) in
       let own : h.key ≡ key_in s = k ∙ ap (λ x. x.key) (sound-facts s g l.sound).header in
       record {
-        table = rw own (key_fits s (octets-part file (get_or (scan_of file).starts n 0) (get_or (scan_of file).lengths n 0) o)).table;
+        table = rw own (key_fits s (octets-part file (get_or t.starts n 0) (get_or t.lengths n 0) o)).table;
         proper = rw own (from_proper _ _ _ _);
         sixteen = w.sizes;
       })
@@ -158,20 +160,18 @@ module _ (file : List ℕ) (o : Octets file) where
     abbrev shelf : Shelf
     shelf = shelf_at words
 
-    abbrev lengths : List ℕ
-    lengths = (scan_of file).lengths
-
-    kept : (s : Scan) (n : ℕ) → words_by words (free_of shelf) lengths s (Loaded.Refused n) ≡ words
-    kept (Scan.Table h) n = refl
-    kept (Scan.Refused m) n = refl
+    kept : (s : Result Table Refusal) (r : Refusal) → words_by words (free_of shelf) s (Err r) ≡ words
+    kept (Ok table) r = refl
+    kept (Err q) r = refl
 
     table-shelf :
         spoiled_of shelf ≡ false
-        → (h : Header)
-        → Narrow h lengths
-        → shelf_at (table_by words (free_of shelf) lengths h (table_of shelf store file (scan_of file) h).said) ≡ (table_of shelf store file (scan_of file) h).shelf
+        → (table : Table)
+        → Narrow table.header table.lengths
+        → shelf_at (table_by words (free_of shelf) table (table_of shelf store file table).said) ≡ (table_of shelf store file table).shelf
     unfolding table_of
-    table-shelf u h g =
+    table-shelf u table g =
+        let h = table.header in
         by (eqb (place_of shelf (key_of h)) places)
         (λ a.
         by (eqb (free_of shelf) places)
@@ -180,26 +180,26 @@ module _ (file : List ℕ) (o : Octets file) where
         let d : free_of shelf ≡ places → ⊥ = eqb-false _ _ b in
         let l : free_of shelf < 4 = omega (arith, free-le shelf, d) in
         rw (a, b)
-        (loaded-lent words (spoiled-count words u) (free_of shelf) l (key_of h) h.version h.last g.table g.proper lengths g.sixteen)))
+        (loaded-lent words (spoiled-count words u) (free_of shelf) l (key_of h) h.version h.last g.table g.proper table.lengths g.sixteen)))
         (λ a. rw a)
 
     answer-shelf :
         spoiled_of shelf ≡ false
-        → (s : Scan)
-        → (scan_of file).answer ≡ s
-        → shelf_at (words_by words (free_of shelf) lengths s (answered shelf store file (scan_of file) s).said) ≡ (answered shelf store file (scan_of file) s).shelf
-    answer-shelf u (Scan.Table h) e = table-shelf u h (narrow h e)
-    answer-shelf u (Scan.Refused n) e = refl
+        → (s : Result Table Refusal)
+        → scan_of file ≡ s
+        → shelf_at (words_by words (free_of shelf) s (answered shelf store file s).said) ≡ (answered shelf store file s).shelf
+    answer-shelf u (Ok table) e = table-shelf u table (narrow table e)
+    answer-shelf u (Err r) e = refl
 
     pub load-shelf : shelf_at (load_on words store file).words ≡ (load_of shelf store file).shelf
     unfolding load_on load_of
     load-shelf =
         by (not (eqb (length store) store_size))
-        (λ a. rw (a, kept (scan_of file).answer 17))
+        (λ a. rw (a, kept (scan_of file) StoreSize))
         (λ a.
         by (spoiled_of shelf)
-        (λ b. rw (a, b, kept (scan_of file).answer 18))
-        (λ b. rw (a, b) (answer-shelf b (scan_of file).answer refl)))
+        (λ b. rw (a, b, kept (scan_of file) ShelfSpoiled))
+        (λ b. rw (a, b) (answer-shelf b (scan_of file) refl)))
 
 module _ (words store file : List ℕ) where
   pub load_said : (load_on words store file).said ≡ (load_of (shelf_at words) store file).said

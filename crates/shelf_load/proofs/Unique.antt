@@ -2,12 +2,13 @@
 use mathlib.Core.Path.{◌≡◌, sym, ap, ◌∙◌}
 use mathlib.Core.List.{List}
 use Prim.Native.Nat.{ℕ}
-use Rattle.shelf_load.specs.declared.Loaded.{Loaded}
+use Rattle.std.specs.Prelude.{Result}
+use Rattle.refusal.specs.declared.Refusal.{Refusal}
 use Rattle.shelf_load.specs.On.{leaving, load_on}
 
 pub load-file-unique :
     (words store file : List ℕ)
-    (x y : Loaded)
+    (x y : Result (Unit {0}) Refusal)
     (held kept left stored : List ℕ)
     → leaving x held left ≡ load_on words store file
     → leaving y kept stored ≡ load_on words store file

@@ -69,12 +69,7 @@ fn hold_each(words: &mut [u16], p: usize, lengths: [u16; 16])
 }
 
 // Puts the table that a file was found to hold into the lowest free place, where its key is not held.
-fn load_table(
-    words: &mut [u16],
-    store: &mut [u8],
-    file: &[u8],
-    table: Table,
-) -> Result<(), Refusal>
+fn load_table(words: &mut [u16], store: &mut [u8], file: &[u8], table: Table) -> Result<(), Refusal>
     requires words_len { (length words.old ≡ count) × (length store.old ≡ store_size) }
     requires within { Within file.now table.starts table.lengths table.header.last }
     ensures { leaving result words.new store.new

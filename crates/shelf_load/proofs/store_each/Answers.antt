@@ -30,7 +30,7 @@ loop-n-preserved c =
         ap length w.store-is ∙ w.put.auto.store ∙ at.invariant.2,
         at.invariant.3,
         at.invariant.4,
-        w.store-is ∙ w.put.ensures ∙ placed_one _ _ _ _ _ _ _ _ c.wide-size.ensures (told c.lies.ensures w.if-lies.true) at.invariant.5,
+        w.store-is ∙ w.put.ensures ∙ placed_one _ _ _ _ _ _ _ _ c.from-size.ensures (told c.lies.ensures w.if-lies.true) at.invariant.5,
       )
       | else-lies w ↦ (
         search rules,
@@ -38,7 +38,7 @@ loop-n-preserved c =
         ap length w.store-is ∙ at.invariant.2,
         at.invariant.3,
         at.invariant.4,
-        w.store-is ∙ placed-skipped _ _ _ _ _ _ _ _ c.wide-size.ensures (told c.lies.ensures w.if-lies.false) at.invariant.5,
+        w.store-is ∙ placed-skipped _ _ _ _ _ _ _ _ c.from-size.ensures (told c.lies.ensures w.if-lies.false) at.invariant.5,
       )
     ]
 
