@@ -10,6 +10,7 @@ ghost use Rattle.programme_lines.specs.Lines.{refused_at, programme_line, item_l
 
 use key::Key;
 use programme::{Item, Loop, Programme};
+use refusal::Refusal;
 use section::Header;
 
 // What an NRT-IT's line says after its extension: the rest of its key.
@@ -53,15 +54,15 @@ pub fn head_line(out: &mut [u8], at: usize, h: Header) -> usize
 }
 
 // The line of a section that is refused, or that ends with a refusal.
-pub fn refused_at(out: &mut [u8], at: usize, section: u8, number: u8, place: usize) -> usize
-    ensures { Wrote (refused_at section number place) out.old at out.new result }
+pub fn refused_at(out: &mut [u8], at: usize, section: u8, refusal: Refusal, place: usize) -> usize
+    ensures { Wrote (refused_at section refusal place) out.old at out.new result }
 {
     let told = text::field(out, at, b"section ", section as u64);
     text::pair_line(
         out,
         told,
         b" refused ",
-        number as u64,
+        u64::from(u8::from(refusal)),
         b" place ",
         place as u64,
     )

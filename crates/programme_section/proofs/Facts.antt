@@ -12,54 +12,55 @@ use lib.ListN.{length}
 use borrow.Author.Tests.{ltb-true, ltb-false, leb-true, leb-false, eqb-false}
 use Rattle.base.proofs.Cases.{by}
 use Rattle.base.proofs.Tables.{among}
+use Rattle.std.specs.Prelude.{Result, Ok, Err, Some, None}
+use Rattle.refusal.specs.Refusal.{number}
+use Rattle.refusal.specs.declared.Refusal.{Refusal}
+use Rattle.refusal.specs.declared.Refusal.TheVariants.{PayloadShort, WrongIndicator, LengthOutOfRange, LongerThanPayload, ShorterThanPayload, NumberAboveLast, LastAbove15, NotCurrent, KeyShort, ProgrammePassesEnd, ProgrammeBytesLeft, ProgrammeOtherTable}
 use Rattle.section.specs.Section as section
-use Rattle.section.specs.declared.Reading as reading
 use Rattle.programme.specs.Table.{content_name_at, content_name_length, content_descriptors_at}
-use Rattle.programme.specs.Reading.{faults, programme_of, read_by, read_of, step_of, own_at, own_of}
+use Rattle.programme.specs.Reading.{Reading, Step, Own, faults, programme_of, read_by, read_of, step_of, own_at, own_of}
 use Rattle.programme.specs.declared.Programme.{Programme}
-use Rattle.programme.specs.declared.Reading.{Reading}
 use Rattle.programme.specs.declared.Item.{Item}
-use Rattle.programme.specs.declared.Step.{Step}
-use Rattle.programme.specs.declared.Own.{Own}
 use Rattle.programme.proofs.Readings.{Listed, listed}
 use Rattle.programme.proofs.Items.{step-refused, step_over, step-item, own-early, own-cut, own-refused, own-there}
 use Rattle.programme.proofs.Within.{Stands, item-stands}
 
--- no reading is refused by the number of bytes left over
-apart : (n : ℕ) → eqb n 44 ≡ false → Reading.Refused n ≡ Reading.Refused 44 → ⊥
-apart n f e = let q : n ≡ 44 = cc in eqb-false n 44 f q
+-- two refusals that have two numbers
+other : {P A : Type 0} (m n : Refusal) → eqb (number m) (number n) ≡ false → ◌≡◌ {A = Result A Refusal} (Err m) (Err n) → P
+other m n f e = absurd (let q : m ≡ n = cc in eqb-false (number m) (number n) f (ap number q))
 
-never-44 : (s : List ℕ) → read_of s ≡ Reading.Refused 44 → ⊥
+-- no reading is refused by bytes left over
+never-44 : (s : List ℕ) → read_of s ≡ Err ProgrammeBytesLeft → ⊥
 unfolding read_of section.read_of
 never-44 s =
-    among reading.Reading.Refused (λ r. read_by s r ≡ Reading.Refused 44 → ⊥) (section.faults s) (reading.Reading.Sound (section.header_of s))
-    (apart 1 refl, (apart 2 refl, (apart 3 refl, (apart 4 refl, (apart 5 refl, (apart 6 refl, (apart 7 refl, (apart 8 refl, (apart 46 refl, tt)))))))))
-    (among Reading.Refused (λ r. r ≡ Reading.Refused 44 → ⊥) (faults s (section.header_of s).key.table) (Reading.Programme (programme_of s))
-    (apart 45 refl, (apart 43 refl, (apart 43 refl, (apart 43 refl, (apart 43 refl, tt)))))
+    among Err (λ r. read_by s r ≡ Err ProgrammeBytesLeft → ⊥) (section.faults s) (Ok (section.header_of s))
+    (not PayloadShort refl, (not WrongIndicator refl, (not LengthOutOfRange refl, (not LongerThanPayload refl, (not ShorterThanPayload refl, (not NumberAboveLast refl, (not LastAbove15 refl, (not NotCurrent refl, (not KeyShort refl, tt)))))))))
+    (among Err (λ r. r ≡ Err ProgrammeBytesLeft → ⊥) (faults s (section.header_of s).key.table) (Ok (programme_of s))
+    (not ProgrammeOtherTable refl, (not ProgrammePassesEnd refl, (not ProgrammePassesEnd refl, (not ProgrammePassesEnd refl, (not ProgrammePassesEnd refl, tt)))))
     (λ e. let z : ◌≡◌ {A = ℕ} 0 1 = cc in omega arith))
+  where
+    not : (n : Refusal) → eqb (number n) 44 ≡ false → ◌≡◌ {A = Reading} (Err n) (Err ProgrammeBytesLeft) → ⊥
+    not n f e = other n ProgrammeBytesLeft f e
 
 module _ (s : List ℕ) (at : ℕ) where
-  other : {P : Type 0} (m n : ℕ) → eqb m n ≡ false → Own.Refused m ≡ Own.Refused n → P
-  other m n f e = absurd (let q : m ≡ n = cc in eqb-false m n f q)
-
-  own-left-over : own_at s at ≡ Own.Refused 44 → at < length s
+  own-left-over : own_at s at ≡ Err ProgrammeBytesLeft → at < length s
   own-left-over e =
       by (ltb at 17)
-      (λ t. other 43 44 refl (own-early s at (ltb-true _ _ t) ∙ e))
+      (λ t. other ProgrammePassesEnd ProgrammeBytesLeft refl (own-early s at (ltb-true _ _ t) ∙ e))
       (λ f.
       by (ltb (length s) (at + 1))
-      (λ t. other 43 44 refl (own-cut s at (ltb-false _ _ f) (ltb-true _ _ t) ∙ e))
+      (λ t. other ProgrammePassesEnd ProgrammeBytesLeft refl (own-cut s at (ltb-false _ _ f) (ltb-true _ _ t) ∙ e))
       (λ g. let l : at + 1 ≤ length s = ltb-false _ _ g in omega arith))
 
-  pub left_over : own_of s at ≡ Own.Refused 44 → at < length s
+  pub left_over : own_of s at ≡ Err ProgrammeBytesLeft → at < length s
   left_over e = go (read_of s) refl
     where
       go : (r : Reading) → read_of s ≡ r → at < length s
-      go (Reading.Refused n) q =
-          let w : Own.Refused n ≡ Own.Refused 44 = own-refused s at n q ∙ e in
-          let z : n ≡ 44 = cc in
-          absurd (never-44 s (q ∙ ap Reading.Refused z))
-      go (Reading.Programme p) q = own-left-over (own-there s at p q ∙ e)
+      go (Err n) q =
+          let w : ◌≡◌ {A = Own} (Err n) (Err ProgrammeBytesLeft) = own-refused s at n q ∙ e in
+          let z : n ≡ ProgrammeBytesLeft = cc in
+          absurd (never-44 s (q ∙ ap Err z))
+      go (Ok p) q = own-left-over (own-there s at p q ∙ e)
 
 -- of an item that was read
 pub record ItemFacts (s : List ℕ) (at k : ℕ) (i : Item) : Type 0 where
@@ -68,19 +69,19 @@ pub record ItemFacts (s : List ℕ) (at k : ℕ) (i : Item) : Type 0 where
   pub fewer : k < programme.items
   pub stands : Stands s at i
 
-module _ (s : List ℕ) (at k : ℕ) (i : Item) (e : step_of s at k ≡ Step.Item i) where
+module _ (s : List ℕ) (at k : ℕ) (i : Item) (e : step_of s at k ≡ Ok (Some i)) where
   pub item-facts : ItemFacts s at k i
   item-facts = go (read_of s) refl
     where
-      unlike : {P : Type 0} (n : ℕ) → Step.Refused n ≡ Step.Item i → P
+      unlike : {P : Type 0} (n : Refusal) → Err n ≡ Ok (Some i) → P
       unlike n q = absurd (let z : ◌≡◌ {A = ℕ} 0 1 = cc in omega arith)
 
-      over : {P : Type 0} → Step.Over ≡ Step.Item i → P
+      over : {P : Type 0} → ◌≡◌ {A = Step} (Ok None) (Ok (Some i)) → P
       over q = absurd (let z : ◌≡◌ {A = ℕ} 0 1 = cc in omega arith)
 
       go : (r : Reading) → read_of s ≡ r → ItemFacts s at k i
-      go (Reading.Refused n) q = unlike n (step-refused s at k n q ∙ e)
-      go (Reading.Programme p) q =
+      go (Err n) q = unlike n (step-refused s at k n q ∙ e)
+      go (Ok p) q =
           by (leb p.items k)
           (λ t. over (step_over s at k p q (leb-true _ _ t) ∙ e))
           (λ f.

@@ -7,13 +7,11 @@ use native.Mathlib.Omega.{arith}
 use lib.ListN.{length, length-append, length-take}
 use Rattle.base.specs.Bits.{bit}
 use Rattle.base.specs.Bytes.{part}
+use Rattle.std.specs.Prelude.{Ok, Err, Some, None}
 use Rattle.programme.specs.Field.{only}
 use Rattle.programme.specs.Table.{flags as flags_of, content_name_length, content_descriptors_at}
-use Rattle.programme.specs.Reading.{read_of, step_of, own_of}
-use Rattle.programme.specs.declared.Reading.{Reading}
+use Rattle.programme.specs.Reading.{Reading, Step, Own, read_of, step_of, own_of}
 use Rattle.programme.specs.declared.Item.{Item}
-use Rattle.programme.specs.declared.Step.{Step}
-use Rattle.programme.specs.declared.Own.{Own}
 use Rattle.programme.proofs.Readings.{listed}
 use Rattle.programme_lines.specs.Lines.{item_text}
 use Rattle.programme_lines.proofs.Short.{refused-short, programme-short, list-short, item-short}
@@ -22,11 +20,11 @@ use Rattle.programme_section.proofs.Facts.{item-facts}
 
 module _ (n : ℕ) (s : List ℕ) where
   own-short : (at : ℕ) (o : Own) → length (own_text n s at o) ≤ 64
-  own-short at (Own.Loop l) = list-short l
-  own-short at (Own.Refused m) = refused-short n m (own_place n s at m)
+  own-short at (Ok l) = list-short l
+  own-short at (Err m) = refused-short n m (own_place n s at m)
 
   -- an item's text, and where its bytes end
-  one-short : (k at : ℕ) (i : Item) → step_of s at k ≡ Step.Item i
+  one-short : (k at : ℕ) (i : Item) → step_of s at k ≡ Ok (Some i)
       → (length (item_text (part s i.nameat i.named) k i) + 20 * at ≤ 20 * i.next) × (i.next ≤ length s)
   one-short k at i e =
       let w = (item-facts s at k i e).stands in
@@ -50,20 +48,20 @@ module _ (n : ℕ) (s : List ℕ) where
     where
       go : ((to : ℕ) → to ≤ length s → length (items_text n s left (k + 1) to) + 20 * to ≤ 20 * length s + 64)
           → (x : Step) → step_of s at k ≡ x → length (step_text n s k at x (items_text n s left (k + 1))) + 20 * at ≤ 20 * length s + 64
-      go ih (Step.Item i) e =
+      go ih (Ok (Some i)) e =
           let one = one-short k at i e in
           let rest = ih i.next one.1 in
           let first : length (item_text (part s i.nameat i.named) k i) + 20 * at ≤ 20 * i.next = one.0 in
           simp length-append (omega arith)
-      go ih (Step.Refused m) e = omega (arith, refused-short n m at)
-      go ih Step.Over e = omega arith
+      go ih (Err m) e = omega (arith, refused-short n m at)
+      go ih (Ok None) e = omega arith
 
   pub section-short : 8 ≤ length s → length (section_text n s) ≤ 20 * length s
   unfolding section_text
   section-short l = go (read_of s) refl
     where
       go : (r : Reading) → read_of s ≡ r → length (read_text n s r) ≤ 20 * length s
-      go (Reading.Refused m) e = omega (arith, refused-short n m 8)
-      go (Reading.Programme p) e =
+      go (Err m) e = omega (arith, refused-short n m 8)
+      go (Ok p) e =
           let long : 17 ≤ length s = (listed s p e).long in
           simp length-append (omega (arith, programme-short n p, items-short p.items 0 17 long))

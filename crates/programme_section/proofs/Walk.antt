@@ -3,7 +3,7 @@
 --   goes_on, ends-refused, ends-over, ends-own      by the step at its place
 --   own-whole, own-refused, own-left     the table's own loop
 --   section-refused, section-items       a section, by how it reads
-use mathlib.Core.Path.{◌≡◌, refl, sym, ◌∙◌}
+use mathlib.Core.Path.{◌≡◌, refl, sym, ap, ◌∙◌}
 use mathlib.Core.Bool.{Bool, true, false}
 use mathlib.Core.List.{List, [], ◌++◌}
 use Prim.Native.Nat.{ℕ, zero, suc, ◌+◌, ◌-◌, ◌<◌, ◌≤◌}
@@ -11,16 +11,18 @@ use native.Mathlib.Omega.{arith}
 use lib.ListN.{length, take, drop}
 use borrow.Author.Tests.{eq-eqb, ne_eqb}
 use Rattle.base.specs.Bytes.{part}
+use Rattle.std.specs.Prelude.{Ok, Err, Some, None}
+use Rattle.refusal.specs.Refusal.{number}
+use Rattle.refusal.specs.declared.Refusal.{Refusal}
+use Rattle.refusal.specs.declared.Refusal.TheVariants.{ProgrammeBytesLeft}
+use Rattle.refusal.proofs.Numbers.{once}
 use Rattle.text.specs.Over.{Wrote}
 use Rattle.text.proofs.Writing.{Left, all_left, step, finish, none_left, then}
 use Rattle.programme.specs.Run.{end_of}
-use Rattle.programme.specs.Reading.{read_of, step_of, own_of, own_run}
+use Rattle.programme.specs.Reading.{Reading, Own, read_of, step_of, own_of, own_run}
 use Rattle.programme.specs.declared.Programme.{Programme}
-use Rattle.programme.specs.declared.Reading.{Reading}
 use Rattle.programme.specs.declared.Item.{Item}
 use Rattle.programme.specs.declared.Loop.{Loop}
-use Rattle.programme.specs.declared.Step.{Step}
-use Rattle.programme.specs.declared.Own.{Own}
 use Rattle.programme_lines.specs.Lines.{refused_at, programme_line, item_text, list_line}
 use Rattle.programme_section.specs.Section.{own_text, own_read, step_text, step_read, items_text, items_read, section_text, section_read}
 
@@ -58,7 +60,7 @@ begins n s count out at =
 
 module _ {n : ℕ} {s : List ℕ} {count : ℕ} {out : List ℕ} {at k place : ℕ} {now : List ℕ} {here : ℕ} (g : Going n s count out at k place now here) where
   module _ (l : k < count) where
-    pub goes_on : {now' : List ℕ} {here' : ℕ} (i : Item) (size : ℕ) → step_of s place k ≡ Step.Item i → size ≡ i.named
+    pub goes_on : {now' : List ℕ} {here' : ℕ} (i : Item) (size : ℕ) → step_of s place k ≡ Ok (Some i) → size ≡ i.named
         → Wrote (item_text (take size (drop i.nameat s)) k i) now here now' here' → length now' ≡ length now
         → Going n s count out at (k + 1) i.next now' here'
     goes_on {now'} {here'} i size e q w m =
@@ -73,14 +75,14 @@ module _ {n : ℕ} {s : List ℕ} {count : ℕ} {out : List ℕ} {at k place : �
           read = rw (fewer, ← r) g.read;
         }
 
-    pub ends-refused : {now' : List ℕ} {here' : ℕ} (m : ℕ) → step_of s place k ≡ Step.Refused m → Wrote (refused_at n m place) now here now' here'
+    pub ends-refused : {now' : List ℕ} {here' : ℕ} (m : Refusal) → step_of s place k ≡ Err m → Wrote (refused_at n m place) now here now' here'
         → Wrote (items_text n s count 0 17) out at now' here' × (false ≡ items_read s count 0 17)
     ends-refused m e w =
         let t : items_text n s (count - k) k place ≡ refused_at n m place = text-step n s k place (count - k) (omega arith) ∙ rw e in
         let r : items_read s (count - k) k place ≡ false = read_step n s k place (count - k) (omega arith) ∙ rw e in
         (finish g.text (rw t w), sym r ∙ g.read)
 
-    pub ends-over : step_of s place k ≡ Step.Over → Wrote (items_text n s count 0 17) out at now here × (false ≡ items_read s count 0 17)
+    pub ends-over : step_of s place k ≡ Ok None → Wrote (items_text n s count 0 17) out at now here × (false ≡ items_read s count 0 17)
     ends-over e =
         let t : items_text n s (count - k) k place ≡ [] = text-step n s k place (count - k) (omega arith) ∙ rw e in
         let r : items_read s (count - k) k place ≡ false = read_step n s k place (count - k) (omega arith) ∙ rw e in
@@ -95,27 +97,27 @@ module _ {n : ℕ} {s : List ℕ} {count : ℕ} {out : List ℕ} {at k place : �
 
 -- the table's own loop, by what was found
 module _ (n : ℕ) (s : List ℕ) (at : ℕ) {out after : List ℕ} {here end : ℕ} where
-  pub own-whole : (o : Own) (l : Loop) → o ≡ own_of s at → o ≡ Own.Loop l → Wrote (list_line l) out here after end
+  pub own-whole : (o : Own) (l : Loop) → o ≡ own_of s at → o ≡ Ok l → Wrote (list_line l) out here after end
       → Wrote (own_text n s at (own_of s at)) out here after end × (true ≡ own_read s (own_of s at))
   own-whole o l p q w = rw (← p, q) (w, refl)
 
-  module _ (o : Own) (m : ℕ) (p : o ≡ own_of s at) (q : o ≡ Own.Refused m) where
-    pub own-left : (place : ℕ) → m ≡ 44 → place ≡ end_of (own_run s at) → Wrote (refused_at n m place) out here after end
+  module _ (o : Own) (m : Refusal) (p : o ≡ own_of s at) (q : o ≡ Err m) where
+    pub own-left : (place : ℕ) → m ≡ ProgrammeBytesLeft → place ≡ end_of (own_run s at) → Wrote (refused_at n m place) out here after end
         → Wrote (own_text n s at (own_of s at)) out here after end × (false ≡ own_read s (own_of s at))
-    own-left place e f w = rw (← p, q, eq-eqb m 44 e, ← f) (w, refl)
+    own-left place e f w = rw (← p, q, eq-eqb (number m) 44 (ap number e), ← f) (w, refl)
 
-    pub own-refused : (m ≡ 44 → ⊥) → Wrote (refused_at n m at) out here after end
+    pub own-refused : (m ≡ ProgrammeBytesLeft → ⊥) → Wrote (refused_at n m at) out here after end
         → Wrote (own_text n s at (own_of s at)) out here after end × (false ≡ own_read s (own_of s at))
-    own-refused d w = rw (← p, q, ne_eqb m 44 d) (w, refl)
+    own-refused d w = rw (← p, q, ne_eqb (number m) 44 (λ e. d (once m ProgrammeBytesLeft e))) (w, refl)
 
 -- a section, by how it reads
 module _ (n : ℕ) (s : List ℕ) {out after : List ℕ} {at end : ℕ} where
-  pub section-refused : (r : Reading) (m : ℕ) → r ≡ read_of s → r ≡ Reading.Refused m → Wrote (refused_at n m 8) out at after end
+  pub section-refused : (r : Reading) (m : Refusal) → r ≡ read_of s → r ≡ Err m → Wrote (refused_at n m 8) out at after end
       → Wrote (section_text n s) out at after end × (false ≡ section_read s)
   unfolding section_text section_read
   section-refused r m p q w = rw (← p, q) (w, refl)
 
-  pub section-items : (r : Reading) (f : Programme) → r ≡ read_of s → r ≡ Reading.Programme f → {mid : List ℕ} {between : ℕ} {whole : Bool}
+  pub section-items : (r : Reading) (f : Programme) → r ≡ read_of s → r ≡ Ok f → {mid : List ℕ} {between : ℕ} {whole : Bool}
       → Wrote (programme_line n f) out at mid between → Wrote (items_text n s f.items 0 17) mid between after end → whole ≡ items_read s f.items 0 17
       → Wrote (section_text n s) out at after end × (whole ≡ section_read s)
   unfolding section_text section_read

@@ -7,10 +7,10 @@ ghost use Rattle.programme.specs.Run.{end_of};
 ghost use Rattle.programme.specs.Reading.{own_run, own_of};
 ghost use Rattle.programme_section.specs.Section.{own_text, own_read, items_text, items_read, section_text, section_read};
 
-use programme::{Own, Reading, Run, Step};
+use refusal::Refusal;
 
 // Where the writing stands behind a part of the text, and whether what it tells was read to its end without refusal.
-#[derive(Drop)]
+#[derive(Clone, Copy, Debug, PartialEq, Eq)]
 pub struct Done {
     pub at: usize,
     pub whole: bool,
@@ -22,11 +22,7 @@ fn own_end(payload: &[u8], at: usize) -> usize
     ensures { result ≡ end_of (own_run payload.now at) }
 {
     let count = payload[at];
-    let run = programme::run_from(payload, at + 1, count);
-    match run {
-        Run::Ends(end) => end,
-        Run::Past => 0,
-    }
+    programme::run_from(payload, at + 1, count).unwrap_or(0)
 }
 
 // The table's own loop behind the items, or its refusal.
@@ -34,25 +30,24 @@ fn own(out: &mut [u8], at: usize, n: u8, payload: &[u8], place: usize) -> Done
     ensures wrote { Wrote (own_text n payload.now place (own_of payload.now place)) out.old at out.new result.at }
     ensures whole_value { result.whole ≡ own_read payload.now (own_of payload.now place) }
 {
-    let found = programme::own_loop(payload, place);
-    match found {
-        Own::Loop(l) => {
-            let end = programme_lines::list_line(out, at, l);
+    match programme::own_loop(payload, place) {
+        Ok(own) => {
+            let end = programme_lines::list_line(out, at, own);
             Done {
                 at: end,
                 whole: true,
             }
         }
-        Own::Refused(number) => {
-            if number == programme::BYTES_LEFT {
+        Err(refusal) => {
+            if refusal == Refusal::ProgrammeBytesLeft {
                 let left = own_end(payload, place);
-                let end = programme_lines::refused_at(out, at, n, number, left);
+                let end = programme_lines::refused_at(out, at, n, refusal, left);
                 return Done {
                     at: end,
                     whole: false,
                 };
             }
-            let end = programme_lines::refused_at(out, at, n, number, place);
+            let end = programme_lines::refused_at(out, at, n, refusal, place);
             Done {
                 at: end,
                 whole: false,
@@ -68,25 +63,22 @@ fn items(out: &mut [u8], at: usize, n: u8, payload: &[u8], count: u8) -> Done
 {
     let mut end = at;
     let mut place = programme::FIRST_ITEM;
-    let mut k: u8 = 0;
-    while k < count {
-        let step = programme_items::item_at(payload, place, k);
-        match step {
-            Step::Item(i) => {
-                let from = i.nameat;
-                let to = from + i.named;
-                end = programme_lines::item_text(out, end, k, i, &payload[from..to]);
-                place = i.next;
-                k += 1;
+    for k in 0..count {
+        match programme_items::item_at(payload, place, k) {
+            Ok(Some(item)) => {
+                let from = item.nameat;
+                let to = from + item.named;
+                end = programme_lines::item_text(out, end, k, item, &payload[from..to]);
+                place = item.next;
             }
-            Step::Refused(number) => {
-                let told = programme_lines::refused_at(out, end, n, number, place);
+            Err(refusal) => {
+                let told = programme_lines::refused_at(out, end, n, refusal, place);
                 return Done {
                     at: told,
                     whole: false,
                 };
             }
-            Step::Over => {
+            Ok(None) => {
                 return Done {
                     at: end,
                     whole: false,
@@ -102,16 +94,15 @@ pub fn section(out: &mut [u8], at: usize, n: u8, payload: &[u8]) -> Done
     ensures wrote { Wrote (section_text n payload.now) out.old at out.new result.at }
     ensures whole_value { result.whole ≡ section_read payload.now }
 {
-    let reading = programme::read(payload);
-    match reading {
-        Reading::Refused(number) => {
-            let end = programme_lines::refused_at(out, at, n, number, section::HEADER);
+    match programme::read(payload) {
+        Err(refusal) => {
+            let end = programme_lines::refused_at(out, at, n, refusal, section::HEADER);
             Done {
                 at: end,
                 whole: false,
             }
         }
-        Reading::Programme(p) => {
+        Ok(p) => {
             let told = programme_lines::programme_line(out, at, n, p);
             items(out, told, n, payload, p.items)
         }

@@ -8,27 +8,35 @@ use Rattle.programme_section.proofs.Walk.{goes_on, ends-refused, ends-over, ends
 use Rattle.programme_section.proofs.items.Goals as goal
 
 pub overflow_add-to : goal.overflow_add-to
-overflow_add-to c = let f = name-fits _ _ _ _ (sym c.in-Item.ensures) in search rules
+overflow_add-to c =
+    let here = rw c.in-Ok-Some.field-0-is at c.in-Ok-Some.ensures in
+    let f = name-fits _ _ _ _ (sym here) in search rules
 
 pub slice_bounds-item_text-end : goal.slice_bounds-item_text-end
-slice_bounds-item_text-end c = let f = name-fits _ _ _ _ (sym c.in-Item.ensures) in search rules
+slice_bounds-item_text-end c =
+    let here = rw c.in-Ok-Some.field-0-is at c.in-Ok-Some.ensures in
+    let f = name-fits _ _ _ _ (sym here) in search rules
 
 pub loop-k-preserved : goal.loop-k-preserved
-loop-k-preserved c = let i = c.in-Item.i in
+loop-k-preserved c =
+    let here = rw c.in-Ok-Some.field-0-is at c.in-Ok-Some.ensures in
+    let i = c.in-Ok-Some.item in
     let size : i.nameat + i.named - i.nameat ≡ i.named = omega arith in
-    goes_on c.loop-k.invariant (search rules) i (i.nameat + i.named - i.nameat) (sym c.in-Item.ensures) size c.item_text-end.ensures (search rules)
+    goes_on c.loop-k.invariant (search rules) i (i.nameat + i.named - i.nameat) (sym here) size c.item_text-end.ensures (search rules)
 
-pub returns-in-Refused-clause-wrote : goal.returns-in-Refused-clause-wrote
-returns-in-Refused-clause-wrote c = (ends-refused c.loop-k.invariant (search rules) _ (sym c.in-Refused.ensures) c.refused_at-told.ensures).0
+pub returns-in-Err-clause-wrote : goal.returns-in-Err-clause-wrote
+returns-in-Err-clause-wrote c = (ends-refused c.loop-k.invariant (search rules) _ (sym c.in-Err.ensures) c.refused_at-told.ensures).0
 
-pub returns-in-Refused-clause-whole_value : goal.returns-in-Refused-clause-whole_value
-returns-in-Refused-clause-whole_value c = (ends-refused c.loop-k.invariant (search rules) _ (sym c.in-Refused.ensures) c.refused_at-told.ensures).1
+pub returns-in-Err-clause-whole_value : goal.returns-in-Err-clause-whole_value
+returns-in-Err-clause-whole_value c = (ends-refused c.loop-k.invariant (search rules) _ (sym c.in-Err.ensures) c.refused_at-told.ensures).1
 
-pub returns-in-Over-clause-wrote : goal.returns-in-Over-clause-wrote
-returns-in-Over-clause-wrote c = (ends-over c.loop-k.invariant (search rules) (sym c.in-Over.ensures)).0
+pub returns-in-Ok-None-clause-wrote : goal.returns-in-Ok-None-clause-wrote
+returns-in-Ok-None-clause-wrote c =
+    let here = rw c.in-Ok-None.field-0-is at c.in-Ok-None.ensures in (ends-over c.loop-k.invariant (search rules) (sym here)).0
 
-pub returns-in-Over-clause-whole_value : goal.returns-in-Over-clause-whole_value
-returns-in-Over-clause-whole_value c = (ends-over c.loop-k.invariant (search rules) (sym c.in-Over.ensures)).1
+pub returns-in-Ok-None-clause-whole_value : goal.returns-in-Ok-None-clause-whole_value
+returns-in-Ok-None-clause-whole_value c =
+    let here = rw c.in-Ok-None.field-0-is at c.in-Ok-None.ensures in (ends-over c.loop-k.invariant (search rules) (sym here)).1
 
 pub returns-clause-wrote : goal.returns-clause-wrote
 returns-clause-wrote c = (ends-own c.loop-k.invariant (search rules) c.own.ensures.wrote c.own.ensures.whole_value).0
