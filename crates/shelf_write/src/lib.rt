@@ -13,6 +13,8 @@ use berth::{PLACES, SECTIONS};
 use key::Key;
 use shelf::{HEAD, HEADS, MASKS, REST, RESTS, TAKEN, WORDS};
 
+// The numbers are a slice throughout: of one that is lent on as an array by `<&mut [u16; WORDS]>::try_from` the proof does not get what it holds afterwards.
+
 fn with_bit(mask: u16, n: usize) -> u16
     requires { n < sections }
     ensures { result ≡ bit_or mask (2 ^ n) }
@@ -130,9 +132,7 @@ pub fn put_fresh(words: &mut [u16])
     if words.len() != WORDS {
         return;
     }
-    let mut i: usize = 0;
-    while i < WORDS {
+    for i in 0..WORDS {
         words[i] = fresh_number(i);
-        i += 1;
     }
 }

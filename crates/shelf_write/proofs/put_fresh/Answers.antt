@@ -15,4 +15,4 @@ returns-then-words-ne-WORDS c = search (tests, rules)
 pub returns : goal.returns
 unfolding fresh_put fresh_words
 returns c = let k = c.loop-i in
-    rw (eq-eqb _ 96 k.invariant.2) (filled-all _ 96 _ fresh_number (omega arith) k.invariant.1 k.invariant.3)
+    rw (eq-eqb _ 96 k.invariant.1) (filled-all _ 96 _ fresh_number (omega arith) k.invariant.0 k.invariant.2)
