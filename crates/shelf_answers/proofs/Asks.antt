@@ -1,35 +1,35 @@
 -- The questions to a lent shelf, and the calls that fill an output from it, keep their laws.
 --   whole_tells, missing_tells, copy_tells, save_tells     the numbers of their answers
 --   copy_fills, save_fills                                 the outputs
-use mathlib.Core.Path.{◌≡◌, refl, sym, ap, subst, ◌∙◌}
+use mathlib.Core.Path.{◌≡◌, refl, sym, ap, ◌∙◌}
+use mathlib.Core.Bool.{Bool, true, false}
 use mathlib.Core.List.{List}
+use Rattle.refusal.specs.declared.Refusal.TheVariants.{TableNotHeld, OutputTooSmall, SectionNotHeld, StoreSize, ShelfSpoiled}
 use Prim.Native.Nat.{ℕ, ◌<◌, ◌≤◌, ◌+◌, ◌*◌, ◌^◌}
 use native.Mathlib.Omega.{arith}
 use lib.Dec.{ltb}
 use lib.ListN.{length}
 use borrow.Author.Tests.{ltb-true, ltb-false}
 use Rattle.base.specs.Choice.{first}
-use Rattle.base.proofs.Cases.{by, either}
+use Rattle.base.proofs.Cases.{by}
 use Rattle.base.proofs.Tables.{among}
 use Rattle.answers.specs.Answers.{size_code, filled}
-use Rattle.answers.proofs.Fills.{Refusal, size_back, refusal-back, through, refused-fills, fills}
+use Rattle.answers.proofs.Fills.{size_back, refusal-back, through, refused-fills, fills}
+use Rattle.std.specs.Prelude.{Option, Some, None, Result, Ok, Err}
+use Rattle.refusal.specs.Refusal.{number, refusal_of}
+use Rattle.refusal.specs.declared.Refusal.{Refusal}
+use Rattle.refusal.proofs.Numbers.{in_byte, back}
 use Rattle.berth.specs.Berth.{sections, berth_size, standing}
 use Rattle.berth.proofs.Berths.{standing-length}
 use Rattle.shelf.specs.Record.{Shelf, place_at, length_at, place_of}
 use Rattle.key.specs.declared.Key.{Key}
 use Rattle.shelf.specs.Layout.{shelf_at}
-use Rattle.shelf_ask.specs.declared.Holding.{Holding}
-use Rattle.shelf_ask.specs.declared.Whole.{Whole}
-use Rattle.shelf_ask.specs.declared.Missing.{Missing}
-use Rattle.shelf_ask.specs.declared.Copied.{Copied}
-use Rattle.shelf_ask.specs.Ask as Ask
-use Rattle.shelf_ask.specs.Ask.{Copy, copy, copy_from, uncopied, unasked, asked, holding_of, whole_of, missing_of, complete, lowest_missing}
+use Rattle.shelf_ask.specs.Ask.{Copy, copy, copy_from, uncopied, unasked, asked, holding_of, whole_of, missing_of, complete}
 use Rattle.shelf_ask.specs.Answer.{whole_back, missing_back, copied_in, whole_code, missing_code, copy_out, whole_lent, missing_lent, copy_lent}
 use Rattle.shelf_ask.proofs.Told.{whole_back_lem, missing-back}
 use Rattle.shelf_ask.proofs.Held.{held, asked-held, copy-refused, copy-held}
 use Rattle.shelf_ask.proofs.Alike.{by-holding}
 use Rattle.shelf_ask.proofs.Numbers.{length-read, length-past}
-use Rattle.shelf_save.specs.declared.Saved.{Saved}
 use Rattle.shelf_save.specs.Save as Save
 use Rattle.shelf_save.specs.Save.{refuse, unsaved, written, saved_file, save_of}
 use Rattle.shelf_save.specs.Answer.{saved_in, save_out, save_lent}
@@ -38,83 +38,59 @@ use Rattle.shelf_answers.specs.Laws.{Tells, WholeTells, MissingTells, CopyTells,
 use Rattle.shelf_answers.proofs.Tells.{tells-no, tells-yes}
 
 -- an answer that is a size of fewer than 65,536 bytes, or a refusal
-copied-no : (n : ℕ) → Refusal n → Tells Copied.Refused copied_in (Copied.Refused n) n
-copied-no n r =
-    tells-no Copied.Refused copied_in n r (λ m e. ap Ask.copied_no e) (λ _. refusal-back Copied.Bytes Copied.Refused n r.0 r.1)
+abbrev refused : ℕ → Result ℕ Refusal
+refused n = Err (refusal_of n)
 
-copied-yes : (n : ℕ) → n < 2 ^ 16 → Tells Copied.Refused copied_in (Copied.Bytes n) (size_code n)
-copied-yes n h =
-    tells-yes Copied.Refused copied_in (Copied.Bytes n) (size_code n) (λ m e. let z : ◌≡◌ {A = ℕ} 0 1 = cc in omega arith) (omega arith)
-    (size_back Copied.Bytes Copied.Refused n h)
+sized-no : (r : Refusal) → Tells copied_in (Err r) (number r)
+sized-no r = tells-no copied_in r (refusal-back Ok refused (number r) (in_byte r).0 (in_byte r).1 ∙ ap Err (back r))
 
-saved-no : (n : ℕ) → Refusal n → Tells Saved.Refused saved_in (Saved.Refused n) n
-saved-no n r =
-    tells-no Saved.Refused saved_in n r (λ m e. ap Save.number_of e) (λ _. refusal-back Saved.Bytes Saved.Refused n r.0 r.1)
-
-saved-yes : (n : ℕ) → n < 2 ^ 16 → Tells Saved.Refused saved_in (Saved.Bytes n) (size_code n)
-saved-yes n h =
-    tells-yes Saved.Refused saved_in (Saved.Bytes n) (size_code n) (λ m e. let z : ◌≡◌ {A = ℕ} 0 1 = cc in omega arith) (omega arith)
-    (size_back Saved.Bytes Saved.Refused n h)
-
-abbrev InHolding : Holding → Type 0
-InHolding (Holding.In p) = Unit {0}
-InHolding (Holding.Refused n) = Refusal n
+sized-yes : (n : ℕ) → n < 2 ^ 16 → Tells copied_in (Ok n) (size_code n)
+sized-yes n h = tells-yes copied_in n (size_code n) (omega arith) (size_back Ok refused n h)
 
 module _ (words store : List ℕ) (key : Key) where
   abbrev shelf : Shelf
   shelf = shelf_at words
 
-  abbrev WholesSo : Whole → Type 0
-  WholesSo a = Tells Whole.Refused whole_back a (whole_code a)
+  abbrev WholesSo : Result Bool Refusal → Type 0
+  WholesSo a = Tells whole_back a (whole_code a)
 
-  unwhole-so : (n : ℕ) → Refusal n → WholesSo (Whole.Refused n)
-  unwhole-so n r =
-      tells-no Whole.Refused whole_back n r (λ m e. ap Ask.whole_no e)
-      (λ w. whole_back_lem (Whole.Refused n) (λ m e. (w m e).1))
+  unwhole-so : (r : Refusal) → WholesSo (Err r)
+  unwhole-so r = tells-no whole_back r (whole_back_lem (Err r))
+
+  whole-so : (b : Bool) → WholesSo (Ok b)
+  whole-so true = tells-yes whole_back true 256 refl refl
+  whole-so false = tells-yes whole_back false 512 refl refl
 
   pub whole_tells : WholeTells words store key
   unfolding whole_lent whole_of
   whole_tells =
-      among Whole.Refused WholesSo (unasked shelf store key) _
-      (unwhole-so 17 (omega arith), (unwhole-so 18 (omega arith), (unwhole-so 14 (omega arith), tt)))
-      (either WholesSo (complete (asked shelf store key))
-      (λ _. tells-yes Whole.Refused whole_back Whole.Complete 256 (λ n e. let z : ◌≡◌ {A = ℕ} 0 1 = cc in omega arith) refl refl)
-      (λ _. tells-yes Whole.Refused whole_back Whole.Incomplete 512 (λ n e. let z : ◌≡◌ {A = ℕ} 0 1 = cc in omega arith) refl refl))
+      among Err WholesSo (unasked shelf store key) _
+      (unwhole-so StoreSize, (unwhole-so ShelfSpoiled, (unwhole-so TableNotHeld, tt)))
+      (whole-so (complete (asked shelf store key)))
 
-  abbrev MissingsSo : Missing → Type 0
-  MissingsSo a = Tells Missing.Refused missing_back a (missing_code a)
+  abbrev MissingsSo : Result (Option ℕ) Refusal → Type 0
+  MissingsSo a = Tells missing_back a (missing_code a)
 
-  unmissing-so : (n : ℕ) → Refusal n → MissingsSo (Missing.Refused n)
-  unmissing-so n r =
-      tells-no Missing.Refused missing_back n r (λ m e. ap Ask.missing_no e)
-      (λ w. missing-back (Missing.Refused n) (λ m e. (w m e).1))
+  unmissing-so : (r : Refusal) → MissingsSo (Err r)
+  unmissing-so r = tells-no missing_back r (missing-back (Err r))
 
-  lacking-so : (n : ℕ) → MissingsSo (Missing.Number n)
-  lacking-so n =
-      tells-yes Missing.Refused missing_back (Missing.Number n) (512 + 65536 * n) (λ m e. let z : ◌≡◌ {A = ℕ} 0 1 = cc in omega arith) (omega arith)
-      (missing-back (Missing.Number n) (λ m e. absurd (let z : ◌≡◌ {A = ℕ} 0 1 = cc in omega arith)))
+  missing-so : (o : Option ℕ) → MissingsSo (Ok o)
+  missing-so None = tells-yes missing_back None 256 refl refl
+  missing-so (Some n) = tells-yes missing_back (Some n) (512 + 65536 * n) (omega arith) (missing-back (Ok (Some n)))
 
   pub missing_tells : MissingTells words store key
   unfolding missing_lent missing_of
   missing_tells =
-      among Missing.Refused MissingsSo (unasked shelf store key) _
-      (unmissing-so 17 (omega arith), (unmissing-so 18 (omega arith), (unmissing-so 14 (omega arith), tt)))
-      (either MissingsSo (complete (asked shelf store key))
-      (λ _. tells-yes Missing.Refused missing_back Missing.Nothing 256 (λ n e. let z : ◌≡◌ {A = ℕ} 0 1 = cc in omega arith) refl refl)
-      (λ _. lacking-so (lowest_missing (asked shelf store key))))
-
-  -- a table that is not held is refused by 17, 18 or 14
-  holding-range : (n : ℕ) → holding_of shelf (length store) key ≡ Holding.Refused n → Refusal n
-  unfolding holding_of
-  holding-range n e =
-      subst InHolding e (among Holding.Refused InHolding (unasked shelf store key) (Holding.In (place_of shelf key)) (omega arith) tt)
+      among Err MissingsSo (unasked shelf store key) _
+      (unmissing-so StoreSize, (unmissing-so ShelfSpoiled, (unmissing-so TableNotHeld, tt)))
+      (missing-so _)
 
   -- copying section n
   module _ (n : ℕ) (old : List ℕ) where
     abbrev CopiesSo : Copy → Type 0
-    CopiesSo c = Tells Copied.Refused copied_in c.said (copy_out c).code
+    CopiesSo c = Tells copied_in c.said (copy_out c).code
 
-    module _ (p : ℕ) (e : holding_of shelf (length store) key ≡ Holding.In p) where
+    module _ (p : ℕ) (e : holding_of shelf (length store) key ≡ Ok p) where
       abbrev size : ℕ
       size = length_at (place_at shelf p) n
 
@@ -141,10 +117,10 @@ module _ (words store : List ℕ) (key : Key) where
         by-holding (holding_of shelf (length store) key)
         (λ p e.
         rw (copy-held shelf store key p e n old)
-        (among (λ k. copy (Copied.Refused k) old) CopiesSo (uncopied (place_at shelf p) n old) (copy_from (place_at shelf p) store p n old)
-        (copied-no 16 (omega arith), (copied-no 15 (omega arith), tt))
-        (copied-yes (size p e) (omega (arith, small p e)))))
-        (λ k e. rw (copy-refused shelf store key k e n old) (copied-no k (holding-range k e)))
+        (among (λ k. copy (Err k) old) CopiesSo (uncopied (place_at shelf p) n old) (copy_from (place_at shelf p) store p n old)
+        (sized-no SectionNotHeld, (sized-no OutputTooSmall, tt))
+        (sized-yes (size p e) (omega (arith, small p e)))))
+        (λ k e. rw (copy-refused shelf store key k e n old) (sized-no k))
 
     pub copy_fills : CopyFills words store key n old
     unfolding copy_lent
@@ -155,9 +131,9 @@ module _ (words store : List ℕ) (key : Key) where
         let bytes = standing store p n (size p e) in
         let whole : filled bytes old ≡ copy_out (copy_from (place_at shelf p) store p n old) = rw (stands p e) in
         rw (at, copy-held shelf store key p e n old)
-        (rw (through copy_out (λ k. copy (Copied.Refused k) old) (uncopied (place_at shelf p) n old) (copy_from (place_at shelf p) store p n old), ← whole)
-        (fills bytes old (uncopied (place_at shelf p) n old) (omega arith) (omega (arith, small p e, stands p e)))))
-        (λ k e. rw (copy-refused shelf store key k e n old) (refused-fills _ old k (holding-range k e).0 (holding-range k e).1))
+        (rw (through copy_out (λ k. copy (Err k) old) (uncopied (place_at shelf p) n old) (copy_from (place_at shelf p) store p n old), ← whole)
+        (fills bytes old (uncopied (place_at shelf p) n old) (omega (arith, small p e, stands p e)))))
+        (λ k e. rw (copy-refused shelf store key k e n old) (refused-fills _ old (number k) (in_byte k).0 (in_byte k).1))
 
   -- saving the table
   module _ (old : List ℕ) where
@@ -165,9 +141,9 @@ module _ (words store : List ℕ) (key : Key) where
     file = saved_file shelf store key
 
     abbrev SavesSo : Save.Save → Type 0
-    SavesSo c = Tells Saved.Refused saved_in c.said (save_out c).code
+    SavesSo c = Tells saved_in c.said (save_out c).code
 
-    module _ (p : ℕ) (e : holding_of shelf (length store) key ≡ Holding.In p) where
+    module _ (p : ℕ) (e : holding_of shelf (length store) key ≡ Ok p) where
       short : length file < 2 ^ 16
       short = rw (file-in shelf store key p e) (omega (arith, file-most (held-stands shelf store key p e)))
 
@@ -181,8 +157,8 @@ module _ (words store : List ℕ) (key : Key) where
         by-holding (holding_of shelf (length store) key)
         (λ p e.
         rw (saves p e)
-        (among (refuse old) SavesSo (unsaved file old) (written file old) (saved-no 15 (omega arith), tt) (saved-yes (length file) (short p e))))
-        (λ k e. rw (← save-refused shelf store key old k e) (saved-no k (holding-range k e)))
+        (among (refuse old) SavesSo (unsaved file old) (written file old) (sized-no OutputTooSmall, tt) (sized-yes (length file) (short p e))))
+        (λ k e. rw (← save-refused shelf store key old k e) (sized-no k))
 
     pub save_fills : SaveFills words store key old
     unfolding save_lent
@@ -190,5 +166,5 @@ module _ (words store : List ℕ) (key : Key) where
         by-holding (holding_of shelf (length store) key)
         (λ p e.
         rw (saves p e)
-        (rw (through save_out (refuse old) (unsaved file old) (written file old)) (fills file old (unsaved file old) (omega arith) (short p e))))
-        (λ k e. rw (← save-refused shelf store key old k e) (refused-fills file old k (holding-range k e).0 (holding-range k e).1))
+        (rw (through save_out (refuse old) (unsaved file old) (written file old)) (fills file old (unsaved file old) (short p e))))
+        (λ k e. rw (← save-refused shelf store key old k e) (refused-fills file old (number k) (in_byte k).0 (in_byte k).1))

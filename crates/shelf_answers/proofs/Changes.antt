@@ -1,29 +1,25 @@
 -- The calls that may change a lent shelf keep their laws.
 --   begin_keeps, offer_keeps, load_keeps, release_keeps
-use mathlib.Core.Path.{◌≡◌, refl, ap}
+use mathlib.Core.Path.{refl}
 use mathlib.Core.Bool.{not}
 use mathlib.Core.List.{List, [], ◌∷◌}
-use Prim.Native.Nat.{ℕ, ◌≤◌}
-use native.Mathlib.Omega.{arith}
-use mathlib.Core.Logic.{⊎_elim}
+use Prim.Native.Nat.{ℕ}
 use lib.Dec.{eqb}
 use lib.ListN.{length}
 use Rattle.base.specs.Choice.{◌if◌}
 use Rattle.base.specs.Bytes.{zeros, same}
 use Rattle.base.proofs.Cases.{by}
 use Rattle.base.proofs.Tables.{among}
-use Rattle.answers.proofs.Fills.{Refusal}
 use Rattle.section.specs.Section.{read_of}
 use Rattle.section.specs.declared.Header.{Header}
-use Rattle.section.specs.declared.Reading.{Reading}
-use Rattle.section.proofs.ExactlyWhen.{refused_range, own-bounds}
+use Rattle.std.specs.Prelude.{Result, Ok, Err}
+use Rattle.refusal.specs.declared.Refusal.{Refusal}
+use Rattle.refusal.specs.declared.Refusal.TheVariants.{NoFreePlace, Differs, KeyHeld, TableNotHeld, StoreSize, ShelfSpoiled}
 use Rattle.berth.specs.Berth.{places, store_size, standing}
 use Rattle.shelf.specs.Record.{Shelf, key_of, place_at, length_at, holds, spoiled_of, place_of, free_of}
 use Rattle.key.specs.declared.Key.{Key}
 use Rattle.shelf.specs.Layout.{shelf_at}
 use Rattle.shelf_write.specs.Writes.{fresh_words}
-use Rattle.shelf_begin.specs.Begin as Begin
-use Rattle.shelf_begin.specs.declared.Begun.{Begun}
 use Rattle.shelf_begin.specs.On as BeginOn
 use Rattle.shelf_begin.specs.Answer.{begun_in, begin_out, begin_lent}
 use Rattle.shelf_begin.proofs.Told.{begun-back}
@@ -34,19 +30,16 @@ use Rattle.shelf_offer.specs.Answer.{offered_in, offer_out, offer_lent}
 use Rattle.shelf_offer.proofs.Told.{offered-back}
 use Rattle.shelf_ask.specs.Ask.{unasked}
 use Rattle.shelf_release.specs.Release as Release
-use Rattle.shelf_release.specs.declared.Released.{Released}
 use Rattle.shelf_release.specs.On as ReleaseOn
 use Rattle.shelf_release.specs.Answer.{released_in, release_out, release_lent}
 use Rattle.shelf_release.proofs.Told.{released-back}
 use Rattle.shelf_release.proofs.Steps as Releasing
 use Rattle.file.specs.Scan.{scan_of}
-use Rattle.file.specs.declared.Scan.{Scan}
+use Rattle.file.specs.declared.Table.{Table}
 use Rattle.shelf_load.specs.Load as Load
-use Rattle.shelf_load.specs.declared.Loaded.{Loaded}
 use Rattle.shelf_load.specs.On as LoadOn
 use Rattle.shelf_load.specs.Answer.{loaded_in, load_out, load_lent}
 use Rattle.shelf_load.proofs.Told.{loaded-back}
-use Rattle.shelf_load.proofs.Faults.{FileFault, scan-range}
 use Rattle.shelf_answers.specs.Laws.{Keeps, BeginKeeps, OfferKeeps, LoadKeeps, ReleaseKeeps}
 use Rattle.shelf_answers.proofs.Tells.{keeps-no, keeps-yes}
 
@@ -56,41 +49,38 @@ module _ (words store : List ℕ) where
 
   -- beginning
   abbrev BeginsSo : BeginOn.Leaving → Type 0
-  BeginsSo a = Keeps Begun.Refused begun_in a.said words store (begin_out a)
+  BeginsSo a = Keeps begun_in a.said words store (begin_out a)
 
-  unbegun-so : (n : ℕ) → Refusal n → BeginsSo (BeginOn.leaving (Begun.Refused n) words store)
-  unbegun-so n r =
-      keeps-no Begun.Refused begun_in n r (λ m e. ap Begin.number_of e) (λ w. begun-back (Begun.Refused n) (λ m e. (w m e).0)) words store
+  unbegun-so : (r : Refusal) → BeginsSo (BeginOn.leaving (Err r) words store)
+  unbegun-so r = keeps-no begun_in r (begun-back (Err r)) words store
 
   pub begin_keeps : BeginKeeps words store
   unfolding begin_lent BeginOn.begin_on
   begin_keeps =
-      among (λ n. BeginOn.leaving (Begun.Refused n) words store) BeginsSo (BeginOn.unbegun words store)
-      (BeginOn.leaving Begun.Done fresh_words (zeros store_size))
-      (unbegun-so 17 (omega arith), (unbegun-so 18 (omega arith), tt))
-      (keeps-yes Begun.Refused begun_in Begun.Done 0 (λ n e. let z : ◌≡◌ {A = ℕ} 0 1 = cc in omega arith) refl refl words store fresh_words (zeros store_size))
+      among (λ r. BeginOn.leaving (Err r) words store) BeginsSo (BeginOn.unbegun words store)
+      (BeginOn.leaving (Ok tt) fresh_words (zeros store_size))
+      (unbegun-so StoreSize, (unbegun-so ShelfSpoiled, tt))
+      (keeps-yes begun_in tt 0 refl refl words store fresh_words (zeros store_size))
 
   -- offering, case by case
   module _ (payload : List ℕ) where
-    abbrev OffersSo : Offered → List ℕ → List ℕ → Type 0
-    OffersSo said kept left = Keeps Offered.Refused offered_in said words store (offer_out (OfferOn.leaving said kept left))
+    abbrev OffersSo : Result Offered Refusal → List ℕ → List ℕ → Type 0
+    OffersSo said kept left = Keeps offered_in said words store (offer_out (OfferOn.leaving said kept left))
 
-    unoffered-so : (n : ℕ) → Refusal n → OffersSo (Offered.Refused n) words store
-    unoffered-so n r =
-        keeps-no Offered.Refused offered_in n r (λ m e. ap Offer.number_of e)
-        (λ w. offered-back (Offered.Refused n) (λ m e. (w m e).1)) words store
+    unoffered-so : (r : Refusal) → OffersSo (Err r) words store
+    unoffered-so r = keeps-no offered_in r (offered-back (Err r)) words store
 
-    began-so : (kept left : List ℕ) → OffersSo Offered.Began kept left
-    began-so = keeps-yes Offered.Refused offered_in Offered.Began 256 (λ n e. let z : ◌≡◌ {A = ℕ} 0 1 = cc in omega arith) refl refl words store
+    began-so : (kept left : List ℕ) → OffersSo (Ok Offered.Began) kept left
+    began-so = keeps-yes offered_in Offered.Began 256 refl refl words store
 
-    again-so : (kept left : List ℕ) → OffersSo Offered.BeganAgain kept left
-    again-so = keeps-yes Offered.Refused offered_in Offered.BeganAgain 512 (λ n e. let z : ◌≡◌ {A = ℕ} 0 1 = cc in omega arith) refl refl words store
+    again-so : (kept left : List ℕ) → OffersSo (Ok Offered.BeganAgain) kept left
+    again-so = keeps-yes offered_in Offered.BeganAgain 512 refl refl words store
 
-    added-so : (kept left : List ℕ) → OffersSo Offered.Added kept left
-    added-so = keeps-yes Offered.Refused offered_in Offered.Added 768 (λ n e. let z : ◌≡◌ {A = ℕ} 0 1 = cc in omega arith) refl refl words store
+    added-so : (kept left : List ℕ) → OffersSo (Ok Offered.Added) kept left
+    added-so = keeps-yes offered_in Offered.Added 768 refl refl words store
 
-    repeat-so : (kept left : List ℕ) → OffersSo Offered.Repeat kept left
-    repeat-so = keeps-yes Offered.Refused offered_in Offered.Repeat 1024 (λ n e. let z : ◌≡◌ {A = ℕ} 0 1 = cc in omega arith) refl refl words store
+    repeat-so : (kept left : List ℕ) → OffersSo (Ok Offered.Repeat) kept left
+    repeat-so = keeps-yes offered_in Offered.Repeat 1024 refl refl words store
 
     held-so : (p : ℕ) (h : Header)
         → OffersSo (Offer.held_of shelf store payload p h).said
@@ -102,14 +92,14 @@ module _ (words store : List ℕ) where
         (λ a. rw a (again-so _ _))
         (λ a.
         by (not (eqb (place_at shelf p).last h.last))
-        (λ b. rw (a, b) (unoffered-so 10 (omega arith)))
+        (λ b. rw (a, b) (unoffered-so Differs))
         (λ b.
         by (not (holds (place_at shelf p) h.number))
         (λ c. rw (a, b, c) (added-so _ _))
         (λ c.
         by (same (standing store p h.number (length_at (place_at shelf p) h.number)) payload)
         (λ d. rw (a, b, c, d) (repeat-so _ _))
-        (λ d. rw (a, b, c, d) (unoffered-so 10 (omega arith))))))
+        (λ d. rw (a, b, c, d) (unoffered-so Differs)))))
 
     sound-so : (h : Header)
         → OffersSo (Offer.sound_of shelf store payload h).said
@@ -120,81 +110,73 @@ module _ (words store : List ℕ) where
         by (eqb (place_of shelf (key_of h)) places)
         (λ a.
         by (eqb (free_of shelf) places)
-        (λ b. rw (a, b) (unoffered-so 9 (omega arith)))
+        (λ b. rw (a, b) (unoffered-so NoFreePlace))
         (λ b. rw (a, b) (began-so _ _)))
         (λ a. rw a (held-so (place_of shelf (key_of h)) h))
 
-    reading-so : (r : Reading) → read_of payload ≡ r
+    reading-so : (r : Result Header Refusal)
         → OffersSo (Offer.reading_of shelf store payload r).said
         (OfferOn.words_by words payload (Offer.reading_of shelf store payload r).said)
         (Offer.reading_of shelf store payload r).store
-    reading-so (Reading.Sound h) e = sound-so h
-    reading-so (Reading.Refused n) e =
-        let r = own-bounds n (refused_range payload n e) in unoffered-so n (omega (arith, r.0, r.1))
+    reading-so (Ok h) = sound-so h
+    reading-so (Err r) = unoffered-so r
 
     pub offer_keeps : OfferKeeps words store payload
     unfolding offer_lent OfferOn.offer_on Offer.offer_of
     offer_keeps =
         by (not (eqb (length store) store_size))
-        (λ a. rw a (unoffered-so 17 (omega arith)))
+        (λ a. rw a (unoffered-so StoreSize))
         (λ a.
         by (spoiled_of shelf)
-        (λ b. rw (a, b) (unoffered-so 18 (omega arith)))
-        (λ b. rw (a, b) (reading-so (read_of payload) refl)))
+        (λ b. rw (a, b) (unoffered-so ShelfSpoiled))
+        (λ b. rw (a, b) (reading-so (read_of payload))))
 
   -- releasing
   module _ (key : Key) where
     abbrev ReleasesSo : Release.After → Type 0
     ReleasesSo a =
-        Keeps Released.Refused released_in a.said words store
+        Keeps released_in a.said words store
         (release_out (ReleaseOn.leaving a.said (ReleaseOn.words_by words (place_of shelf key) a.said) a.store))
 
-    unreleased-so : (n : ℕ) → Refusal n → ReleasesSo (Releasing.refuse shelf store key n)
-    unreleased-so n r =
-        keeps-no Released.Refused released_in n r (λ m e. ap Release.number_of e)
-        (λ w. released-back (Released.Refused n) (λ m e. (w m e).0)) words store
+    unreleased-so : (r : Refusal) → ReleasesSo (Releasing.refuse shelf store key r)
+    unreleased-so r = keeps-no released_in r (released-back (Err r)) words store
 
     pub release_keeps : ReleaseKeeps words store key
     unfolding release_lent ReleaseOn.release_on Release.release_of
     release_keeps =
         among (Releasing.refuse shelf store key) ReleasesSo (unasked shelf store key) (Releasing.done shelf store key (place_of shelf key))
-        (unreleased-so 17 (omega arith), (unreleased-so 18 (omega arith), (unreleased-so 14 (omega arith), tt)))
-        (keeps-yes Released.Refused released_in Released.Done 0 (λ n e. let z : ◌≡◌ {A = ℕ} 0 1 = cc in omega arith) refl refl words store _ _)
+        (unreleased-so StoreSize, (unreleased-so ShelfSpoiled, (unreleased-so TableNotHeld, tt)))
+        (keeps-yes released_in tt 0 refl refl words store _ _)
 
   -- loading
   module _ (file : List ℕ) where
     -- what a load leaves where its scan found `s`
-    abbrev LoadsSo : Scan → Load.After → Type 0
+    abbrev LoadsSo : Result Table Refusal → Load.After → Type 0
     LoadsSo s a =
-        Keeps Loaded.Refused loaded_in a.said words store
-        (load_out (LoadOn.leaving a.said (LoadOn.words_by words (free_of shelf) (scan_of file).lengths s a.said) a.store))
+        Keeps loaded_in a.said words store
+        (load_out (LoadOn.leaving a.said (LoadOn.words_by words (free_of shelf) s a.said) a.store))
 
-    unloaded-so : (s : Scan) (n : ℕ) → Refusal n → LoadsSo s (Load.no shelf store file n)
-    unloaded-so s n r =
-        go s
-        (keeps-no Loaded.Refused loaded_in n r (λ m e. ap Load.number_of e)
-        (λ w. loaded-back (Loaded.Refused n) (λ m e. (w m e).0)) words store)
+    unloaded-so : (s : Result Table Refusal) (r : Refusal) → LoadsSo s (Load.no shelf store file r)
+    unloaded-so s r = go s (keeps-no loaded_in r (loaded-back (Err r)) words store)
       where
-        go : (s : Scan) → LoadsSo (Scan.Refused 0) (Load.no shelf store file n) → LoadsSo s (Load.no shelf store file n)
-        go (Scan.Table h) k = k
-        go (Scan.Refused m) k = k
+        go : (s : Result Table Refusal) → LoadsSo (Err r) (Load.no shelf store file r) → LoadsSo s (Load.no shelf store file r)
+        go (Ok table) k = k
+        go (Err q) k = k
 
-    answered-so : (s : Scan) → (scan_of file).answer ≡ s → LoadsSo s (Load.answered shelf store file (scan_of file) s)
+    answered-so : (s : Result Table Refusal) → LoadsSo s (Load.answered shelf store file s)
     unfolding Load.table_of
-    answered-so (Scan.Table h) e =
-        among (Load.no shelf store file) (LoadsSo (Scan.Table h))
-        (13 if not (eqb (place_of shelf (key_of h)) places) ∷ 9 if eqb (free_of shelf) places ∷ []) _
-        (unloaded-so (Scan.Table h) 13 (omega arith), (unloaded-so (Scan.Table h) 9 (omega arith), tt))
-        (keeps-yes Loaded.Refused loaded_in Loaded.Done 0 (λ n e. let z : ◌≡◌ {A = ℕ} 0 1 = cc in omega arith) refl refl words store _ _)
-    answered-so (Scan.Refused n) e = unloaded-so (Scan.Refused n) n (fault (scan-range file n e))
-      where
-        fault : FileFault n → Refusal n
-        fault = ⊎_elim (⊎_elim (λ a. omega (arith, a.0, a.1)) (λ q. omega arith)) (⊎_elim (λ q. omega arith) (λ q. omega arith))
+    answered-so (Ok table) =
+        let h = table.header in
+        among (Load.no shelf store file) (LoadsSo (Ok table))
+        (KeyHeld if not (eqb (place_of shelf (key_of h)) places) ∷ NoFreePlace if eqb (free_of shelf) places ∷ []) _
+        (unloaded-so (Ok table) KeyHeld, (unloaded-so (Ok table) NoFreePlace, tt))
+        (keeps-yes loaded_in tt 0 refl refl words store _ _)
+    answered-so (Err r) = unloaded-so (Err r) r
 
     pub load_keeps : LoadKeeps words store file
     unfolding load_lent LoadOn.load_on Load.load_of
     load_keeps =
-        among (Load.no shelf store file) (LoadsSo (scan_of file).answer)
-        (17 if not (eqb (length store) store_size) ∷ 18 if spoiled_of shelf ∷ []) (Load.answered shelf store file (scan_of file) (scan_of file).answer)
-        (unloaded-so (scan_of file).answer 17 (omega arith), (unloaded-so (scan_of file).answer 18 (omega arith), tt))
-        (answered-so (scan_of file).answer refl)
+        among (Load.no shelf store file) (LoadsSo (scan_of file))
+        (StoreSize if not (eqb (length store) store_size) ∷ ShelfSpoiled if spoiled_of shelf ∷ []) (Load.answered shelf store file (scan_of file))
+        (unloaded-so (scan_of file) StoreSize, (unloaded-so (scan_of file) ShelfSpoiled, tt))
+        (answered-so (scan_of file))
