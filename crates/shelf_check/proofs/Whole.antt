@@ -3,11 +3,10 @@
 --   free-place, high-version, high-last, none-held, of-lengths   a place
 --   free-first, differ, differ-wide, heads-differ, keys-alike   a pair
 --   all-pairs, all-four      the record
---   all, all_asked, all_in      all of the numbers, as a part of themselves
 use mathlib.Core.Path.{◌≡◌, refl, sym, ap, ◌∙◌}
 use mathlib.Core.Bool.{Bool, true, false, not, ◌||◌}
 use mathlib.Core.List.{List}
-use Prim.Native.Nat.{ℕ, ◌+◌, ◌-◌, ◌*◌, ◌/◌, ◌%◌, ◌^◌, ◌<◌, ◌≤◌}
+use Prim.Native.Nat.{ℕ, ◌+◌, ◌*◌, ◌/◌, ◌%◌, ◌^◌, ◌<◌, ◌≤◌}
 use native.Mathlib.Nat.{zero-div}
 use native.Mathlib.Omega.{arith}
 use lib.Dec.{eqb, ltb}
@@ -15,15 +14,13 @@ use lib.ListN.{length, get_or}
 use borrow.Author.Tests.{eq-eqb, ne_eqb, eqb-true, lt-ltb, le-ltb}
 use Rattle.base.specs.Below.{some}
 use Rattle.base.proofs.Below.{some-all, some-which, some-found}
-use Rattle.base.specs.Bytes.{part}
-use Rattle.base.proofs.Bytes.{part-whole}
 use Rattle.base.proofs.Cases.{by, unlike}
 use Rattle.shelf.specs.Record.{length_at, holds, wrong_at, alike, spoiled_place, spoiled_of, place_at}
 use Rattle.base.specs.Bits.{bit}
-use Rattle.shelf.specs.Layout.{table_in, taken_in, place_in, shelf_in, shelf_at}
+use Rattle.shelf.specs.Layout.{table_in, taken_in, place_in, shelf_in}
 use Rattle.shelf.specs.Calls.{length_among, last_among, version_among}
 use Rattle.base.proofs.Bits.{one_set}
-use Rattle.shelf.proofs.Numbers.{length-in, held_at, among-length, among-last, among-version, at_count, at-id, at-further}
+use Rattle.shelf.proofs.Numbers.{length-in, held_at, among-length, among-last, among-version, at-id, at-further}
 use Rattle.shelf.specs.Layout.{key_number, rest_number, key_at}
 use Rattle.key.specs.declared.Key.{Key}
 use Rattle.key.specs.Key.{same_key}
@@ -237,14 +234,3 @@ all-four words e f g h i =
       i,
       pairs (λ p q. alike (place_in words p) (place_in words q)),
     )
-
--- all of the numbers, lent as a part of themselves
-module _ (words : List ℕ) where
-  pub all : part words 0 (length words - 0) ≡ words
-  all = ap (part words 0) (let n : length words - 0 ≡ length words = omega arith in n) ∙ part-whole words
-
-  pub all_asked : {r : Bool} → r ≡ spoiled_of (shelf_at (part words 0 (length words - 0))) → r ≡ spoiled_of (shelf_at words)
-  all_asked e = e ∙ ap (λ w. spoiled_of (shelf_at w)) all
-
-  pub all_in : {r : Bool} → length words ≡ 96 → r ≡ spoiled_of (shelf_in (part words 0 (length words - 0))) → r ≡ spoiled_of (shelf_at words)
-  all_in n e = e ∙ ap (λ w. spoiled_of (shelf_in w)) all ∙ sym (ap spoiled_of (at_count words n))

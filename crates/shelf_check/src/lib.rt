@@ -67,21 +67,18 @@ fn less_eight(x: u16) -> u16
 
 // Whether a length is outside 8 to 1,024, a version above 31 or a last above 15, in a place that is taken or free. It reads all sixteen of each and keeps a
 // yes or no: without a way out the compiler asks of many at a time.
-fn columns_stop(words: &[u16]) -> bool
-    requires { length words.now ≡ count }
+fn columns_stop(words: &[u16; WORDS]) -> bool
     ensures { result ≡ false → FineColumns words.now }
 {
     let most = MOST;
     let mut stops = false;
-    let mut i: usize = 0;
-    while i < 16 {
+    for i in 0..SECTIONS {
         let w = less_eight(words[i]);
         let x = less_eight(words[SECOND + i]);
         let y = less_eight(words[THIRD + i]);
         let z = less_eight(words[FOURTH + i]);
         let length = highest(w, x, y, z);
-        stops = stops | ((most[i] < words[HEADS + i]) | (SPAN < length));
-        i += 1;
+        stops |= (most[i] < words[HEADS + i]) | (SPAN < length);
     }
     stops
 }
@@ -93,16 +90,15 @@ fn shifted(mask: u16, last: u16) -> u32
 }
 
 // Over 1 where in place p a number above last is held.
-fn above(words: &[u16], p: usize) -> u32
-    requires { (length words.now ≡ count) × (p < places) }
+fn above(words: &[u16; WORDS], p: usize) -> u32
+    requires { p < places }
     ensures { result ≡ from_last words.now p }
 {
     shifted(words[MASKS + p], words[HEADS + 3 + HEAD * p])
 }
 
 // Whether in each place nothing is held above last.
-fn none_above(words: &[u16]) -> bool
-    requires { length words.now ≡ count }
+fn none_above(words: &[u16; WORDS]) -> bool
     ensures { result ≡ true → ((p : ℕ) → p < places → NoneAbove words.now p) }
 {
     ((above(words, 0) <= 1) & (above(words, 1) <= 1))
@@ -110,16 +106,15 @@ fn none_above(words: &[u16]) -> bool
 }
 
 // Whether in place p nothing is held.
-fn is_empty(words: &[u16], p: usize) -> bool
-    requires { (length words.now ≡ count) × (p < places) }
+fn is_empty(words: &[u16; WORDS], p: usize) -> bool
+    requires { p < places }
     ensures { result ≡ false → OneHeld words.now p }
 {
     words[MASKS + p] == 0
 }
 
 // Whether a mask stops the pass: in a place nothing is held, or something above last.
-fn masks_stop(words: &[u16]) -> bool
-    requires { length words.now ≡ count }
+fn masks_stop(words: &[u16; WORDS]) -> bool
     ensures { result ≡ false → FineMasks words.now }
 {
     (((!none_above(words) | is_empty(words, 0)) | is_empty(words, 1)) | is_empty(words, 2))
@@ -127,8 +122,8 @@ fn masks_stop(words: &[u16]) -> bool
 }
 
 // The head of place p, and of an NRT-IT's key so much more as there is room for: where two of these differ, so do the tables.
-fn wide_number(words: &[u16], p: usize) -> u64
-    requires { (length words.now ≡ count) × (p < places) }
+fn wide_number(words: &[u16; WORDS], p: usize) -> u64
+    requires { p < places }
     ensures { result ≡ wide_number words.now p }
 {
     let number = shelf::key_number(words, p) as u64;
@@ -139,8 +134,7 @@ fn wide_number(words: &[u16], p: usize) -> u64
 }
 
 // Whether no two of the heads begin alike, lists told apart by what follows.
-fn lists_differ(words: &[u16]) -> bool
-    requires { length words.now ≡ count }
+fn lists_differ(words: &[u16; WORDS]) -> bool
     ensures { result ≡ true → Apart words.now }
 {
     let first = wide_number(words, 0);
@@ -155,8 +149,7 @@ fn lists_differ(words: &[u16]) -> bool
 // Whether the heads and the masks pass: in each place something is held and nothing above last, and no two have one key. One
 // chain of tests with no way out in between, which the compiler makes of conditional compares and no branches; only where two heads begin
 // alike, as those of two services' lists do, more of the keys is asked.
-fn heads_pass(words: &[u16]) -> bool
-    requires { length words.now ≡ count }
+fn heads_pass(words: &[u16; WORDS]) -> bool
     ensures { result ≡ true → FineMasks words.now × Apart words.now }
 {
     let first = shelf::key_number(words, 0);
@@ -174,16 +167,15 @@ fn heads_pass(words: &[u16]) -> bool
 }
 
 // Whether the lengths, the versions and the lasts pass.
-fn lengths_pass(words: &[u16]) -> bool
-    requires { length words.now ≡ count }
+fn lengths_pass(words: &[u16; WORDS]) -> bool
     ensures { result ≡ true → FineColumns words.now }
 {
     !columns_stop(words)
 }
 
 // Whether section n of the table in place p is held and above last, or has a length outside 8 to 1,024.
-fn wrong_at(words: &[u16], p: usize, n: usize) -> bool
-    requires { (length words.now ≡ count) × (p < places) × (n < sections) }
+fn wrong_at(words: &[u16; WORDS], p: usize, n: usize) -> bool
+    requires { (p < places) × (n < sections) }
     ensures { result ≡ wrong_at (table_in words.now p) n }
 {
     let length = shelf::length_of(words, p, n);
@@ -200,23 +192,21 @@ fn wrong_at(words: &[u16], p: usize, n: usize) -> bool
 }
 
 // .. one of the sixteen.
-fn any_wrong(words: &[u16], p: usize) -> bool
-    requires { (length words.now ≡ count) × (p < places) }
+fn any_wrong(words: &[u16; WORDS], p: usize) -> bool
+    requires { p < places }
     ensures { result ≡ some sections (wrong_at (table_in words.now p)) }
 {
-    let mut n: usize = 0;
-    while n < SECTIONS {
+    for n in 0..SECTIONS {
         if wrong_at(words, p, n) {
             return true;
         }
-        n += 1;
     }
     false
 }
 
 // Whether a table is in place p that is spoiled.
-fn place_spoiled(words: &[u16], p: usize) -> bool
-    requires { (length words.now ≡ count) × (p < places) }
+fn place_spoiled(words: &[u16; WORDS], p: usize) -> bool
+    requires { p < places }
     ensures { result ≡ spoiled_place (place_in words.now p) }
 {
     if words[HEADS + HEAD * p] / 256 != 1 {
@@ -235,8 +225,8 @@ fn place_spoiled(words: &[u16], p: usize) -> bool
 }
 
 // Whether tables with one key are in places p and q. The sign that a place is taken is a part of what is compared first.
-fn one_key(words: &[u16], p: usize, q: usize) -> bool
-    requires { (length words.now ≡ count) × (p < places) × (q < places) }
+fn one_key(words: &[u16; WORDS], p: usize, q: usize) -> bool
+    requires { (p < places) × (q < places) }
     ensures { result ≡ alike (place_in words.now p) (place_in words.now q) }
 {
     if words[HEADS + HEAD * p] / 256 != 1 {
@@ -245,12 +235,11 @@ fn one_key(words: &[u16], p: usize, q: usize) -> bool
     if shelf::key_number(words, p) != shelf::key_number(words, q) {
         return false;
     }
-    key::same(shelf::key_in(words, p), shelf::key_in(words, q))
+    shelf::key_in(words, p) == shelf::key_in(words, q)
 }
 
 // Whether tables with one key are in two places, pair by pair.
-fn key_twice(words: &[u16]) -> bool
-    requires { length words.now ≡ count }
+fn key_twice(words: &[u16; WORDS]) -> bool
     ensures { result ≡ any_alike words.now }
 {
     let first = one_key(words, 0, 1) | (one_key(words, 0, 2) | one_key(words, 1, 2));
@@ -258,9 +247,9 @@ fn key_twice(words: &[u16]) -> bool
     first | rest
 }
 
-// Whether the record is spoiled, place by place and then by keys.
-fn each_asked(words: &[u16]) -> bool
-    requires { length words.now ≡ count }
+// Whether the record is spoiled, place by place and then by keys. The compiler keeps it apart from the pass, which so needs no frame.
+#[inline(never)]
+fn each_asked(words: &[u16; WORDS]) -> bool
     ensures { result ≡ spoiled_of (shelf_in words.now) }
 {
     let tables = ((place_spoiled(words, 0) | place_spoiled(words, 1)) | place_spoiled(words, 2))
@@ -268,42 +257,24 @@ fn each_asked(words: &[u16]) -> bool
     tables | key_twice(words)
 }
 
-// Whether the record that the numbers are is spoiled, asked of each place. Two places call it, so that the compiler keeps it apart
-// from the pass. Here and below the slice is taken apart at once: so it comes in registers, and not by way of memory.
-fn in_full(words: &[u16]) -> bool
-    ensures { result ≡ spoiled_of (shelf_at words.now) }
+// Whether the record is spoiled. Where masks, lengths, versions and lasts are fine, the keys decide; else it is asked in full.
+fn is_bad(words: &[u16; WORDS]) -> bool
+    ensures { result ≡ spoiled_of (shelf_in words.now) }
 {
-    let count = words.len();
-    let numbers = &words[0..count];
-    if count != WORDS {
-        return true;
-    }
-    each_asked(numbers)
-}
-
-// Whether the record that the numbers are is spoiled. Where masks, lengths, versions and lasts are fine, the keys decide; else it is asked in full.
-fn is_bad(words: &[u16]) -> bool
-    ensures { result ≡ spoiled_of (shelf_at words.now) }
-{
-    if words.len() != WORDS {
-        return in_full(words);
-    }
     if !masks_stop(words) & lengths_pass(words) {
         return key_twice(words);
     }
-    in_full(words)
+    each_asked(words)
 }
 
 // The number, or 18 where the record that the numbers are is spoiled. A call that has its answer ends by this one, and so needs no frame.
 pub fn unless_spoiled(words: &[u16], number: u16) -> u16
     ensures { result ≡ unless_spoiled (spoiled_of (shelf_at words.now)) number }
 {
-    let count = words.len();
-    let numbers = &words[0..count];
-    if is_bad(numbers) {
+    let Ok(record) = <&[u16; WORDS]>::try_from(words) else {
         return SPOILED;
-    }
-    number
+    };
+    if is_bad(record) { SPOILED } else { number }
 }
 
 // Whether the record that the numbers are is spoiled. Any other count of numbers than 96 is.
@@ -318,11 +289,8 @@ pub fn is_spoiled(words: &[u16]) -> bool
 pub fn passes(words: &[u16]) -> bool
     ensures { result ≡ true → spoiled_of (shelf_at words.now) ≡ false }
 {
-    let count = words.len();
-    let numbers = &words[0..count];
-    if count == WORDS {
-        heads_pass(numbers) & lengths_pass(numbers)
-    } else {
-        false
-    }
+    let Ok(record) = <&[u16; WORDS]>::try_from(words) else {
+        return false;
+    };
+    heads_pass(record) & lengths_pass(record)
 }

@@ -1,14 +1,10 @@
 -- `shelf_check::any_wrong` meets its promise: the search for a section that is wrong.
 use mathlib.Core.Path.{◌≡◌}
 use mathlib.Core.Bool.{false}
-use Prim.Native.Nat.{◌≤◌, ◌-◌}
 use Rattle.base.specs.Below.{some}
 use Rattle.shelf.specs.Record.{wrong_at}
 use Rattle.shelf.specs.Layout.{table_in}
 use Rattle.shelf_check.proofs.any_wrong.Given as goal
 
 abbrev pub invariant-loop-n : goal.invariant-loop-n
-invariant-loop-n l = (l.n ≤ 16) × (some l.n (wrong_at (table_in l.words l.p)) ≡ false)
-
-abbrev pub decreases-loop-n : goal.decreases-loop-n
-decreases-loop-n l = 16 - l.n
+invariant-loop-n l = some l.n (wrong_at (table_in l.words l.p)) ≡ false

@@ -18,4 +18,4 @@ pub returns-then-words-p-eq0 : goal.returns-then-words-p-eq0
 returns-then-words-p-eq0 c = none-held _ (search rules) _ (search rules) c.if-words-p-ne1.false c.version_of.ensures (search rules) c.last_of.ensures (search rules) c.if-words-p-eq0.true
 
 pub returns : goal.returns
-returns c = of-lengths _ (search rules) _ (search rules) c.if-words-p-ne1.false c.version_of.ensures (search rules) c.last_of.ensures (search rules) (omega (arith, c.type_inv.words (80 + c.args.p))) c.if-words-p-eq0.false c.any_wrong.ensures
+returns c = of-lengths _ (search rules) _ (search rules) c.if-words-p-ne1.false c.version_of.ensures (search rules) c.last_of.ensures (search rules) (omega (arith, c.fits-words (80 + c.args.p))) c.if-words-p-eq0.false c.any_wrong.ensures
