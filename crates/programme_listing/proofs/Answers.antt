@@ -13,7 +13,9 @@ use Rattle.answers.specs.Answers.{out, size_or}
 use Rattle.programme_listing.specs.Listing.{text_of, listing, list_of}
 use Rattle.programme_listing.specs.Answer.{long_code, listed_code, list_out, list_lent}
 use Rattle.programme_listing.specs.Theorems.{OneListing, ListComesBack, ListFills}
-use Rattle.programme_listing.specs.declared.Listed.{Listed}
+use Rattle.std.specs.Prelude.{Result, Ok, Err}
+use Rattle.refusal.specs.declared.Refusal.{Refusal}
+use Rattle.refusal.specs.Refusal.{refusal_of}
 
 pub long-back : {A : Type 0} (bytes refused : ℕ → A) (n : ℕ) → size_or bytes refused (long_code n) ≡ bytes n
 long-back bytes refused n = rw (eq-eqb (long_code n % 2 ^ 8) 0 (omega arith)) (ap bytes (omega arith))
@@ -27,7 +29,7 @@ module _ (file old : List ℕ) where
   list_comes_back =
       by (ltb (length old) (length (text_of file)))
       (λ t. rw t)
-      (λ f. rw f (long-back Listed.Bytes Listed.Refused (length (text_of file))))
+      (λ f. rw f (long-back Ok (λ n. Err (refusal_of n)) (length (text_of file))))
 
   pub list_fills : ListFills file old
   unfolding list_lent list_of
@@ -52,10 +54,10 @@ module _ (file old : List ℕ) where
         size = λ _. omega arith;
       }))
 
-pub list-told : (file o o' : List ℕ) (r : Listed) (code : ℕ) → listing r o' ≡ list_of file o → code ≡ listed_code r → out code o' ≡ list_lent file o
+pub list-told : (file o o' : List ℕ) (r : Result ℕ Refusal) (code : ℕ) → listing r o' ≡ list_of file o → code ≡ listed_code r → out code o' ≡ list_lent file o
 unfolding list_lent
 list-told file o o' r code e q = ap (λ n. out n o') q ∙ ap list_out e
 
 -- a size in an answer fits 64 bits
-pub told-fits : (r : Listed) (n : ℕ) → n ≤ 327768 → 256 * n < 2 ^ 64
+pub told-fits : (r : Result ℕ Refusal) (n : ℕ) → n ≤ 327768 → 256 * n < 2 ^ 64
 told-fits r n l = omega arith

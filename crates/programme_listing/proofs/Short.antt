@@ -15,7 +15,11 @@ use Rattle.base.proofs.Bytes.{length_part}
 use Rattle.base.proofs.Cases.{by}
 use Rattle.section.specs.declared.Header.{Header}
 use Rattle.file.specs.Scan.{scan_of}
-use Rattle.file.specs.declared.Scan.{Scan}
+use Rattle.std.specs.Prelude.{Result, Ok, Err}
+use Rattle.refusal.specs.Refusal.{number}
+use Rattle.refusal.specs.declared.Refusal.{Refusal}
+use Rattle.refusal.specs.declared.Refusal.TheVariants.{OutputTooSmall}
+use Rattle.file.specs.declared.Table.{Table}
 use Rattle.file.proofs.Held.{held}
 use Rattle.file_listing.specs.Words.{lines}
 use Rattle.file_listing.specs.Listing.{head_line, missing_line, missing_of, refused_line}
@@ -24,7 +28,6 @@ use Rattle.programme.specs.Table.{nrt_it}
 use Rattle.programme_section.proofs.Short.{section-short}
 use Rattle.programme_listing.specs.Listing.{payload_of, section_of, whole_at, end_line, list_text, table_text, answer_text, text_of, listing, list_of}
 use Rattle.programme_listing.specs.Theorems.{TextShort, AlwaysListed}
-use Rattle.programme_listing.specs.declared.Listed.{Listed}
 
 head-short : (h : Header) → length (head_line h) ≤ 78
 unfolding head_line
@@ -42,12 +45,15 @@ end_short : (b : Bool) → length (end_line b) ≤ 10
 end_short true = omega arith
 end_short false = omega arith
 
-module _ (file : List ℕ) (h : Header) (e : (scan_of file).answer ≡ Scan.Table h) where
+module _ (file : List ℕ) (table : Table) (e : scan_of file ≡ Ok table) where
+  abbrev h : Header
+  h = table.header
+
   abbrev starts : List ℕ
-  starts = (scan_of file).starts
+  starts = table.starts
 
   abbrev lengths : List ℕ
-  lengths = (scan_of file).lengths
+  lengths = table.lengths
 
   -- what is written for one number, whether it is held or lacks
   number_short : (n : ℕ) → length (section_of file starts lengths n) + length (missing_of lengths n) ≤ 20480
@@ -64,7 +70,7 @@ module _ (file : List ℕ) (h : Header) (e : (scan_of file).answer ≡ Scan.Tabl
       let high : get_or lengths n 0 ≤ 1024 = w.high in
       let long : length (payload_of file starts lengths n) ≡ get_or lengths n 0 = length_part file (get_or starts n 0) (get_or lengths n 0) w.inside in
       omega (arith, section-short n (payload_of file starts lengths n) (omega arith)))
-      ((held file h e).each n)))
+      ((held file table e).each n)))
 
   numbers-short : (k : ℕ) → length (lines k (section_of file starts lengths)) + length (lines k (missing_of lengths)) ≤ 20480 * k
   unfolding lines
@@ -74,7 +80,7 @@ module _ (file : List ℕ) (h : Header) (e : (scan_of file).answer ≡ Scan.Tabl
   list-short : length (list_text file starts lengths h.last) ≤ 327690
   unfolding list_text
   list-short =
-      let last : h.last ≤ 15 = (held file h e).last in
+      let last : h.last ≤ 15 = (held file table e).last in
       simp length-append (omega (arith, numbers-short (h.last + 1), end_short (every (h.last + 1) (whole_at file starts lengths))))
 
   table-short : length (table_text file starts lengths h) ≤ 327768
@@ -86,27 +92,27 @@ module _ (file : List ℕ) (h : Header) (e : (scan_of file).answer ≡ Scan.Tabl
 
 pub text_short : (file : List ℕ) → TextShort file
 unfolding text_of
-text_short file = go (scan_of file).answer refl
+text_short file = go (scan_of file) refl
   where
-    go : (a : Scan) → (scan_of file).answer ≡ a → length (answer_text file (scan_of file).starts (scan_of file).lengths a) ≤ 327768
-    go (Scan.Refused n) e = omega (arith, refused-short n)
-    go (Scan.Table h) e = table-short file h e
+    go : (a : Result Table Refusal) → scan_of file ≡ a → length (answer_text file a) ≤ 327768
+    go (Err r) e = omega (arith, refused-short (number r))
+    go (Ok table) e = table-short file table e
 
 pub always_listed : (file old : List ℕ) → AlwaysListed file old
 unfolding list_of
 always_listed file old l = rw (le-ltb (length old) (length (text_of file)) (omega (arith, text_short file)))
 
-pub listed-within : (file old : List ℕ) (n : ℕ) (after : List ℕ) → listing (Listed.Bytes n) after ≡ list_of file old → (n ≤ length after) × (n ≤ 327768)
+pub listed-within : (file old : List ℕ) (n : ℕ) (after : List ℕ) → listing (Ok n) after ≡ list_of file old → (n ≤ length after) × (n ≤ 327768)
 unfolding list_of
 listed-within file old n after e =
     by (ltb (length old) (length (text_of file)))
     (λ t.
     absurd
-    (let q : ◌≡◌ {A = Listed} (Listed.Bytes n) (Listed.Refused 15) = ap (λ l. l.said) (rw t at e) in
+    (let q : ◌≡◌ {A = Result ℕ Refusal} (Ok n) (Err OutputTooSmall) = ap (λ l. l.said) (rw t at e) in
     let z : ◌≡◌ {A = ℕ} 0 1 = cc in
     omega arith))
     (λ f.
-    let q : ◌≡◌ {A = Listed} (Listed.Bytes n) (Listed.Bytes (length (text_of file))) = ap (λ l. l.said) (rw f at e) in
+    let q : ◌≡◌ {A = Result ℕ Refusal} (Ok n) (Ok (length (text_of file))) = ap (λ l. l.said) (rw f at e) in
     let z : n ≡ length (text_of file) = cc in
     let o : after ≡ text_of file ++ drop (length (text_of file)) old = ap (λ l. l.out) (rw f at e) in
     (omega (arith, simp length-append at (ap length o)), omega (arith, text_short file)))

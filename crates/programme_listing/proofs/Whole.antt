@@ -15,8 +15,12 @@ use borrow.Author.Tests.{eq-eqb, ne_eqb, lt-ltb, le-ltb}
 use Rattle.base.specs.Below.{every}
 use Rattle.section.specs.declared.Header.{Header}
 use Rattle.file.specs.Scan.{scan_of}
-use Rattle.file.specs.declared.Scan.{Scan}
-use Rattle.file.specs.declared.Scanned.{Scanned}
+use Rattle.std.specs.Prelude.{Ok, Err}
+use Rattle.refusal.specs.Refusal.{number}
+use Rattle.refusal.specs.declared.Refusal.{Refusal}
+use Rattle.refusal.specs.declared.Refusal.TheVariants.{OutputTooSmall}
+use Rattle.refusal.proofs.Numbers.{in_byte}
+use Rattle.file.specs.declared.Table.{Table}
 use Rattle.file.proofs.Held.{held}
 use Rattle.file_listing.specs.Words.{lines, newline}
 use Rattle.file_listing.specs.Listing.{head_line, missing_of, refused_line}
@@ -27,7 +31,6 @@ use Rattle.text.proofs.Short.{same-decimal}
 use Rattle.programme_lines.specs.Lines.{other_line, whole_line, not_whole_line}
 use Rattle.programme_listing.specs.Inside.{AllInside}
 use Rattle.programme_listing.specs.Listing.{section_of, whole_at, end_line, list_text, table_text, text_of, listing, list_of}
-use Rattle.programme_listing.specs.declared.Listed.{Listed}
 use Rattle.programme_listing.proofs.Short.{text_short}
 
 module _ {out after : List ℕ} {at end : ℕ} where
@@ -54,26 +57,26 @@ module _ (file starts lengths : List ℕ) {out after : List ℕ} {at end : ℕ} 
     unfolding table_text
     no-list d w = rw (ne_eqb h.key.table 223 d) (then v w)
 
-module _ (file : List ℕ) (scanned : Scanned) (e : scanned ≡ scan_of file) {out after : List ℕ} {end : ℕ} where
-  pub refused-text : (n : ℕ) → scanned.answer ≡ Scan.Refused n → n < 256 → Wrote (field "refused " n ++ newline) out 0 after end → Wrote (text_of file) out 0 after end
+module _ (file : List ℕ) {out after : List ℕ} {end : ℕ} where
+  pub refused-text : (r : Refusal) (n : ℕ) → n ≡ number r → Err r ≡ scan_of file → Wrote (field "refused " n ++ newline) out 0 after end → Wrote (text_of file) out 0 after end
   unfolding text_of refused_line
-  refused-text n a l w = rw (← e, a, ← same-decimal n (omega arith)) w
+  refused-text r n q e w =
+      let low : n < 256 = rw q (in_byte r).1 in
+      rw (← e, ← q, ← same-decimal n (omega arith)) w
 
-  pub table-text : (h : Header) → scanned.answer ≡ Scan.Table h → Wrote (table_text file scanned.starts scanned.lengths h) out 0 after end
+  pub table-text : (t : Table) → Ok t ≡ scan_of file → Wrote (table_text file t.starts t.lengths t.header) out 0 after end
       → Wrote (text_of file) out 0 after end
   unfolding text_of
-  table-text h a w = rw (← e, a) w
+  table-text t e w = rw (← e) w
 
 -- a section that is held lies in the file; one that lacks has no bytes, and its place is 0
-pub lies : (file : List ℕ) (scanned : Scanned) → scanned ≡ scan_of file → (h : Header) → scanned.answer ≡ Scan.Table h
-    → AllInside h.last file scanned.starts scanned.lengths
-lies file scanned e h a =
-    let g = held file h (ap (λ s. s.answer) (sym e) ∙ a) in
-    rw e
-    (record {
+pub lies : (file : List ℕ) (t : Table) → Ok t ≡ scan_of file → AllInside t.header.last file t.starts t.lengths
+lies file t e =
+    let g = held file t (sym e) in
+    record {
       few = g.last;
       each = λ n l d. ⊎_elim (λ z. absurd (d z)) (λ w. w.inside) (g.each n);
-    })
+    }
 
 -- the two passes
 module _ (file out : List ℕ) (size : ℕ) where
@@ -85,7 +88,7 @@ module _ (file out : List ℕ) (size : ℕ) where
   counted w = (w.place ∙ behind-front (text_of file) small, w.leaves ∙ over_nothing (text_of file) 0)
 
   module _ {left : List ℕ} (counts : Wrote (text_of file) [] 0 left size) where
-    pub too_small : length (left ++ out) < size → listing (Listed.Refused 15) (left ++ out) ≡ list_of file out
+    pub too_small : length (left ++ out) < size → listing (Err OutputTooSmall) (left ++ out) ≡ list_of file out
     unfolding list_of
     too_small l =
         let none : left ≡ [] = (counted counts).1 in
@@ -93,7 +96,7 @@ module _ (file out : List ℕ) (size : ℕ) where
         rw (none, ← (counted counts).0, lt-ltb (length out) size short)
 
     pub fits : {after : List ℕ} {end : ℕ} → size ≤ length (left ++ out) → Wrote (text_of file) (left ++ out) 0 after end
-        → listing (Listed.Bytes size) after ≡ list_of file out
+        → listing (Ok size) after ≡ list_of file out
     unfolding list_of
     fits l w =
         let none : left ≡ [] = (counted counts).1 in
@@ -101,4 +104,4 @@ module _ (file out : List ℕ) (size : ℕ) where
         let room : size ≤ length out = rw none at l in
         let stands = rw none at w.leaves in
         rw (← is, le-ltb (length out) size room)
-        (ap (listing (Listed.Bytes size)) (stands ∙ at_front (text_of file) out small (omega arith) ∙ rw (← is)))
+        (ap (listing (Ok size)) (stands ∙ at_front (text_of file) out small (omega arith) ∙ rw (← is)))

@@ -1,17 +1,19 @@
 -- The text for staff: what a programme list holds.
-use Rattle.std.specs.Prelude.{ℕ, ◌+◌, Bool, true, false, ◌&&◌, List, [], ◌∷◌, ◌++◌, ltb, eqb, length, get_or, drop, if◌then◌else◌}
+use Rattle.std.specs.Prelude.{ℕ, ◌+◌, Bool, true, false, ◌&&◌, List, [], ◌∷◌, ◌++◌, ltb, eqb, length, get_or, drop, if◌then◌else◌, Result, Ok, Err}
+use Rattle.refusal.specs.Refusal.{number}
+use Rattle.refusal.specs.declared.Refusal.{Refusal}
+use Rattle.refusal.specs.declared.Refusal.TheVariants.{OutputTooSmall}
 use Rattle.base.specs.Choice.{◌if◌, first}
 use Rattle.base.specs.Below.{every}
 use Rattle.base.specs.Bytes.{part}
 use Rattle.section.specs.declared.Header.{Header}
 use Rattle.file.specs.Scan.{scan_of, found_at}
-use Rattle.file.specs.declared.Scan.{Scan}
+use Rattle.file.specs.declared.Table.{Table}
 use Rattle.file_listing.specs.Words.{lines}
 use Rattle.file_listing.specs.Listing.{head_line, missing_of, refused_line}
 use Rattle.programme.specs.Table.{nrt_it}
 use Rattle.programme_lines.specs.Lines.{other_line, whole_line, not_whole_line}
 use Rattle.programme_section.specs.Section.{section_text, section_read}
-use Rattle.programme_listing.specs.declared.Listed.{Listed}
 
 -- the last line
 abbrev pub end_line : Bool → List ℕ
@@ -41,26 +43,27 @@ module _ (file starts lengths : List ℕ) where
   unfoldable pub table_text : Header → List ℕ
   table_text h = head_line h ++ (if eqb h.key.table nrt_it then list_text h.last else other_line)
 
-  -- a bad file prints its refusal and no more
-  abbrev pub answer_text : Scan → List ℕ
-  answer_text (Scan.Refused number) = refused_line number
-  answer_text (Scan.Table h) = table_text h
+-- a bad file prints its refusal and no more
+abbrev pub answer_text : List ℕ → Result Table Refusal → List ℕ
+answer_text file (Ok table) = table_text file table.starts table.lengths table.header
+answer_text file (Err r) = refused_line (number r)
+
 
 -- the text for a file
 unfoldable pub text_of : List ℕ → List ℕ
-text_of file = answer_text file (scan_of file).starts (scan_of file).lengths (scan_of file).answer
+text_of file = answer_text file (scan_of file)
 
 -- what listing leaves: the answer and the output
 pub record Listing : Type 0 where
-  pub said : Listed
+  pub said : Result ℕ Refusal
   pub out : List ℕ
 
-abbrev pub listing : Listed → List ℕ → Listing
+abbrev pub listing : Result ℕ Refusal → List ℕ → Listing
 listing said out = record { said = said; out = out }
 
 -- the text at the front of the output, whose bytes past it stay as they were; 15 where it does not fit
 unfoldable pub list_of : List ℕ → List ℕ → Listing
 list_of file out =
-    first (λ number. listing (Listed.Refused number) out)
-    (15 if ltb (length out) (length (text_of file)) ∷ [])
-    (listing (Listed.Bytes (length (text_of file))) (text_of file ++ drop (length (text_of file)) out))
+    first (λ r. listing (Err r) out)
+    (OutputTooSmall if ltb (length out) (length (text_of file)) ∷ [])
+    (listing (Ok (length (text_of file))) (text_of file ++ drop (length (text_of file)) out))

@@ -1,9 +1,9 @@
 -- What is so of listing a programme list.
-use Rattle.std.specs.Prelude.{ℕ, ◌≤◌, ◌≡◌, List, ◌++◌, ◌↔◌, length, drop}
+use Rattle.std.specs.Prelude.{ℕ, ◌≤◌, ◌≡◌, List, ◌++◌, ◌↔◌, length, drop, Result, Ok}
+use Rattle.refusal.specs.declared.Refusal.{Refusal}
 use Rattle.answers.specs.Answers.{Out, refusal_in, size_in}
 use Rattle.programme_listing.specs.Listing.{text_of, listing, list_of}
 use Rattle.programme_listing.specs.Answer.{listed_in, list_lent}
-use Rattle.programme_listing.specs.declared.Listed.{Listed}
 
 -- a room for any text: a first line of at most 78 bytes, at most 20 bytes for each byte of sixteen sections of 1,024, and a last line of 10
 abbrev pub room : ℕ
@@ -30,12 +30,12 @@ module _ (file : List ℕ) where
     abbrev pub AlwaysListed : Type 0
     AlwaysListed =
         room ≤ length old
-        → list_of file old ≡ listing (Listed.Bytes (length (text_of file))) (text_of file ++ drop (length (text_of file)) old)
+        → list_of file old ≡ listing (Ok (length (text_of file))) (text_of file ++ drop (length (text_of file)) old)
 
     -- two answers that keep the promise are equal
     abbrev pub OneListing : Type 0
     OneListing =
-        (r q : Listed) (after after' : List ℕ) → listing r after ≡ list_of file old → listing q after' ≡ list_of file old
+        (r q : Result ℕ Refusal) (after after' : List ℕ) → listing r after ≡ list_of file old → listing q after' ≡ list_of file old
         → (r ≡ q) × (after ≡ after')
 
     -- the text's size, or the refusal, comes back

@@ -12,16 +12,9 @@ ghost use Rattle.programme_listing.specs.Inside.{Inside, AllInside};
 ghost use Rattle.programme_listing.specs.Answer.{list_lent};
 ghost use Rattle.programme_listing.specs.Listing.{section_of, whole_at, end_line, list_text, table_text, text_of, listing, list_of};
 
-use file::Scan;
 use programme_section::Done;
+use refusal::Refusal;
 use section::Header;
-
-#[derive(Drop)]
-pub enum Listed {
-    // So many bytes now stand at the front of the output.
-    Bytes(usize),
-    Refused(u8),
-}
 
 // An output of so many bytes is never too small: 78 of the first line, 20 for each byte of sixteen sections of 1,024, and 10 of the last.
 pub const ROOM: usize = 327768;
@@ -150,35 +143,37 @@ fn table_text(
 fn text_for(out: &mut [u8], file: &[u8]) -> usize
     ensures { Wrote (text_of file.now) out.old 0 out.new result }
 {
-    let scanned = file::read_file(file);
-    let answer = scanned.answer;
-    let starts = scanned.starts;
-    let lengths = scanned.lengths;
-    match answer {
-        Scan::Refused(number) => text::line(out, 0, b"refused ", number as u64),
-        Scan::Table(h) => table_text(out, 0, h, file, starts, lengths),
+    match file::read_file(file) {
+        Ok(table) => table_text(
+            out,
+            0,
+            table.header,
+            file,
+            table.starts,
+            table.lengths,
+        ),
+        Err(refusal) => text::line(out, 0, b"refused ", u64::from(u8::from(refusal))),
     }
 }
 
-// The text for a file, at the front of the output; 15 where it does not fit.
-pub fn list_programmes(file: &[u8], out: &mut [u8]) -> Listed
+// The text for a file, at the front of the output, and its size; 15 where it does not fit.
+pub fn list_programmes(file: &[u8], out: &mut [u8]) -> Result<usize, Refusal>
     ensures { listing result out.new ≡ list_of file.now out.old }
 {
     let size = text_for(&mut out[..0], file);
     if out.len() < size {
-        return Listed::Refused(answers::OUTPUT_TOO_SMALL);
+        return Err(Refusal::OutputTooSmall);
     }
     text_for(out, file);
-    Listed::Bytes(size)
+    Ok(size)
 }
 
 // Lists a file; the answer is 15, or a size from bit 8 up, as a host gets it.
 pub fn programmes_code(file: &[u8], out: &mut [u8]) -> u64
     ensures { out_of result out.new ≡ list_lent file.now out.old }
 {
-    let listed = list_programmes(file, out);
-    match listed {
-        Listed::Bytes(size) => answers::BIT_8 * size as u64,
-        Listed::Refused(number) => number as u64,
+    match list_programmes(file, out) {
+        Ok(size) => answers::BIT_8 * size as u64,
+        Err(refusal) => u64::from(u8::from(refusal)),
     }
 }

@@ -8,11 +8,11 @@ use Rattle.programme_listing.specs.Listing.{listing}
 use Rattle.programme_listing.proofs.programmes_code.Goals as goal
 
 pub overflow_mul-result : goal.overflow_mul-result
-overflow_mul-result c = let within = listed-within _ _ _ _ (sym (ap (λ r. listing r c.list_programmes-listed.new.out) c.in-Bytes.is) ∙ c.list_programmes-listed.ensures) in
+overflow_mul-result c = let within = listed-within _ _ _ _ (sym (ap (λ r. listing r c.list_programmes.new.out) c.in-Ok.is) ∙ c.list_programmes.ensures) in
     search rules
 
-pub returns-in-Bytes : goal.returns-in-Bytes
-returns-in-Bytes c = list-told _ _ _ _ _ c.list_programmes-listed.ensures (sym (ap listed_code c.in-Bytes.is))
+pub returns-in-Ok : goal.returns-in-Ok
+returns-in-Ok c = list-told _ _ _ _ _ c.list_programmes.ensures (sym (ap listed_code c.in-Ok.is))
 
-pub returns-in-Refused : goal.returns-in-Refused
-returns-in-Refused c = list-told _ _ _ _ _ c.list_programmes-listed.ensures (sym (ap listed_code c.in-Refused.is))
+pub returns-in-Err : goal.returns-in-Err
+returns-in-Err c = list-told _ _ _ _ _ c.list_programmes.ensures (search rules ∙ sym (ap listed_code c.in-Err.is))

@@ -15,13 +15,13 @@ returns-then-length-eq0-clause-whole_value c = (no-section _ _ _ _ {out = c.args
 pub returns-clause-wrote : goal.returns-clause-wrote
 returns-clause-wrote c = let args = c.args in
     let from = get_or args.starts args.n 0 in
-    let size = c.wide.ensures in
-    let long : from + c.wide.result - from ≡ get_or args.lengths args.n 0 = omega arith in
-    (a-section _ _ _ _ (from + c.wide.result - from) c.if-length-eq0.false long c.section.ensures.wrote c.section.ensures.whole_value).0
+    let size = c.from.ensures in
+    let long : from + c.from.result - from ≡ get_or args.lengths args.n 0 = omega arith in
+    (a-section _ _ _ _ (from + c.from.result - from) c.if-length-eq0.false long c.section.ensures.wrote c.section.ensures.whole_value).0
 
 pub returns-clause-whole_value : goal.returns-clause-whole_value
 returns-clause-whole_value c = let args = c.args in
     let from = get_or args.starts args.n 0 in
-    let size = c.wide.ensures in
-    let long : from + c.wide.result - from ≡ get_or args.lengths args.n 0 = omega arith in
-    (a-section _ _ _ _ (from + c.wide.result - from) c.if-length-eq0.false long c.section.ensures.wrote c.section.ensures.whole_value).1
+    let size = c.from.ensures in
+    let long : from + c.from.result - from ≡ get_or args.lengths args.n 0 = omega arith in
+    (a-section _ _ _ _ (from + c.from.result - from) c.if-length-eq0.false long c.section.ensures.wrote c.section.ensures.whole_value).1

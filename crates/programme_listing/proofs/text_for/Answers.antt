@@ -4,10 +4,10 @@ use Rattle.programme_listing.proofs.Whole.{refused-text, table-text, lies}
 use Rattle.programme_listing.proofs.text_for.Goals as goal
 
 pub table_text-requires : goal.table_text-requires
-table_text-requires c = lies _ _ c.read_file-scanned.ensures _ c.in-Table.is
+table_text-requires c = lies c.args.file.now c.in-Ok.table (search rules)
 
-pub returns-in-Refused : goal.returns-in-Refused
-returns-in-Refused c = refused-text _ _ c.read_file-scanned.ensures _ c.in-Refused.is (search rules) c.line.ensures
+pub returns-in-Err : goal.returns-in-Err
+returns-in-Err c = refused-text c.args.file.now c.in-Err.refusal _ (search rules) (search rules) c.line.ensures
 
-pub returns-in-Table : goal.returns-in-Table
-returns-in-Table c = table-text _ _ c.read_file-scanned.ensures _ c.in-Table.is c.table_text.ensures
+pub returns-in-Ok : goal.returns-in-Ok
+returns-in-Ok c = table-text c.args.file.now c.in-Ok.table (search rules) c.table_text.ensures
