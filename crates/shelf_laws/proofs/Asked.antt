@@ -8,15 +8,17 @@
 --   unheld-copied, unheld-whole      of a table that is not held nothing is answered but 14
 --   refused-14, unheld-reply         so of every question
 --   held-answer                      what a question about a held table is answered
-use Rattle.std.specs.Prelude.{if◌then◌else◌}
+use Rattle.std.specs.Prelude.{if◌then◌else◌, Ok, Err, Some, None, Option}
 use mathlib.Core.Path.{◌≡◌, refl, ap, ◌∙◌}
-use mathlib.Core.Bool.{true, false, not}
+use mathlib.Core.Bool.{Bool, true, false, not}
 use mathlib.Core.List.{List, ◌++◌}
 use Prim.Native.Nat.{ℕ, ◌+◌, ◌<◌, ◌≤◌}
 use native.Mathlib.Omega.{arith}
 use lib.Dec.{eqb, ltb}
 use lib.ListN.{length, drop, get_or-eq_default}
 use borrow.Author.Tests.{eq-eqb, ne_eqb, le-ltb, lt-ltb, ltb-true, ltb-false}
+use Rattle.refusal.specs.Refusal.{number_of}
+use Rattle.refusal.specs.declared.Refusal.TheVariants.{TableNotHeld, OutputTooSmall, SectionNotHeld}
 use Rattle.base.specs.Choice.{◌if◌, first}
 use Rattle.base.specs.Below.{every, lowest}
 use Rattle.base.proofs.Cases.{by}
@@ -25,15 +27,11 @@ use Rattle.berth.specs.Berth.{sections, places, store_size, berth_size, standing
 use Rattle.shelf.specs.Record.{place_at, length_at, holds, place_of}
 use Rattle.key.specs.declared.Key.{Key}
 use Rattle.shelf.proofs.Words.{sound-place}
-use Rattle.shelf_ask.specs.Ask.{complete, lowest_missing, copy, whole_no, asked, uncopied, copy_from, copy_of, whole_of, missing_of}
-use Rattle.shelf_ask.specs.declared.Copied.{Copied}
-use Rattle.shelf_ask.specs.declared.Whole.{Whole}
-use Rattle.shelf_ask.specs.declared.Missing.{Missing}
+use Rattle.shelf_ask.specs.Ask.{complete, lowest_missing, copy, asked, uncopied, copy_from, copy_of, whole_of, missing_of}
 use Rattle.shelf_ask.proofs.ExactlyWhen.{whole-none}
 use Rattle.file.specs.Layout.{file_of, chosen, largest_file}
 use Rattle.file_laws.proofs.Chosen.{chosen-as}
 use Rattle.shelf_save.specs.Save.{save, refuse, unsaved, written, held_below, place_file, saved_file, save_of}
-use Rattle.shelf_save.specs.declared.Saved.{Saved}
 use Rattle.shelf_save.proofs.ExactlyWhen.{saved-largest}
 use Rattle.shelf_laws.specs.State.{State, copy_out, whole_in, missing_in, save_out}
 use Rattle.shelf_laws.specs.History.{Question, Reply, copied, wholly, lacking, saved, about, reply}
@@ -65,7 +63,7 @@ module _ (s : State) (g : Good s) (key : Key) where
         rw k.last at (sound-place s.shelf g.unspoiled p k.taken (is-taken (place_at s.shelf p) key (kept-key s k))).last
 
     pub kept-copied : (n : ℕ) → n < sections → t.has n ≡ true → (out : List ℕ) → length (t.bytes n) ≤ length out
-        → copy_out s key n out ≡ copy (Copied.Bytes (length (t.bytes n))) (t.bytes n ++ drop (length (t.bytes n)) out)
+        → copy_out s key n out ≡ copy (Ok (length (t.bytes n))) (t.bytes n ++ drop (length (t.bytes n)) out)
     unfolding copy_of
     kept-copied n i y out h =
         rw (
@@ -79,16 +77,16 @@ module _ (s : State) (g : Good s) (key : Key) where
           k.stands n i y,
         )
 
-    pub kept-16 : (n : ℕ) → holds (place_at s.shelf p) n ≡ false → (out : List ℕ) → copy_out s key n out ≡ copy (Copied.Refused 16) out
+    pub kept-16 : (n : ℕ) → holds (place_at s.shelf p) n ≡ false → (out : List ℕ) → copy_out s key n out ≡ copy (Err SectionNotHeld) out
     unfolding copy_of
     kept-16 n y out = rw (eq-eqb (length s.store) store_size g.lent, g.unspoiled, k.place, not-14, y)
 
-    pub kept-15 : (n : ℕ) → n < sections → t.has n ≡ true → (out : List ℕ) → length out < length (t.bytes n) → copy_out s key n out ≡ copy (Copied.Refused 15) out
+    pub kept-15 : (n : ℕ) → n < sections → t.has n ≡ true → (out : List ℕ) → length out < length (t.bytes n) → copy_out s key n out ≡ copy (Err OutputTooSmall) out
     unfolding copy_of
     kept-15 n i y out h =
         rw (eq-eqb (length s.store) store_size g.lent, g.unspoiled, k.place, not-14, k.numbers n i ∙ y, k.lengths n i y, lt-ltb (length out) (length (t.bytes n)) h)
 
-    pub kept_whole : whole_in s key ≡ (if every (t.last + 1) t.has then Whole.Complete else Whole.Incomplete)
+    pub kept_whole : whole_in s key ≡ Ok (every (t.last + 1) t.has)
     unfolding whole_of complete
     kept_whole =
         let b : t.last ≤ 15 = kept-last in
@@ -102,7 +100,7 @@ module _ (s : State) (g : Good s) (key : Key) where
         )
 
     pub kept-missing : missing_in s key
-        ≡ (if every (t.last + 1) t.has then Missing.Nothing else Missing.Number (lowest (t.last + 1) (λ n. not (t.has n))))
+        ≡ Ok (if every (t.last + 1) t.has then None else Some (lowest (t.last + 1) (λ n. not (t.has n))))
     unfolding missing_of complete lowest_missing
     kept-missing =
         let b : t.last ≤ 15 = kept-last in
@@ -128,31 +126,31 @@ module _ (s : State) (g : Good s) (key : Key) where
       ap (λ m. not (eqb m 0)) (get_or-eq_default (place_at s.shelf p).lengths 0 (omega arith))
 
   module _ (e : place_of s.shelf key ≡ places) where
-    pub unheld-copied : (n : ℕ) (out : List ℕ) → copy_out s key n out ≡ copy (Copied.Refused 14) out
+    pub unheld-copied : (n : ℕ) (out : List ℕ) → copy_out s key n out ≡ copy (Err TableNotHeld) out
     unfolding copy_of
     unheld-copied n out = rw (eq-eqb (length s.store) store_size g.lent, g.unspoiled, e)
 
-    pub unheld-whole : whole_in s key ≡ Whole.Refused 14
+    pub unheld-whole : whole_in s key ≡ Err TableNotHeld
     unfolding whole_of
     unheld-whole = rw (eq-eqb (length s.store) store_size g.lent, g.unspoiled, e)
 
 -- what is so of every answer to a question about a held table
 abbrev pub Answers : (Reply → Type 0) → Question → Type 0
 Answers P (Question.copy key n out) =
-    P (copied (copy (Copied.Refused 16) out))
-    × P (copied (copy (Copied.Refused 15) out))
-    × ((n : ℕ) → n < 65536 → (bytes : List ℕ) → P (copied (copy (Copied.Bytes n) bytes)))
-Answers P (Question.whole key) = P (wholly Whole.Complete) × P (wholly Whole.Incomplete)
-Answers P (Question.missing key) = P (lacking Missing.Nothing) × ((n : ℕ) → P (lacking (Missing.Number n)))
+    P (copied (copy (Err SectionNotHeld) out))
+    × P (copied (copy (Err OutputTooSmall) out))
+    × ((n : ℕ) → n < 65536 → (bytes : List ℕ) → P (copied (copy (Ok n) bytes)))
+Answers P (Question.whole key) = (whole : Bool) → P (wholly (Ok whole))
+Answers P (Question.missing key) = (lowest : Option ℕ) → P (lacking (Ok lowest))
 Answers P (Question.save key out) =
-    P (saved (save (Saved.Refused 15) out)) × ((n : ℕ) → n < 65536 → (bytes : List ℕ) → P (saved (save (Saved.Bytes n) bytes)))
+    P (saved (save (Err OutputTooSmall) out)) × ((n : ℕ) → n < 65536 → (bytes : List ℕ) → P (saved (save (Ok n) bytes)))
 
 -- the refusal of a question by 14
 abbrev pub refused-14 : Question → Reply
-refused-14 (Question.copy key n out) = copied (copy (Copied.Refused 14) out)
-refused-14 (Question.whole key) = wholly (Whole.Refused 14)
-refused-14 (Question.missing key) = lacking (Missing.Refused 14)
-refused-14 (Question.save key out) = saved (save (Saved.Refused 14) out)
+refused-14 (Question.copy key n out) = copied (copy (Err TableNotHeld) out)
+refused-14 (Question.whole key) = wholly (Err TableNotHeld)
+refused-14 (Question.missing key) = lacking (Err TableNotHeld)
+refused-14 (Question.save key out) = saved (save (Err TableNotHeld) out)
 
 module _ (s : State) (g : Good s) where
   pub unheld-reply : (q : Question) → place_of s.shelf (about q) ≡ places → reply s q ≡ refused-14 q
@@ -180,11 +178,9 @@ module _ (s : State) (g : Good s) where
         let z : length_at (asked s.shelf s.store key) n ≡ 0 = get_or-eq_default (asked s.shelf s.store key).lengths 0 (omega arith) in
         omega arith)
 
-    whole-0 : whole_no (whole_in s key) ≡ 0
+    whole-0 : number_of (whole_in s key) ≡ 0
     unfolding whole_of
-    whole-0 =
-        rw (eq-eqb (length s.store) store_size g.lent, g.unspoiled, taken)
-        (by (complete (asked s.shelf s.store key)) (λ b. rw b) (λ b. rw b))
+    whole-0 = rw (eq-eqb (length s.store) store_size g.lent, g.unspoiled, taken)
 
     pub file-most : length (saved_file s.shelf s.store key) < 65536
     file-most =
@@ -196,15 +192,14 @@ module _ (s : State) (g : Good s) where
   unfolding copy_of whole_of missing_of save_of
   held-answer P (Question.copy key n out) i a =
       rw (eq-eqb (length s.store) store_size g.lent, g.unspoiled, taken key i)
-      (among (λ m. copy (Copied.Refused m) out) (λ c. P (copied c))
+      (among (λ r. copy (Err r) out) (λ c. P (copied c))
       (uncopied (asked s.shelf s.store key) n out) (copy_from (asked s.shelf s.store key) s.store (place_of s.shelf key) n out)
       (a.0, (a.1, tt)) (a.2 (length_at (asked s.shelf s.store key) n) (length_most key i n) _))
   held-answer P (Question.whole key) i a =
-      rw (eq-eqb (length s.store) store_size g.lent, g.unspoiled, taken key i)
-      (by (complete (asked s.shelf s.store key)) (λ b. rw b a.0) (λ b. rw b a.1))
+      rw (eq-eqb (length s.store) store_size g.lent, g.unspoiled, taken key i) (a (complete (asked s.shelf s.store key)))
   held-answer P (Question.missing key) i a =
       rw (eq-eqb (length s.store) store_size g.lent, g.unspoiled, taken key i)
-      (by (complete (asked s.shelf s.store key)) (λ b. rw b a.0) (λ b. rw b (a.1 (lowest_missing (asked s.shelf s.store key)))))
+      (a (if complete (asked s.shelf s.store key) then None else Some (lowest_missing (asked s.shelf s.store key))))
   held-answer P (Question.save key out) i a =
       rw (eq-eqb (length s.store) store_size g.lent, g.unspoiled, taken key i)
       (by (ltb (length out) (length (saved_file s.shelf s.store key)))

@@ -7,13 +7,14 @@ use Prim.Native.Nat.{ℕ, ◌<◌, ◌≤◌}
 use lib.Dec.{eqb}
 use lib.ListN.{length, drop}
 use borrow.Author.Tests.{eq-eqb}
+use Rattle.std.specs.Prelude.{Result, Ok, Err}
+use Rattle.refusal.specs.declared.Refusal.{Refusal}
 use Rattle.base.proofs.Cases.{by, unlike}
 use Rattle.section.specs.Section.{section_number}
 use Rattle.berth.specs.Berth.{sections}
 use Rattle.shelf.specs.Record.{place_of}
 use Rattle.shelf_offer.specs.declared.Offered.{Offered}
 use Rattle.shelf_ask.specs.Ask.{copy}
-use Rattle.shelf_ask.specs.declared.Copied.{Copied}
 use Rattle.shelf_laws.specs.State.{State, Formed, offer_to, after_offer, copy_out}
 use Rattle.shelf_laws.specs.Named.{key_in}
 use Rattle.shelf_laws.specs.Answers.{begins, joins, accepted}
@@ -23,12 +24,12 @@ use Rattle.shelf_laws.proofs.Kept.{Good, kept-itself}
 use Rattle.shelf_laws.proofs.Offered.{offer-good, offer-begins, offer-joins, joins-held, accepted-heard}
 use Rattle.shelf_laws.proofs.Asked.{kept-copied}
 
-pub joins-else : (a : Offered) → accepted a ≡ true → begins a ≡ false → joins a ≡ true
-joins-else Offered.Began e b = absurd (unlike b)
-joins-else Offered.BeganAgain e b = absurd (unlike b)
-joins-else Offered.Added e b = refl
-joins-else Offered.Repeat e b = refl
-joins-else (Offered.Refused n) e b = absurd (unlike (sym e))
+pub joins-else : (a : Result Offered Refusal) → accepted a ≡ true → begins a ≡ false → joins a ≡ true
+joins-else (Ok Offered.Began) e b = absurd (unlike b)
+joins-else (Ok Offered.BeganAgain) e b = absurd (unlike b)
+joins-else (Ok Offered.Added) e b = refl
+joins-else (Ok Offered.Repeat) e b = refl
+joins-else (Err r) e b = absurd (unlike (sym e))
 
 module _ (s : State) (formed : Formed s.shelf) (payload : List ℕ) (yes : accepted (offer_to s payload).said ≡ true)
     (out : List ℕ) (room : length payload ≤ length out) where
@@ -47,7 +48,7 @@ module _ (s : State) (formed : Formed s.shelf) (payload : List ℕ) (yes : accep
   abbrev next : State
   next = after_offer (offer_to s payload)
 
-  given_back : copy_out next (key_in payload) (section_number payload) out ≡ copy (Copied.Bytes (length payload)) (payload ++ drop (length payload) out)
+  given_back : copy_out next (key_in payload) (section_number payload) out ≡ copy (Ok (length payload)) (payload ++ drop (length payload) out)
   given_back =
       by (begins (offer_to s payload).said)
       (λ b. kept-copied next (offer-good s payload good) (key_in payload) (offer-begins s payload good b) (section_number payload) number itself out room)

@@ -2,7 +2,7 @@
 --   held_place, place-held, unheld-place, place-unheld    then, and only then, it has a place on the shelf
 --   held-exactly         and every question about it is answered otherwise than 14
 --   released-exactly     and a release of it is done, which else is 14
-use Rattle.std.specs.Prelude.{if◌then◌else◌}
+use Rattle.std.specs.Prelude.{if◌then◌else◌, Ok, Err}
 use mathlib.Core.Path.{◌≡◌, refl, sym, ap, ◌∙◌}
 use mathlib.Core.Bool.{true, false}
 use mathlib.Core.List.{List}
@@ -10,12 +10,12 @@ use Prim.Native.Nat.{◌<◌, ◌≤◌}
 use native.Mathlib.Omega.{arith}
 use lib.Dec.{ltb}
 use borrow.Author.Tests.{ltb-true, ltb-false, lt-ltb}
+use Rattle.refusal.specs.declared.Refusal.TheVariants.{TableNotHeld}
 use Rattle.base.proofs.Cases.{by, unlike}
 use Rattle.berth.specs.Berth.{places}
 use Rattle.shelf.specs.Record.{place_of}
 use Rattle.key.specs.declared.Key.{Key}
 use Rattle.shelf_release.specs.Release.{After}
-use Rattle.shelf_release.specs.declared.Released.{Released}
 use Rattle.shelf_laws.specs.State.{State}
 use Rattle.shelf_laws.specs.History.{Question, about, reply_no, Call, after_all, log_of}
 use Rattle.shelf_laws.specs.Log.{held_by}
@@ -23,7 +23,7 @@ use Rattle.shelf_laws.specs.Laws.{HeldExactly, ReleasedExactly}
 use Rattle.shelf_laws.proofs.Places.{placed}
 use Rattle.shelf_laws.proofs.Kept.{Good}
 use Rattle.shelf_laws.proofs.Asked.{refused-14, unheld-reply, Answers, held-answer}
-use Rattle.shelf_laws.proofs.Released.{Refusal, Goes, goes}
+use Rattle.shelf_laws.proofs.Released.{Reason, Goes, goes}
 use Rattle.shelf_laws.proofs.Histories.{holds-all}
 
 module _ (h : List Call) (key : Key) where
@@ -51,8 +51,8 @@ by-14 (Question.save key out) = refl
 -- a held table is never answered 14
 other : (q : Question) → Answers (λ r. reply_no r ≡ 14 → ⊥) q
 other (Question.copy key n out) = (λ e. omega arith, λ e. omega arith, λ n i bytes e. omega arith)
-other (Question.whole key) = (λ e. omega arith, λ e. omega arith)
-other (Question.missing key) = (λ e. omega arith, λ n e. omega arith)
+other (Question.whole key) = λ whole e. omega arith
+other (Question.missing key) = λ lowest e. omega arith
 other (Question.save key out) = (λ e. omega arith, λ n i bytes e. omega arith)
 
 pub held-exactly : HeldExactly
@@ -66,13 +66,13 @@ held-exactly h q = (
 
 -- one release
 module _ (s : State) (g : Good s) (key : Key) where
-  released-by : {r : After} → Goes s key r → r.said ≡ (if ltb (place_of s.shelf key) places then Released.Done else Released.Refused 14)
-  released-by (Goes.refuses _ (Refusal.17-store l)) = absurd (l g.lent)
-  released-by (Goes.refuses _ (Refusal.18-spoiled e)) = absurd (unlike (sym e ∙ g.unspoiled))
-  released-by (Goes.refuses _ (Refusal.14-unheld e)) = rw e
+  released-by : {r : After} → Goes s key r → r.said ≡ (if ltb (place_of s.shelf key) places then Ok tt else Err TableNotHeld)
+  released-by (Goes.refuses _ (Reason.17-store l)) = absurd (l g.lent)
+  released-by (Goes.refuses _ (Reason.18-spoiled e)) = absurd (unlike (sym e ∙ g.unspoiled))
+  released-by (Goes.refuses _ (Reason.14-unheld e)) = rw e
   released-by (Goes.done _ _ i) = rw (lt-ltb _ _ i)
 
 pub released-exactly : ReleasedExactly
 released-exactly h key =
     released-by (after_all h) (holds-all h).good key (goes (after_all h) key)
-    ∙ sym (ap (λ held. if held then Released.Done else Released.Refused 14) ((holds-all h).table key).held)
+    ∙ sym (ap (λ held. if held then Ok tt else Err TableNotHeld) ((holds-all h).table key).held)

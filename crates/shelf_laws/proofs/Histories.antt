@@ -11,6 +11,9 @@ use native.Mathlib.Omega.{arith}
 use lib.Dec.{eqb, ltb}
 use lib.ListN.{length, get_or-replicate}
 use borrow.Author.Tests.{lt-ltb}
+use Rattle.std.specs.Prelude.{Result, Ok, Err}
+use Rattle.std.proofs.Math.Bool.{or-false, and-false}
+use Rattle.refusal.specs.declared.Refusal.{Refusal}
 use Rattle.base.specs.Bytes.{zeros}
 use Rattle.base.specs.Below.{some}
 use Rattle.base.proofs.Cases.{by, unlike, and_left, and_right}
@@ -27,7 +30,6 @@ use Rattle.shelf_laws.specs.Named.{key_in}
 use Rattle.shelf_laws.specs.Answers.{begins, joins, accepted, is_done, frees}
 use Rattle.shelf_laws.specs.History.{Call, Entry, entry, step, after, logged, start, after_all, log_of}
 use Rattle.shelf_laws.specs.Log.{loads, beginning, accepting, releasing, held_by, since, version_since, last_since, bytes_since}
-use Rattle.shelf_laws.proofs.Truth.{or-none}
 use Rattle.shelf_laws.proofs.Places.{has-not, not-held}
 use Rattle.key.proofs.Keys.{same_key_lem, key-itself}
 use Rattle.shelf_laws.proofs.Kept.{Good, Table, Kept, kept-as, Alike, alike-kept}
@@ -81,14 +83,12 @@ not-accepting true true b e = absurd (unlike e)
 not-accepting true false b e = refl
 not-accepting false a b e = refl
 
-not-beginning : (a : Offered) (k : Bool) → (k && accepted a) ≡ false → (k && begins a) ≡ false
-not-beginning Offered.Began k e = e
-not-beginning Offered.BeganAgain k e = e
-not-beginning Offered.Added true e = refl
-not-beginning Offered.Added false e = refl
-not-beginning Offered.Repeat true e = refl
-not-beginning Offered.Repeat false e = refl
-not-beginning (Offered.Refused n) k e = e
+not-beginning : (a : Result Offered Refusal) (k : Bool) → (k && accepted a) ≡ false → (k && begins a) ≡ false
+not-beginning (Ok Offered.Began) k e = e
+not-beginning (Ok Offered.BeganAgain) k e = e
+not-beginning (Ok Offered.Added) k e = and-false k
+not-beginning (Ok Offered.Repeat) k e = and-false k
+not-beginning (Err r) k e = e
 
 module _ (s : State) (log : List Entry) (h : Holds s log) where
   module _ (payload : List ℕ) where
@@ -102,7 +102,7 @@ module _ (s : State) (log : List Entry) (h : Holds s log) where
         by (begins (offer_to s payload).said)
         (λ b.
         settled (step s offering) (entry s offering ∷ log) (key_in payload) (offer-begins s payload h.good b)
-        (rw (itself, b)) (rw (itself, b)) (rw (itself, b)) (λ n. rw (itself, a, b) (or-none (eqb n (section_number payload)))) (λ n y. rw (itself, a, y)))
+        (rw (itself, b)) (rw (itself, b)) (rw (itself, b)) (λ n. rw (itself, a, b) (sym (or-false (eqb n (section_number payload))))) (λ n y. rw (itself, a, y)))
         (λ b.
         let j : joins (offer_to s payload).said ≡ true = joins-else (offer_to s payload).said a b in
         let was : place_of s.shelf (key_in payload) < places = joins-held s payload h.good j in
@@ -135,7 +135,7 @@ module _ (s : State) (log : List Entry) (h : Holds s log) where
         let mine = and_left (loads key file) done t in
         let loaded = and_right (loads key file) done t in
         settled (step s loading) (entry s loading ∷ log) key (load-begins s file h.good key t)
-        (rw (mine, loaded)) (rw (mine, loaded)) (rw (mine, loaded)) (λ n. rw (mine, loaded) (or-none (carries file n))) (λ n y. rw (mine, loaded, y)))
+        (rw (mine, loaded)) (rw (mine, loaded)) (rw (mine, loaded)) (λ n. rw (mine, loaded) (sym (or-false (carries file n)))) (λ n y. rw (mine, loaded, y)))
         (λ f.
         unmoved s log h (step s loading) (entry s loading) key (load_apart s file h.good key f)
         (λ n. not-accepting (loads key file) done (carries file n) f) f refl)

@@ -1,6 +1,6 @@
 -- What a load does.
 --   Carried, carried   what is so of an accepted file's table
---   Refusal, Goes, goes   the cases of a load
+--   Reason, Goes, goes   the cases of a load
 --   load-length        the store keeps its length
 --   load-elsewhere     a berth that is not named stays as it was
 --   load-own           one that is named has the section's bytes, then zeros
@@ -8,7 +8,7 @@
 --   load_apart         a table that is not loaded is left alone
 --   load-begins        the shelf keeps the table that the file carries
 --   load-refused       a refused load changes nothing
-use mathlib.Core.Path.{◌≡◌, refl, sym, ap, ◌∙◌}
+use mathlib.Core.Path.{◌≡◌, refl, sym, ap, subst, ◌∙◌}
 use mathlib.Core.Bool.{true, false, ◌&&◌}
 use mathlib.Core.Logic.{⊎_elim}
 use mathlib.Core.List.{List}
@@ -19,6 +19,9 @@ use lib.Dec.{eqb, ltb}
 use lib.Seq.{take_at}
 use lib.ListN.{length, take, get_or, length-take, length-drop, get_or-eq_default}
 use borrow.Author.Tests.{eqb-true, eqb-false, eq-eqb, ne_eqb, ltb-true, ltb-false, not-true, not-false}
+use Rattle.std.specs.Prelude.{Result, Ok, Err}
+use Rattle.refusal.specs.declared.Refusal.{Refusal}
+use Rattle.refusal.specs.declared.Refusal.TheVariants.{NoFreePlace, KeyHeld, StoreSize, ShelfSpoiled}
 use Rattle.base.proofs.Cases.{by, unlike, and_left, and_right}
 use Rattle.section.specs.declared.Header.{Header}
 use Rattle.section.proofs.Laws.{sound-facts}
@@ -31,11 +34,10 @@ use Rattle.shelf.proofs.Words.{Wrong}
 use Rattle.shelf.specs.Record.{key_of}
 use Rattle.file.specs.Layout.{same_table}
 use Rattle.file.specs.Scan.{scan_of}
-use Rattle.file.specs.declared.Scan.{Scan}
+use Rattle.file.specs.declared.Table.{Table}
 use Rattle.file.proofs.Held.{Lies, Holds, held}
 use Rattle.shelf_load.specs.Load.{After, loaded_place, stored_below, no, table_of, answered, load_of}
-use Rattle.shelf_load.specs.declared.Loaded.{Loaded}
-use Rattle.shelf_laws.specs.File.{length_in, carries, section_in}
+use Rattle.shelf_laws.specs.File.{starts_in, lengths_in, length_in, carries, section_in}
 use Rattle.shelf_laws.specs.State.{State, load_on, after_load}
 use Rattle.shelf_laws.specs.Named.{load_names}
 use Rattle.shelf_laws.specs.Answers.{is_done}
@@ -44,13 +46,13 @@ use Rattle.shelf_laws.specs.Laws.{LoadRefused, LoadElsewhere}
 use Rattle.shelf_laws.proofs.Berths.{Berth, put-length, put-berth, put-elsewhere}
 use Rattle.shelf_laws.proofs.Places.{at_same, has-not, its_key, unheld, free-le, free-at, right}
 use Rattle.key.proofs.Keys.{same_key_lem, key-itself}
-use Rattle.shelf_laws.proofs.Kept.{Good, Table, Kept, Alike, alike-itself, alike-with, key-with, good-with}
+use Rattle.shelf_laws.proofs.Kept.{Good, Table as Keeping, Kept, Alike, alike-itself, alike-with, key-with, good-with}
 
 -- what is so of an accepted file's table
 pub record Carried (file : List ℕ) (h : Header) : Type 0 where
   pub version : h.version ≤ 31
   pub last : h.last ≤ 15
-  pub sixteen : length (scan_of file).lengths ≡ sections
+  pub sixteen : length (lengths_in (scan_of file)) ≡ sections
   pub some : ℕ
   pub has_some : (some < sections) × (carries file some ≡ true)
   pub number : (n : ℕ) → carries file n ≡ true → n ≤ h.last
@@ -69,11 +71,14 @@ module _ (a b : Header) (e : same_table a b ≡ true) where
   same-last =
       eqb-true _ _ (and_right (eqb a.version b.version) _ (and_right (same_key a.key b.key) _ e))
 
-module _ (file : List ℕ) (h : Header) (e : (scan_of file).answer ≡ Scan.Table h) where
-  holding : Holds file h (scan_of file).starts (scan_of file).lengths
-  holding = held file h e
+module _ (file : List ℕ) (table : Table) (e : scan_of file ≡ Ok table) where
+  abbrev h : Header
+  h = table.header
 
-  lies : (n : ℕ) → carries file n ≡ true → Lies file h n (get_or (scan_of file).starts n 0) (length_in file n)
+  pub holding : Holds file h (starts_in (scan_of file)) (lengths_in (scan_of file))
+  holding = rw e (held file table e)
+
+  lies : (n : ℕ) → carries file n ≡ true → Lies file h n (get_or (starts_in (scan_of file)) n 0) (length_in file n)
   lies n t = ⊎_elim (λ z. absurd (eqb-false _ _ (not-true (eqb (length_in file n) 0) t) z)) (λ l. l) (holding.each n)
 
   some-carried : carries file holding.some.0 ≡ true
@@ -87,9 +92,9 @@ module _ (file : List ℕ) (h : Header) (e : (scan_of file).answer ≡ Scan.Tabl
       by (ltb n sections)
       (λ u. ltb-true _ _ u)
       (λ u.
-      let s : length (scan_of file).lengths ≡ 16 = holding.sizes in
+      let s : length (lengths_in (scan_of file)) ≡ 16 = holding.sizes in
       let i : 16 ≤ n = ltb-false _ _ u in
-      absurd (eqb-false _ _ (not-true (eqb (length_in file n) 0) t) (get_or-eq_default (scan_of file).lengths 0 (omega arith))))
+      absurd (eqb-false _ _ (not-true (eqb (length_in file n) 0) t) (get_or-eq_default (lengths_in (scan_of file)) 0 (omega arith))))
 
   pub carried : Carried file h
   carried =
@@ -115,7 +120,7 @@ module _ (file : List ℕ) (h : Header) (e : (scan_of file).answer ≡ Scan.Tabl
 
 -- the store with the first k of the file's sections in place p
 abbrev filled : List ℕ → ℕ → List ℕ → ℕ → List ℕ
-filled file k store p = stored_below k file (scan_of file).starts (scan_of file).lengths store p
+filled file k store p = stored_below k file (starts_in (scan_of file)) (lengths_in (scan_of file)) store p
 
 -- the store with the file's sections
 module _ (file : List ℕ) (h : Header) (sound : Carried file h) (store : List ℕ) (p : ℕ) (lent : length store ≡ store_size) (place : p < places) where
@@ -181,136 +186,142 @@ module _ (file : List ℕ) (h : Header) (sound : Carried file h) (store : List �
       ∙ take_at (section_in file n) _ (length (section_in file n)) refl
 
 module _ (s : State) (file : List ℕ) where
-  pub data Refusal : Scan → ℕ → Type 0 where
-    17-store : (scan : Scan) → (length s.store ≡ store_size → ⊥) → Refusal scan 17
-    18-spoiled : (scan : Scan) → spoiled_of s.shelf ≡ true → Refusal scan 18
-    faulty : (n : ℕ) → (scan_of file).answer ≡ Scan.Refused n → Refusal (Scan.Refused n) n
-    13-held : (h : Header) → (place_of s.shelf (key_of h) ≡ places → ⊥) → Refusal (Scan.Table h) 13
-    9-full : (h : Header) → place_of s.shelf (key_of h) ≡ places → free_of s.shelf ≡ places → Refusal (Scan.Table h) 9
+  pub data Reason : Result Table Refusal → Refusal → Type 0 where
+    17-store : (scan : Result Table Refusal) → (length s.store ≡ store_size → ⊥) → Reason scan StoreSize
+    18-spoiled : (scan : Result Table Refusal) → spoiled_of s.shelf ≡ true → Reason scan ShelfSpoiled
+    faulty : (r : Refusal) → scan_of file ≡ Err r → Reason (Err r) r
+    13-held : (table : Table) → (place_of s.shelf (key_of table.header) ≡ places → ⊥) → Reason (Ok table) KeyHeld
+    9-full : (table : Table) → place_of s.shelf (key_of table.header) ≡ places → free_of s.shelf ≡ places → Reason (Ok table) NoFreePlace
+
+  -- what is left where the table of a file gets the lowest free place
+  abbrev loaded_as : Header → List ℕ → List ℕ → After
+  loaded_as h starts lengths =
+      record {
+        said = Ok tt;
+        shelf = with_place s.shelf (free_of s.shelf) (loaded_place h lengths);
+        store = stored_below sections file starts lengths s.store (free_of s.shelf);
+      }
 
   -- by what the scan answers
-  pub data Goes : Scan → After → Type 0 where
-    refuses : (scan : Scan) (n : ℕ) → Refusal scan n → Goes scan (no s.shelf s.store file n)
-    done : (h : Header) → Carried file h → length s.store ≡ store_size → spoiled_of s.shelf ≡ false → place_of s.shelf (key_of h) ≡ places
-        → free_of s.shelf < places → Goes (Scan.Table h) (
-        record {
-          said = Loaded.Done;
-          shelf = with_place s.shelf (free_of s.shelf) (loaded_place h (scan_of file).lengths);
-          store = filled file sections s.store (free_of s.shelf);
-        })
+  pub data Goes : Result Table Refusal → After → Type 0 where
+    refuses : (scan : Result Table Refusal) (r : Refusal) → Reason scan r → Goes scan (no s.shelf s.store file r)
+    done : (table : Table) → Carried file table.header → length s.store ≡ store_size → spoiled_of s.shelf ≡ false → place_of s.shelf (key_of table.header) ≡ places
+        → free_of s.shelf < places → Goes (Ok table) (loaded_as table.header (starts_in (scan_of file)) (lengths_in (scan_of file)))
 
-  scanned-goes : length s.store ≡ store_size → spoiled_of s.shelf ≡ false → (scan : Scan) → (scan_of file).answer ≡ scan
-      → Goes scan (answered s.shelf s.store file (scan_of file) scan)
+  scanned-goes : length s.store ≡ store_size → spoiled_of s.shelf ≡ false → (scan : Result Table Refusal) → scan_of file ≡ scan
+      → Goes scan (answered s.shelf s.store file scan)
   unfolding table_of
-  scanned-goes l u (Scan.Refused n) e = refuses (Scan.Refused n) n (faulty n e)
-  scanned-goes l u (Scan.Table h) e =
-      by (eqb (place_of s.shelf (key_of h)) places)
+  scanned-goes l u (Err r) e = refuses (Err r) r (faulty r e)
+  scanned-goes l u (Ok table) e =
+      by (eqb (place_of s.shelf (key_of table.header)) places)
       (λ t.
       by (eqb (free_of s.shelf) places)
-      (λ f. rw (t, f) (refuses (Scan.Table h) 9 (9-full h (eqb-true _ _ t) (eqb-true _ _ f))))
+      (λ f. rw (t, f) (refuses (Ok table) NoFreePlace (9-full table (eqb-true _ _ t) (eqb-true _ _ f))))
       (λ f.
       let ne : free_of s.shelf ≡ places → ⊥ = eqb-false _ _ f in
       let le : free_of s.shelf ≤ places = free-le s.shelf in
-      rw (t, f) (done h (carried file h e) l u (eqb-true _ _ t) (omega arith))))
-      (λ t. rw t (refuses (Scan.Table h) 13 (13-held h (eqb-false _ _ t))))
+      rw (t, f)
+      (subst (λ scan. Goes (Ok table) (loaded_as table.header (starts_in scan) (lengths_in scan))) e
+      (done table (carried file table e) l u (eqb-true _ _ t) (omega arith)))))
+      (λ t. rw t (refuses (Ok table) KeyHeld (13-held table (eqb-false _ _ t))))
 
-  pub goes : Goes (scan_of file).answer (load_on s file)
+  pub goes : Goes (scan_of file) (load_on s file)
   unfolding load_of
   goes =
       by (eqb (length s.store) store_size)
       (λ t.
       by (spoiled_of s.shelf)
-      (λ u. rw (t, u) (refuses (scan_of file).answer 18 (18-spoiled (scan_of file).answer u)))
-      (λ u. rw (t, u) (scanned-goes (eqb-true _ _ t) u (scan_of file).answer refl)))
-      (λ t. rw t (refuses (scan_of file).answer 17 (17-store (scan_of file).answer (eqb-false _ _ t))))
+      (λ u. rw (t, u) (refuses (scan_of file) ShelfSpoiled (18-spoiled (scan_of file) u)))
+      (λ u. rw (t, u) (scanned-goes (eqb-true _ _ t) u (scan_of file) refl)))
+      (λ t. rw t (refuses (scan_of file) StoreSize (17-store (scan_of file) (eqb-false _ _ t))))
 
-  unchanged-goes : {scan : Scan} {r : After} → Goes scan r → is_done r.said ≡ false → after_load r ≡ s
+  unchanged-goes : {scan : Result Table Refusal} {r : After} → Goes scan r → is_done r.said ≡ false → after_load r ≡ s
   unchanged-goes (Goes.refuses _ _ _) e = refl
   unchanged-goes (Goes.done _ _ _ _ _ _) e = absurd (unlike e)
 
-  length-goes : {scan : Scan} {r : After} → Goes scan r → length r.store ≡ length s.store
+  length-goes : {scan : Result Table Refusal} {r : After} → Goes scan r → length r.store ≡ length s.store
   length-goes (Goes.refuses _ _ _) = refl
-  length-goes (Goes.done h c l u e f) = filled-length file h c s.store (free_of s.shelf) l f sections (omega arith) ∙ sym l
+  length-goes (Goes.done table c l u e f) = filled-length file table.header c s.store (free_of s.shelf) l f sections (omega arith) ∙ sym l
 
   pub load-length : length (load_on s file).store ≡ length s.store
   load-length = length-goes goes
 
-  elsewhere-goes : {scan : Scan} {r : After} → Goes scan r → (p n k : ℕ) → n < sections → k ≤ berth_size
+  elsewhere-goes : {scan : Result Table Refusal} {r : After} → Goes scan r → (p n k : ℕ) → n < sections → k ≤ berth_size
       → load_names s.shelf file r.said p n ≡ false → standing r.store p n k ≡ standing s.store p n k
   elsewhere-goes (Goes.refuses _ _ _) p n k i j e = refl
-  elsewhere-goes (Goes.done h c l u q f) p n k i j e =
-      filled-elsewhere file h c s.store (free_of s.shelf) l f sections (omega arith) p n k i
+  elsewhere-goes (Goes.done table c l u q f) p n k i j e =
+      filled-elsewhere file table.header c s.store (free_of s.shelf) l f sections (omega arith) p n k i
       (λ z _ t. unlike (sym (rw (eq-eqb p (free_of s.shelf) (sym z)) t) ∙ e)) j
 
-  own-goes : {scan : Scan} {r : After} → Goes scan r → (p n : ℕ) → n < sections → load_names s.shelf file r.said p n ≡ true
+  own-goes : {scan : Result Table Refusal} {r : After} → Goes scan r → (p n : ℕ) → n < sections → load_names s.shelf file r.said p n ≡ true
       → standing r.store p n berth_size ≡ padded berth_size (section_in file n)
   own-goes (Goes.refuses _ _ _) p n i e = absurd (unlike (sym e))
-  own-goes (Goes.done h c l u q f) p n i e =
+  own-goes (Goes.done table c l u q f) p n i e =
       let z : p ≡ free_of s.shelf = eqb-true _ _ (and_left (eqb p (free_of s.shelf)) (carries file n) e) in
-      rw z (filled-berth file h c s.store (free_of s.shelf) l f sections (omega arith) n i (and_right (eqb p (free_of s.shelf)) (carries file n) e))
+      rw z (filled-berth file table.header c s.store (free_of s.shelf) l f sections (omega arith) n i (and_right (eqb p (free_of s.shelf)) (carries file n) e))
 
   pub load-own : (p n : ℕ) → n < sections → load_names s.shelf file (load_on s file).said p n ≡ true
       → standing (load_on s file).store p n berth_size ≡ padded berth_size (section_in file n)
   load-own = own-goes goes
 
   module _ (g : Good s) where
-    load-right : (h : Header) → Carried file h → ¬ (Wrong (loaded_place h (scan_of file).lengths))
+    load-right : (h : Header) → Carried file h → ¬ (Wrong (loaded_place h (lengths_in (scan_of file))))
     load-right h c =
-        right (loaded_place h (scan_of file).lengths) c.version c.last (λ n i t. (c.number n t, c.least n t, c.most n t)) c.some c.has_some.0 c.has_some.1
+        right (loaded_place h (lengths_in (scan_of file))) c.version c.last (λ n i t. (c.number n t, c.least n t, c.most n t)) c.some c.has_some.0 c.has_some.1
 
-    good-goes : {scan : Scan} {r : After} → Goes scan r → Good (after_load r)
+    good-goes : {scan : Result Table Refusal} {r : After} → Goes scan r → Good (after_load r)
     good-goes (Goes.refuses _ _ _) = g
-    good-goes (Goes.done h c l u e f) =
-        good-with s g.formed (free_of s.shelf) f (loaded_place h (scan_of file).lengths) (filled file sections s.store (free_of s.shelf))
-        (filled-length file h c s.store (free_of s.shelf) l f sections (omega arith)) u c.sixteen (λ _. load-right h c) (λ _ q i _. unheld s.shelf (key_of h) e q i)
+    good-goes (Goes.done table c l u e f) =
+        good-with s g.formed (free_of s.shelf) f (loaded_place table.header (lengths_in (scan_of file))) (filled file sections s.store (free_of s.shelf))
+        (filled-length file table.header c s.store (free_of s.shelf) l f sections (omega arith)) u c.sixteen (λ _. load-right table.header c) (λ _ q i _. unheld s.shelf (key_of table.header) e q i)
 
     pub load-good : Good (after_load (load_on s file))
     load-good = good-goes goes
 
-    apart-goes : {scan : Scan} {r : After} → Goes scan r → (key : Key) → (table_has key scan && is_done r.said) ≡ false → Alike s (after_load r) key
+    apart-goes : {scan : Result Table Refusal} {r : After} → Goes scan r → (key : Key) → (table_has key scan && is_done r.said) ≡ false → Alike s (after_load r) key
     apart-goes (Goes.refuses _ _ _) key e = alike-itself s key
-    apart-goes (Goes.done h c l u q f) key e =
-        alike-with s g.formed (free_of s.shelf) f (loaded_place h (scan_of file).lengths) (filled file sections s.store (free_of s.shelf)) key
+    apart-goes (Goes.done table c l u q f) key e =
+        alike-with s g.formed (free_of s.shelf) f (loaded_place table.header (lengths_in (scan_of file))) (filled file sections s.store (free_of s.shelf)) key
         (has-not (place_at s.shelf (free_of s.shelf)) key (free-at s.shelf f))
-        (by (has_key (loaded_place h (scan_of file).lengths) key)
+        (by (has_key (loaded_place table.header (lengths_in (scan_of file))) key)
         (λ t.
-        let z : same_key (key_of h) key ≡ true = ap (λ x. same_key x key) (its_key (loaded_place h (scan_of file).lengths) key t) ∙ key-itself key in
+        let z : same_key (key_of table.header) key ≡ true = ap (λ x. same_key x key) (its_key (loaded_place table.header (lengths_in (scan_of file))) key t) ∙ key-itself key in
         absurd (unlike (rw z at e)))
         (λ t. t))
-        (λ p n k ne i j. filled-elsewhere file h c s.store (free_of s.shelf) l f sections (omega arith) p n k i (λ e _ _. ne (sym e)) j)
+        (λ p n k ne i j. filled-elsewhere file table.header c s.store (free_of s.shelf) l f sections (omega arith) p n k i (λ e _ _. ne (sym e)) j)
 
     pub load_apart : (key : Key) → (loads key file && is_done (load_on s file).said) ≡ false → Alike s (after_load (load_on s file)) key
     load_apart = apart-goes goes
 
     -- what the file carries, by what its scan answers
-    abbrev pub carried_table : Scan → Table
+    abbrev pub carried_table : Result Table Refusal → Keeping
     carried_table scan = record { version = table_version scan; last = table_last scan; has = carries file; bytes = section_in file }
 
-    begins-goes : {scan : Scan} {r : After} → Goes scan r → (key : Key) → (table_has key scan && is_done r.said) ≡ true
+    begins-goes : {scan : Result Table Refusal} {r : After} → Goes scan r → (key : Key) → (table_has key scan && is_done r.said) ≡ true
         → Kept (after_load r) key (free_of s.shelf) (carried_table scan)
     begins-goes (Goes.refuses scan _ _) key e = absurd (unlike (sym (and_right (table_has key scan) false e)))
-    begins-goes (Goes.done h c l u q f) key e =
-        let z : key_of h ≡ key = same_key_lem _ _ (and_left (same_key (key_of h) key) true e) in
-        let w : place_at (with_place s.shelf (free_of s.shelf) (loaded_place h (scan_of file).lengths)) (free_of s.shelf) ≡ loaded_place h (scan_of file).lengths =
-        at_same s.shelf g.formed (free_of s.shelf) f (loaded_place h (scan_of file).lengths) in
+    begins-goes (Goes.done table c l u q f) key e =
+        let z : key_of table.header ≡ key = same_key_lem _ _ (and_left (same_key (key_of table.header) key) true e) in
+        let w : place_at (with_place s.shelf (free_of s.shelf) (loaded_place table.header (lengths_in (scan_of file)))) (free_of s.shelf) ≡ loaded_place table.header (lengths_in (scan_of file)) =
+        at_same s.shelf g.formed (free_of s.shelf) f (loaded_place table.header (lengths_in (scan_of file))) in
         record {
           place =
-              ap (place_of (with_place s.shelf (free_of s.shelf) (loaded_place h (scan_of file).lengths))) (sym z)
-              ∙ key-with s g.formed (free_of s.shelf) f (loaded_place h (scan_of file).lengths) s.store (good-goes (Goes.done h c l u q f)).unspoiled refl;
+              ap (place_of (with_place s.shelf (free_of s.shelf) (loaded_place table.header (lengths_in (scan_of file))))) (sym z)
+              ∙ key-with s g.formed (free_of s.shelf) f (loaded_place table.header (lengths_in (scan_of file))) s.store (good-goes (Goes.done table c l u q f)).unspoiled refl;
           taken = f;
           version = ap (λ x. x.version) w;
           last = ap (λ x. x.last) w;
           numbers = λ n i. ap (λ x. holds x n) w;
           lengths = λ n i t. ap (λ x. length_at x n) w ∙ sym (c.size n t);
-          stands = λ n i t. filled-here file h c s.store (free_of s.shelf) l f n i t;
+          stands = λ n i t. filled-here file table.header c s.store (free_of s.shelf) l f n i t;
         }
 
     pub load-begins : (key : Key) → (loads key file && is_done (load_on s file).said) ≡ true
-        → Kept (after_load (load_on s file)) key (free_of s.shelf) (carried_table (scan_of file).answer)
+        → Kept (after_load (load_on s file)) key (free_of s.shelf) (carried_table (scan_of file))
     load-begins = begins-goes goes
 
 pub load-refused : LoadRefused
-load-refused s file n e = unchanged-goes s file (goes s file) (ap is_done e)
+load-refused s file r e = unchanged-goes s file (goes s file) (ap is_done e)
 
 pub load-elsewhere : LoadElsewhere
 load-elsewhere s file = elsewhere-goes s file (goes s file)

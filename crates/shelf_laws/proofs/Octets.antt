@@ -9,6 +9,8 @@ use native.Mathlib.Omega.{arith}
 use lib.Dec.{eqb}
 use lib.ListN.{length, get_or, take, drop}
 use lib.Seq.{get_or-drop}
+use Rattle.std.specs.Prelude.{Result}
+use Rattle.refusal.specs.declared.Refusal.{Refusal}
 use Rattle.base.specs.Octets.{Octets}
 use Rattle.base.specs.Bytes.{part, zeros}
 use Rattle.base.proofs.Bytes.{octets-part}
@@ -17,12 +19,13 @@ use Rattle.berth.specs.Berth.{sections, store_size, laid, padded, put, wiped, wi
 use Rattle.shelf.specs.Record.{place_at, holds, place_of, free_of}
 use Rattle.key.specs.declared.Key.{Key}
 use Rattle.file.specs.Scan.{scan_of}
-use Rattle.file.specs.declared.Scan.{Scan}
+use Rattle.file.specs.declared.Table.{Table}
 use Rattle.shelf_offer.specs.Offer as Offer
 use Rattle.shelf_release.specs.Release as Release
 use Rattle.shelf_load.specs.Load as Load
 use Rattle.shelf_load.specs.Load.{stored_below}
 use Rattle.shelf_laws.specs.State.{State}
+use Rattle.shelf_laws.specs.File.{starts_in, lengths_in}
 use Rattle.shelf_laws.specs.History.{OfBytes, Call, step, after, start, after_all}
 use Rattle.shelf_laws.proofs.Offering as Offering
 use Rattle.shelf_laws.proofs.Released as Releasing
@@ -91,10 +94,10 @@ module _ (s : State) (o : Octets s.store) where
   offer-octets payload b (Offering.Goes.added _ _ _ _ _) = octets-put s.store _ _ payload o b
   offer-octets payload b (Offering.Goes.repeats _ _ _ _ _ _) = o
 
-  load-octets : (file : List ℕ) → Octets file → {scan : Scan} {r : Load.After} → Loading.Goes s file scan r → Octets r.store
+  load-octets : (file : List ℕ) → Octets file → {scan : Result Table Refusal} {r : Load.After} → Loading.Goes s file scan r → Octets r.store
   load-octets file b (Loading.Goes.refuses _ _ _) = o
   load-octets file b (Loading.Goes.done _ _ _ _ _ _) =
-      octets-stored sections file (scan_of file).starts (scan_of file).lengths s.store (free_of s.shelf) b o
+      octets-stored sections file (starts_in (scan_of file)) (lengths_in (scan_of file)) s.store (free_of s.shelf) b o
 
   release-octets : (key : Key) {r : Release.After} → Releasing.Goes s key r → Octets r.store
   release-octets key (Releasing.Goes.refuses _ _) = o

@@ -10,6 +10,8 @@ use mathlib.Core.Bool.{true, false, ◌&&◌}
 use mathlib.Core.List.{List}
 use Prim.Native.Nat.{ℕ, ◌<◌, ◌≤◌}
 use native.Mathlib.Omega.{arith}
+use Rattle.std.specs.Prelude.{Result, Ok, Err}
+use Rattle.refusal.specs.declared.Refusal.{Refusal}
 use Rattle.base.proofs.Cases.{by, unlike}
 use Rattle.section.specs.Section.{header_of, section_number}
 use Rattle.section.proofs.Laws.{SoundFacts, sound-facts}
@@ -32,12 +34,12 @@ use Rattle.shelf_laws.proofs.OnlyNamed.{again-berth}
 use Rattle.shelf_laws.proofs.Kept.{Good, Table, Kept, kept-itself, Alike, alike-itself, alike-with}
 use Rattle.shelf_laws.proofs.Stored.{begun_table, joined_table, begun, added, begun-good, begun_kept, added-good, added-kept, repeat-kept}
 
-unstored : (a : Offered) → accepted a ≡ false → stores a ≡ false
-unstored Offered.Began e = e
-unstored Offered.BeganAgain e = e
-unstored Offered.Added e = e
-unstored Offered.Repeat e = refl
-unstored (Offered.Refused n) e = refl
+unstored : (a : Result Offered Refusal) → accepted a ≡ false → stores a ≡ false
+unstored (Ok Offered.Began) e = e
+unstored (Ok Offered.BeganAgain) e = e
+unstored (Ok Offered.Added) e = e
+unstored (Ok Offered.Repeat) e = refl
+unstored (Err r) e = refl
 
 module _ (s : State) (payload : List ℕ) (g : Good s) where
   facts : Heard s payload → SoundFacts payload (header_of payload)

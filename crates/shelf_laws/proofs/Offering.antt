@@ -1,6 +1,6 @@
 -- How an offer goes: a case for each line of document 01, "Offering a sound section", with what led to it.
 --   Heard, HeardOf   the store is of its size, the record unspoiled and the section sound; and its table is held in place p
---   Refusal          why it is refused
+--   Reason           why it is refused
 --   Goes, goes       it is refused, begins the table, begins it again, is added or is a repeat
 use mathlib.Core.Path.{◌≡◌, refl, ap, ◌∙◌}
 use mathlib.Core.Bool.{true, false}
@@ -10,12 +10,14 @@ use native.Mathlib.Omega.{arith}
 use lib.Dec.{eqb}
 use lib.ListN.{length}
 use borrow.Author.Tests.{eqb-true, eqb-false}
+use Rattle.std.specs.Prelude.{Result, Ok, Err}
+use Rattle.refusal.specs.declared.Refusal.{Refusal}
+use Rattle.refusal.specs.declared.Refusal.TheVariants.{StoreSize, ShelfSpoiled, NoFreePlace, Differs}
 use Rattle.base.specs.Bytes.{same}
 use Rattle.base.proofs.Cases.{by}
 use Rattle.base.proofs.Same.{same-equal, same-unequal}
 use Rattle.section.specs.Section.{read_of, header_of, version, section_number, last_section_number}
-use Rattle.section.specs.declared.Reading.{Reading}
-use Rattle.section.specs.declared.Reading.TheVariants.{Sound, Refused}
+use Rattle.section.specs.declared.Header.{Header}
 use Rattle.berth.specs.Berth.{sections, places, store_size, berth_size, put, wiped_where, standing}
 use Rattle.shelf.specs.Record.{place_at, with_place, length_at, holds, spoiled_of, place_of, free_of}
 use Rattle.shelf_offer.specs.Offer.{After, begun_place, added_place, no, new_of, held_of, sound_of, reading_of, offer_of}
@@ -30,7 +32,7 @@ module _ (s : State) (payload : List ℕ) where
   pub record Heard : Type 0 where
     pub lent : length s.store ≡ store_size
     pub unspoiled : spoiled_of s.shelf ≡ false
-    pub reads : read_of payload ≡ Sound (header_of payload)
+    pub reads : read_of payload ≡ Ok (header_of payload)
 
   -- and its key is held, in this place
   pub record HeardOf (p : ℕ) : Type 0 where
@@ -38,48 +40,48 @@ module _ (s : State) (payload : List ℕ) where
     pub place : place_of s.shelf (key_in payload) ≡ p
     pub taken : p < places
 
-  pub data Refusal : ℕ → Type 0 where
-    17-store : (length s.store ≡ store_size → ⊥) → Refusal 17
-    18-spoiled : length s.store ≡ store_size → spoiled_of s.shelf ≡ true → Refusal 18
-    unsound : (n : ℕ) → length s.store ≡ store_size → spoiled_of s.shelf ≡ false → read_of payload ≡ Refused n → Refusal n
-    9-full : Heard → place_of s.shelf (key_in payload) ≡ places → free_of s.shelf ≡ places → Refusal 9
-    10-last : (p : ℕ) → HeardOf p → (place_at s.shelf p).version ≡ version payload → ((place_at s.shelf p).last ≡ last_section_number payload → ⊥) → Refusal 10
+  pub data Reason : Refusal → Type 0 where
+    17-store : (length s.store ≡ store_size → ⊥) → Reason StoreSize
+    18-spoiled : length s.store ≡ store_size → spoiled_of s.shelf ≡ true → Reason ShelfSpoiled
+    unsound : (r : Refusal) → length s.store ≡ store_size → spoiled_of s.shelf ≡ false → read_of payload ≡ Err r → Reason r
+    9-full : Heard → place_of s.shelf (key_in payload) ≡ places → free_of s.shelf ≡ places → Reason NoFreePlace
+    10-last : (p : ℕ) → HeardOf p → (place_at s.shelf p).version ≡ version payload → ((place_at s.shelf p).last ≡ last_section_number payload → ⊥) → Reason Differs
     10-differs : (p : ℕ) → HeardOf p → (place_at s.shelf p).version ≡ version payload → (place_at s.shelf p).last ≡ last_section_number payload
         → holds (place_at s.shelf p) (section_number payload) ≡ true
         → (standing s.store p (section_number payload) (length_at (place_at s.shelf p) (section_number payload)) ≡ payload → ⊥)
-        → Refusal 10
+        → Reason Differs
 
   pub data Goes : After → Type 0 where
-    refuses : (n : ℕ) → Refusal n → Goes (no s.shelf s.store payload n)
+    refuses : (r : Refusal) → Reason r → Goes (no s.shelf s.store payload r)
     began : Heard → place_of s.shelf (key_in payload) ≡ places → free_of s.shelf < places → Goes (
         record {
-          said = Offered.Began;
+          said = Ok Offered.Began;
           shelf = with_place s.shelf (free_of s.shelf) (begun_place (header_of payload) (length payload));
           store = put s.store (free_of s.shelf) (section_number payload) payload;
         })
     began_again : (p : ℕ) → HeardOf p → ((place_at s.shelf p).version ≡ version payload → ⊥) → Goes (
         record {
-          said = Offered.BeganAgain;
+          said = Ok Offered.BeganAgain;
           shelf = with_place s.shelf p (begun_place (header_of payload) (length payload));
           store = put (wiped_where (holds (place_at s.shelf p)) sections s.store p) p (section_number payload) payload;
         })
     added : (p : ℕ) → HeardOf p → (place_at s.shelf p).version ≡ version payload → (place_at s.shelf p).last ≡ last_section_number payload
         → holds (place_at s.shelf p) (section_number payload) ≡ false → Goes (
         record {
-          said = Offered.Added;
+          said = Ok Offered.Added;
           shelf = with_place s.shelf p (added_place (place_at s.shelf p) (header_of payload) (length payload));
           store = put s.store p (section_number payload) payload;
         })
     repeats : (p : ℕ) → HeardOf p → (place_at s.shelf p).version ≡ version payload → (place_at s.shelf p).last ≡ last_section_number payload
         → holds (place_at s.shelf p) (section_number payload) ≡ true
         → standing s.store p (section_number payload) (length_at (place_at s.shelf p) (section_number payload)) ≡ payload
-        → Goes (record { said = Offered.Repeat; shelf = s.shelf; store = s.store })
+        → Goes (record { said = Ok Offered.Repeat; shelf = s.shelf; store = s.store })
 
   new-goes : Heard → place_of s.shelf (key_in payload) ≡ places → Goes (new_of s.shelf s.store payload (header_of payload))
   unfolding new_of
   new-goes a e =
       by (eqb (free_of s.shelf) places)
-      (λ t. rw t (refuses 9 (9-full a e (eqb-true _ _ t))))
+      (λ t. rw t (refuses NoFreePlace (9-full a e (eqb-true _ _ t))))
       (λ t.
       let ne : free_of s.shelf ≡ places → ⊥ = eqb-false _ _ t in
       let le : free_of s.shelf ≤ places = free-le s.shelf in
@@ -96,9 +98,9 @@ module _ (s : State) (payload : List ℕ) where
       (λ n.
       by (same (standing s.store p (section_number payload) (length_at (place_at s.shelf p) (section_number payload))) payload)
       (λ s. rw (v, l, n, s) (repeats p a (eqb-true _ _ v) (eqb-true _ _ l) n (same-equal _ _ s)))
-      (λ s. rw (v, l, n, s) (refuses 10 (10-differs p a (eqb-true _ _ v) (eqb-true _ _ l) n (same-unequal _ _ s)))))
+      (λ s. rw (v, l, n, s) (refuses Differs (10-differs p a (eqb-true _ _ v) (eqb-true _ _ l) n (same-unequal _ _ s)))))
       (λ n. rw (v, l, n) (added p a (eqb-true _ _ v) (eqb-true _ _ l) n)))
-      (λ l. rw (v, l) (refuses 10 (10-last p a (eqb-true _ _ v) (eqb-false _ _ l)))))
+      (λ l. rw (v, l) (refuses Differs (10-last p a (eqb-true _ _ v) (eqb-false _ _ l)))))
       (λ v. rw v (began_again p a (eqb-false _ _ v)))
 
   sound-goes : Heard → Goes (sound_of s.shelf s.store payload (header_of payload))
@@ -117,15 +119,15 @@ module _ (s : State) (payload : List ℕ) where
       by (eqb (length s.store) store_size)
       (λ t.
       by (spoiled_of s.shelf)
-      (λ s. rw (t, s) (refuses 18 (18-spoiled (eqb-true _ _ t) s)))
+      (λ s. rw (t, s) (refuses ShelfSpoiled (18-spoiled (eqb-true _ _ t) s)))
       (λ s. rw (t, s) (reading (eqb-true _ _ t) s (read_of payload) refl)))
-      (λ t. rw t (refuses 17 (17-store (eqb-false _ _ t))))
+      (λ t. rw t (refuses StoreSize (17-store (eqb-false _ _ t))))
     where
-      reading : length s.store ≡ store_size → spoiled_of s.shelf ≡ false → (r : Reading) → read_of payload ≡ r → Goes (reading_of s.shelf s.store payload r)
-      reading l s (Sound h) e =
+      reading : length s.store ≡ store_size → spoiled_of s.shelf ≡ false → (r : Result Header Refusal) → read_of payload ≡ r → Goes (reading_of s.shelf s.store payload r)
+      reading l s (Ok h) e =
           let f : h ≡ header_of payload = (sound-facts payload h e).header in
-          rw f (sound-goes (record { lent = l; unspoiled = s; reads = e ∙ ap Sound f }))
-      reading l s (Refused n) e = refuses n (unsound n l s e)
+          rw f (sound-goes (record { lent = l; unspoiled = s; reads = e ∙ ap Ok f }))
+      reading l s (Err r) e = refuses r (unsound r l s e)
 
   -- what a sound section's numbers are
   module _ (a : Heard) where

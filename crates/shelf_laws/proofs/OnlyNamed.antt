@@ -12,10 +12,11 @@ use native.Mathlib.Omega.{arith}
 use lib.Dec.{eqb}
 use lib.ListN.{length}
 use borrow.Author.Tests.{eq-eqb}
+use Rattle.std.specs.Prelude.{Result, Ok, Err}
+use Rattle.refusal.specs.declared.Refusal.{Refusal}
 use Rattle.base.specs.Bytes.{zeros}
 use Rattle.base.proofs.Cases.{unlike, or_right}
 use Rattle.section.specs.Section.{section_number}
-use Rattle.section.specs.declared.Reading.TheVariants.{Refused}
 use Rattle.berth.specs.Berth.{sections, berth_size, padded, wiped_where, standing}
 use Rattle.berth.proofs.Berths.{Elsewhere, where-length, where-spared, where-picked}
 use Rattle.shelf.specs.Record.{place_at, holds, place_of, free_of}
@@ -41,12 +42,12 @@ again-unheld p n q m t e a =
     or_right (eqb m n) t u
 
 -- the answer by which the table's held sections go
-abbrev wipes : Offered → Bool
-wipes Offered.Began = false
-wipes Offered.BeganAgain = true
-wipes Offered.Added = false
-wipes Offered.Repeat = false
-wipes (Offered.Refused n) = false
+abbrev wipes : Result Offered Refusal → Bool
+wipes (Ok Offered.Began) = false
+wipes (Ok Offered.BeganAgain) = true
+wipes (Ok Offered.Added) = false
+wipes (Ok Offered.Repeat) = false
+wipes (Err r) = false
 
 module _ (s : State) (payload : List ℕ) where
   -- a store in which the held sections' berths were zeroed, and its berth for the new section
@@ -115,7 +116,7 @@ module _ (s : State) (payload : List ℕ) where
   wiped-goes (Goes.added _ _ _ _ _) n i e ne h = absurd (unlike (sym e))
   wiped-goes (Goes.repeats _ _ _ _ _ _) n i e ne h = absurd (unlike (sym e))
 
-  pub offer-wiped : (offer_to s payload).said ≡ Offered.BeganAgain → (n : ℕ) → n < sections → (n ≡ section_number payload → ⊥)
+  pub offer-wiped : (offer_to s payload).said ≡ Ok Offered.BeganAgain → (n : ℕ) → n < sections → (n ≡ section_number payload → ⊥)
       → holds (place_at s.shelf (place_of s.shelf (key_in payload))) n ≡ true
       → standing (offer_to s payload).store (place_of s.shelf (key_in payload)) n berth_size ≡ zeros berth_size
   offer-wiped e n i = wiped-goes (goes s payload) n i (ap wipes e)

@@ -6,7 +6,7 @@
 --   free-le, free-at, none_free                       the free place
 --   Bounded, bounded, right                           a taken place is right when its numbers are in their bounds
 --   unspoiled-with                                    another place keeps the record unspoiled
-use mathlib.Core.Path.{◌≡◌, refl, sym, ap, subst, fun_ext, ◌∙◌}
+use mathlib.Core.Path.{◌≡◌, sym, ap, subst, fun_ext, ◌∙◌}
 use mathlib.Core.Bool.{true, false, not}
 use mathlib.Core.Logic.{⊎_elim, inl, inr}
 use Prim.Native.Nat.{ℕ, ◌<◌, ◌≤◌}
@@ -15,7 +15,7 @@ use native.Mathlib.Omega.{arith}
 use lib.Dec.{ltb, eqb}
 use lib.ListN.{length, length-set}
 use lib.Seq.{get_or-set_same, get_or-set_other}
-use borrow.Author.Tests.{ltb-true, ltb-false, eqb-true, eqb-false, eq-eqb, ne_eqb, not-true, not-false}
+use borrow.Author.Tests.{ltb-true, ltb-false, eqb-false, ne_eqb, not-true, not-false}
 use Rattle.base.specs.Below.{lowest}
 use Rattle.base.proofs.Cases.{by, same_or, unlike, and_left, and_right}
 use Rattle.base.proofs.Below.{lowest-le, lowest-holds, lowest-below, lowest-all}

@@ -1,6 +1,6 @@
 -- Over any history each refusal is by a number from 1 to 16, and what is copied out or saved has fewer than 65,536 bytes.
---   Range         what is so of an entry
---   ranges-all    it is so of every entry of every log
+--   Refusing, Ranging, AnyRange, SizeRange, Range     what is so of a refusal, of an answer, and of an entry
+--   ranges-all        it is so of every entry of every log
 use mathlib.Core.Path.{◌≡◌, sym, ◌∙◌}
 use mathlib.Core.List.{List, [], ◌∷◌}
 use mathlib.Core.Logic.{⊎_elim, inr}
@@ -8,22 +8,18 @@ use Prim.Native.Nat.{ℕ, ◌<◌, ◌≤◌}
 use native.Mathlib.Omega.{arith}
 use lib.Dec.{eqb}
 use borrow.Author.Tests.{eqb-true, eqb-false}
+use Rattle.std.specs.Prelude.{Result, Ok, Err}
+use Rattle.refusal.specs.Refusal.{number}
+use Rattle.refusal.specs.declared.Refusal.{Refusal}
 use Rattle.base.proofs.Cases.{by, unlike}
 use Rattle.section.proofs.ExactlyWhen.{OwnNumber, refused_range}
 use Rattle.berth.specs.Berth.{places}
 use Rattle.shelf.specs.Record.{place_of}
 use Rattle.key.specs.declared.Key.{Key}
 use Rattle.shelf_offer.specs.Offer as Offer
-use Rattle.shelf_offer.specs.declared.Offered.{Offered}
 use Rattle.shelf_release.specs.Release as Release
-use Rattle.shelf_release.specs.declared.Released.{Released}
-use Rattle.shelf_ask.specs.declared.Copied.{Copied}
-use Rattle.shelf_ask.specs.declared.Whole.{Whole}
-use Rattle.shelf_ask.specs.declared.Missing.{Missing}
-use Rattle.file.specs.declared.Scan.{Scan}
+use Rattle.file.specs.declared.Table.{Table}
 use Rattle.shelf_load.specs.Load as Load
-use Rattle.shelf_load.specs.declared.Loaded.{Loaded}
-use Rattle.shelf_save.specs.declared.Saved.{Saved}
 use Rattle.shelf_laws.specs.State.{State}
 use Rattle.shelf_laws.specs.History.{Question, Reply, copied, wholly, lacking, saved, about, reply, Call, Entry, offered, loaded, released, asked, entry, step, logged, log_of, start, Each}
 use Rattle.shelf_laws.proofs.Places.{placed}
@@ -51,93 +47,71 @@ fault =
     ⊎_elim (⊎_elim (λ r. few (omega (arith, r.0)) (omega (arith, r.1))) (λ e. own (inr e)))
     (⊎_elim (λ e. few (omega arith) (omega arith)) (λ e. few (omega arith) (omega arith)))
 
-abbrev pub OfferRange : Offered → Type 0
-OfferRange Offered.Began = Unit {0}
-OfferRange Offered.BeganAgain = Unit {0}
-OfferRange Offered.Added = Unit {0}
-OfferRange Offered.Repeat = Unit {0}
-OfferRange (Offered.Refused n) = Refusing n
+-- what is so of an answer: of its value where it is done, of its refusal where it is refused
+abbrev pub Ranging : {A : Type 0} → (A → Type 0) → Result A Refusal → Type 0
+Ranging p (Ok a) = p a
+Ranging p (Err r) = Refusing (number r)
 
-abbrev pub LoadRange : Loaded → Type 0
-LoadRange Loaded.Done = Unit {0}
-LoadRange (Loaded.Refused n) = Refusing n
+-- whatever was done
+abbrev pub AnyRange : {A : Type 0} → Result A Refusal → Type 0
+AnyRange = Ranging (λ _. Unit {0})
 
-abbrev pub ReleaseRange : Released → Type 0
-ReleaseRange Released.Done = Unit {0}
-ReleaseRange (Released.Refused n) = Refusing n
-
-abbrev pub CopyRange : Copied → Type 0
-CopyRange (Copied.Bytes n) = n < 65536
-CopyRange (Copied.Refused n) = Refusing n
-
-abbrev pub WholeRange : Whole → Type 0
-WholeRange Whole.Complete = Unit {0}
-WholeRange Whole.Incomplete = Unit {0}
-WholeRange (Whole.Refused n) = Refusing n
-
-abbrev pub MissingRange : Missing → Type 0
-MissingRange Missing.Nothing = Unit {0}
-MissingRange (Missing.Number n) = Unit {0}
-MissingRange (Missing.Refused n) = Refusing n
-
-abbrev pub SaveRange : Saved → Type 0
-SaveRange (Saved.Bytes n) = n < 65536
-SaveRange (Saved.Refused n) = Refusing n
+-- so many bytes
+abbrev pub SizeRange : Result ℕ Refusal → Type 0
+SizeRange = Ranging (λ n. n < 65536)
 
 abbrev pub ReplyRange : Reply → Type 0
-ReplyRange (copied c) = CopyRange c.said
-ReplyRange (wholly said) = WholeRange said
-ReplyRange (lacking said) = MissingRange said
-ReplyRange (saved c) = SaveRange c.said
+ReplyRange (copied c) = SizeRange c.said
+ReplyRange (wholly said) = AnyRange said
+ReplyRange (lacking said) = AnyRange said
+ReplyRange (saved c) = SizeRange c.said
 
 abbrev pub Range : Entry → Type 0
-Range (offered payload said) = OfferRange said
-Range (loaded file said) = LoadRange said
-Range (released key said) = ReleaseRange said
+Range (offered payload said) = AnyRange said
+Range (loaded file said) = AnyRange said
+Range (released key said) = AnyRange said
 Range (asked question said) = ReplyRange said
 
 module _ (s : State) (g : Good s) where
-  offer-refusal : (payload : List ℕ) {n : ℕ} → Offering.Refusal s payload n → Refusing n
-  offer-refusal payload (Offering.Refusal.17-store l) = absurd (l g.lent)
-  offer-refusal payload (Offering.Refusal.18-spoiled _ e) = absurd (unlike (sym e ∙ g.unspoiled))
-  offer-refusal payload (Offering.Refusal.unsound n _ _ e) =
-      own (refused_range payload n e)
-  offer-refusal payload (Offering.Refusal.9-full _ _ _) = few (omega arith) (omega arith)
-  offer-refusal payload (Offering.Refusal.10-last _ _ _ _) = few (omega arith) (omega arith)
-  offer-refusal payload (Offering.Refusal.10-differs _ _ _ _ _ _) = few (omega arith) (omega arith)
+  offer-refusal : (payload : List ℕ) {r : Refusal} → Offering.Reason s payload r → Refusing (number r)
+  offer-refusal payload (Offering.Reason.17-store l) = absurd (l g.lent)
+  offer-refusal payload (Offering.Reason.18-spoiled _ e) = absurd (unlike (sym e ∙ g.unspoiled))
+  offer-refusal payload (Offering.Reason.unsound r _ _ e) = own (refused_range payload r e)
+  offer-refusal payload (Offering.Reason.9-full _ _ _) = few (omega arith) (omega arith)
+  offer-refusal payload (Offering.Reason.10-last _ _ _ _) = few (omega arith) (omega arith)
+  offer-refusal payload (Offering.Reason.10-differs _ _ _ _ _ _) = few (omega arith) (omega arith)
 
-  offer-range : (payload : List ℕ) {r : Offer.After} → Offering.Goes s payload r → OfferRange r.said
-  offer-range payload (Offering.Goes.refuses n y) = offer-refusal payload y
+  offer-range : (payload : List ℕ) {r : Offer.After} → Offering.Goes s payload r → AnyRange r.said
+  offer-range payload (Offering.Goes.refuses _ y) = offer-refusal payload y
   offer-range payload (Offering.Goes.began _ _ _) = tt
   offer-range payload (Offering.Goes.began_again _ _ _) = tt
   offer-range payload (Offering.Goes.added _ _ _ _ _) = tt
   offer-range payload (Offering.Goes.repeats _ _ _ _ _ _) = tt
 
-  load-refusal : (file : List ℕ) {scan : Scan} {n : ℕ} → Loading.Refusal s file scan n → Refusing n
-  load-refusal file (Loading.Refusal.17-store _ l) = absurd (l g.lent)
-  load-refusal file (Loading.Refusal.18-spoiled _ e) = absurd (unlike (sym e ∙ g.unspoiled))
-  load-refusal file (Loading.Refusal.faulty n e) =
-      fault (scan-range file n e)
-  load-refusal file (Loading.Refusal.13-held _ _) = few (omega arith) (omega arith)
-  load-refusal file (Loading.Refusal.9-full _ _ _) = few (omega arith) (omega arith)
+  load-refusal : (file : List ℕ) {scan : Result Table Refusal} {r : Refusal} → Loading.Reason s file scan r → Refusing (number r)
+  load-refusal file (Loading.Reason.17-store _ l) = absurd (l g.lent)
+  load-refusal file (Loading.Reason.18-spoiled _ e) = absurd (unlike (sym e ∙ g.unspoiled))
+  load-refusal file (Loading.Reason.faulty r e) = fault (scan-range file r e)
+  load-refusal file (Loading.Reason.13-held _ _) = few (omega arith) (omega arith)
+  load-refusal file (Loading.Reason.9-full _ _ _) = few (omega arith) (omega arith)
 
-  load-range : (file : List ℕ) {scan : Scan} {r : Load.After} → Loading.Goes s file scan r → LoadRange r.said
+  load-range : (file : List ℕ) {scan : Result Table Refusal} {r : Load.After} → Loading.Goes s file scan r → AnyRange r.said
   load-range file (Loading.Goes.refuses _ _ y) = load-refusal file y
   load-range file (Loading.Goes.done _ _ _ _ _ _) = tt
 
-  release-refusal : (key : Key) {n : ℕ} → Releasing.Refusal s key n → Refusing n
-  release-refusal key (Releasing.Refusal.17-store l) = absurd (l g.lent)
-  release-refusal key (Releasing.Refusal.18-spoiled e) = absurd (unlike (sym e ∙ g.unspoiled))
-  release-refusal key (Releasing.Refusal.14-unheld _) = few (omega arith) (omega arith)
+  release-refusal : (key : Key) {r : Refusal} → Releasing.Reason s key r → Refusing (number r)
+  release-refusal key (Releasing.Reason.17-store l) = absurd (l g.lent)
+  release-refusal key (Releasing.Reason.18-spoiled e) = absurd (unlike (sym e ∙ g.unspoiled))
+  release-refusal key (Releasing.Reason.14-unheld _) = few (omega arith) (omega arith)
 
-  release-range : (key : Key) {r : Release.After} → Releasing.Goes s key r → ReleaseRange r.said
+  release-range : (key : Key) {r : Release.After} → Releasing.Goes s key r → AnyRange r.said
   release-range key (Releasing.Goes.refuses _ y) = release-refusal key y
   release-range key (Releasing.Goes.done _ _ _) = tt
 
   answer-range : (q : Question) → Answers ReplyRange q
   answer-range (Question.copy key n out) = (few (omega arith) (omega arith), few (omega arith) (omega arith), λ n i bytes. i)
-  answer-range (Question.whole key) = (tt, tt)
-  answer-range (Question.missing key) = (tt, λ n. tt)
+  answer-range (Question.whole key) = λ whole. tt
+  answer-range (Question.missing key) = λ lowest. tt
   answer-range (Question.save key out) = (few (omega arith) (omega arith), λ n i bytes. i)
 
   unheld-range : (q : Question) → ReplyRange (refused-14 q)

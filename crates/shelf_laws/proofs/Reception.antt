@@ -11,40 +11,38 @@ use mathlib.Core.Bool.{Bool, true, false, ◌&&◌, ◌||◌}
 use mathlib.Core.Logic.{◌⊎◌, ⊎_elim, inl, inr}
 use mathlib.Core.List.Memᴰ
 use mathlib.Core.List.{List, [], ◌∷◌, Memᴰ}
-use Prim.Native.Nat.{ℕ, ◌+◌, ◌<◌, ◌≤◌}
+use Prim.Native.Nat.{ℕ, ◌+◌, ◌<◌}
 use native.Mathlib.Omega.{arith}
 use lib.Dec.{eqb, ltb}
 use lib.ListN.{length}
 use borrow.Author.Tests.{eqb-true, eq-eqb, ltb-true, ltb-false}
+use Rattle.std.specs.Prelude.{Result, Ok, Err}
+use Rattle.std.proofs.Math.Bool.{or-false, or-true, and-true, and-false}
+use Rattle.refusal.specs.Refusal.{number, number_of}
+use Rattle.refusal.specs.declared.Refusal.{Refusal}
+use Rattle.refusal.specs.declared.Refusal.TheVariants.{NoFreePlace, TableNotHeld}
+use Rattle.refusal.proofs.Numbers.{in_byte}
 use Rattle.base.specs.Below.{every}
 use Rattle.base.proofs.Cases.{by, unlike, and_left, and_right}
 use Rattle.base.proofs.Below.{every-all, every-each}
-use Rattle.section.specs.Section.{read_of, header_of, number_of, version, section_number, last_section_number}
-use Rattle.section.specs.declared.Reading.{Reading}
-use Rattle.section.specs.declared.Reading.TheVariants.{Sound, Refused}
+use Rattle.section.specs.Section.{read_of, header_of, version, section_number, last_section_number}
+use Rattle.section.specs.declared.Header.{Header}
 use Rattle.section.proofs.Laws.{sound-facts}
-use Rattle.section.proofs.ExactlyWhen.{refused_range, own-bounds}
 use Rattle.berth.specs.Berth.{sections, places, standing}
 use Rattle.shelf.specs.Record.{place_at, place_of}
 use Rattle.key.specs.Key.{same_key}
 use Rattle.key.specs.declared.Key.{Key}
 use Rattle.shelf_offer.specs.Offer as Offer
-use Rattle.shelf_offer.specs.declared.Offered.{Offered}
-use Rattle.shelf_release.specs.declared.Released.{Released}
-use Rattle.shelf_ask.specs.Ask.{copy, copied_no}
-use Rattle.shelf_ask.specs.declared.Copied.{Copied}
-use Rattle.shelf_ask.specs.declared.Whole.{Whole}
+use Rattle.shelf_ask.specs.Ask.{copy}
 use Rattle.shelf_laws.specs.State.{State, offer_to, load_on, release_from}
-use Rattle.shelf_load.specs.declared.Loaded.{Loaded}
 use Rattle.shelf_laws.specs.Named.{key_in}
 use Rattle.shelf_laws.specs.Answers.{begins, joins, accepted, is_done, frees}
 use Rattle.shelf_laws.specs.History.{Call, Entry, offered, loaded, released, asked, entry, step, after, logged, start, after_all, log_of, copy_after, whole_after, Each}
 use Rattle.shelf_laws.specs.Log.{loads}
 use Rattle.shelf_laws.specs.Reception.{SectionOf, OfferedIn, Fits, Undisturbed}
 use Rattle.shelf_laws.specs.Laws.{MoreReception}
-use Rattle.shelf_laws.proofs.Truth.{or-none, or-true, and-true, and-false}
 use Rattle.key.proofs.Keys.{same_key_lem, key-itself}
-use Rattle.shelf_laws.proofs.Offering.{Refusal, Goes, goes, number-16}
+use Rattle.shelf_laws.proofs.Offering.{Reason, Goes, goes, number-16}
 use Rattle.shelf_laws.proofs.Kept.{Good, Table, Kept, kept-as, kept_for, Alike, alike-itself, alike-kept}
 use Rattle.shelf_laws.proofs.Offered.{offer-apart, offer-begins, offer-joins, accepted-heard}
 use Rattle.shelf_laws.proofs.Released.{release-apart}
@@ -57,14 +55,14 @@ use Rattle.shelf_laws.proofs.Complete.{answered}
 abbrev pub is_section : Key → List ℕ → Bool
 is_section key payload = eqb (number_of (read_of payload)) 0 && same_key (key_in payload) key
 
-read-sound : (payload : List ℕ) → number_of (read_of payload) ≡ 0 → read_of payload ≡ Sound (header_of payload)
+read-sound : (payload : List ℕ) → number_of (read_of payload) ≡ 0 → read_of payload ≡ Ok (header_of payload)
 read-sound payload e = go (read_of payload) refl
   where
-    go : (r : Reading) → read_of payload ≡ r → read_of payload ≡ Sound (header_of payload)
-    go (Sound h) q = q ∙ ap Sound (sound-facts payload h q).header
-    go (Refused n) q =
-        let b : 1 ≤ n = (own-bounds n (refused_range payload n q)).0 in
-        let z : n ≡ 0 = sym (ap number_of q) ∙ e in
+    go : (r : Result Header Refusal) → read_of payload ≡ r → read_of payload ≡ Ok (header_of payload)
+    go (Ok h) q = q ∙ ap Ok (sound-facts payload h q).header
+    go (Err r) q =
+        let b : 0 < number r = (in_byte r).0 in
+        let z : number r ≡ 0 = sym (ap number_of q) ∙ e in
         absurd (omega arith)
 
 module _ (key : Key) (payload : List ℕ) where
@@ -90,25 +88,25 @@ module _ (key : Key) where
   heard (e ∷ log) n = heard_in e n || heard log n
 
 -- one offer of a sound section, to a shelf that is good
-module _ (s : State) (g : Good s) (payload : List ℕ) (sound : read_of payload ≡ Sound (header_of payload)) where
-  read-not : (n : ℕ) → read_of payload ≡ Refused n → ⊥
-  read-not n e = let z : ◌≡◌ {A = ℕ} 0 1 = cc in omega arith
+module _ (s : State) (g : Good s) (payload : List ℕ) (sound : read_of payload ≡ Ok (header_of payload)) where
+  read-not : (r : Refusal) → read_of payload ≡ Err r → ⊥
+  read-not r e = cc
 
   -- where the table is not held and there is room, the section begins it
   module _ (unheld : place_of s.shelf (key_in payload) ≡ places) where
     nowhere : (p : ℕ) → place_of s.shelf (key_in payload) ≡ p → p < places → ⊥
     nowhere p e i = let z : p ≡ places = sym e ∙ unheld in omega arith
 
-    only-full : {n : ℕ} → Refusal s payload n → n ≡ 9
-    only-full (Refusal.17-store e) = absurd (e g.lent)
-    only-full (Refusal.18-spoiled _ e) = absurd (unlike (sym e ∙ g.unspoiled))
-    only-full (Refusal.unsound n _ _ e) = absurd (read-not n e)
-    only-full (Refusal.9-full _ _ _) = refl
-    only-full (Refusal.10-last p a _ _) = absurd (nowhere p a.place a.taken)
-    only-full (Refusal.10-differs p a _ _ _ _) = absurd (nowhere p a.place a.taken)
+    only-full : {r : Refusal} → Reason s payload r → r ≡ NoFreePlace
+    only-full (Reason.17-store e) = absurd (e g.lent)
+    only-full (Reason.18-spoiled _ e) = absurd (unlike (sym e ∙ g.unspoiled))
+    only-full (Reason.unsound r _ _ e) = absurd (read-not r e)
+    only-full (Reason.9-full _ _ _) = refl
+    only-full (Reason.10-last p a _ _) = absurd (nowhere p a.place a.taken)
+    only-full (Reason.10-differs p a _ _ _ _) = absurd (nowhere p a.place a.taken)
 
-    begins-goes : {r : Offer.After} → Goes s payload r → (r.said ≡ Offered.Refused 9 → ⊥) → begins r.said ≡ true
-    begins-goes (Goes.refuses n y) room = absurd (room (ap Offered.Refused (only-full y)))
+    begins-goes : {r : Offer.After} → Goes s payload r → (r.said ≡ Err NoFreePlace → ⊥) → begins r.said ≡ true
+    begins-goes (Goes.refuses r y) room = absurd (room (ap Err (only-full y)))
     begins-goes (Goes.began _ _ _) room = refl
     begins-goes (Goes.began_again _ _ _) room = refl
     begins-goes (Goes.added p a _ _ _) room = absurd (nowhere p a.place a.taken)
@@ -120,13 +118,13 @@ module _ (s : State) (g : Good s) (payload : List ℕ) (sound : read_of payload 
     not-unheld : place_of s.shelf (key_in payload) ≡ places → ⊥
     not-unheld q = let z : p ≡ places = sym k.place ∙ q in let i : p < places = k.taken in omega arith
 
-    never-refused : {n : ℕ} → Refusal s payload n → ⊥
-    never-refused (Refusal.17-store e) = e g.lent
-    never-refused (Refusal.18-spoiled _ e) = unlike (sym e ∙ g.unspoiled)
-    never-refused (Refusal.unsound n _ _ e) = read-not n e
-    never-refused (Refusal.9-full _ q _) = not-unheld q
-    never-refused (Refusal.10-last q a _ ne) = ne (ap (λ x. (place_at s.shelf x).last) (sym a.place ∙ k.place) ∙ k.last ∙ sym same-last)
-    never-refused (Refusal.10-differs q a _ _ n ne) =
+    never-refused : {r : Refusal} → Reason s payload r → ⊥
+    never-refused (Reason.17-store e) = e g.lent
+    never-refused (Reason.18-spoiled _ e) = unlike (sym e ∙ g.unspoiled)
+    never-refused (Reason.unsound r _ _ e) = read-not r e
+    never-refused (Reason.9-full _ q _) = not-unheld q
+    never-refused (Reason.10-last q a _ ne) = ne (ap (λ x. (place_at s.shelf x).last) (sym a.place ∙ k.place) ∙ k.last ∙ sym same-last)
+    never-refused (Reason.10-differs q a _ _ n ne) =
         let z : q ≡ p = sym a.place ∙ k.place in
         let i : section_number payload < sections = number-16 s payload a.heard in
         let h : t.has (section_number payload) ≡ true = sym (k.numbers (section_number payload) i) ∙ rw z at n in
@@ -170,7 +168,7 @@ module _ (key : Key) (v l : ℕ) (f : ℕ → List ℕ) where
           let t : is_section key payload ≡ true = section-is key payload is in
           Fed.held _
           (kept-as next (kept_for next (offer-begins s payload g b) is.its_key) refl fits.version fits.last
-          (λ n. rw (t, none n) (or-none (eqb n (section_number payload))))
+          (λ n. rw (t, none n) (sym (or-false (eqb n (section_number payload)))))
           (λ n e. fits.bytes ∙ ap f (sym (eqb-true n (section_number payload) e))))
       fed-section (Fed.held p k) =
           let mine = kept_for s k (sym is.its_key) in
@@ -190,13 +188,13 @@ module _ (key : Key) (v l : ℕ) (f : ℕ → List ℕ) where
         rw a (and-true (same_key (key_in payload) key) ∙ n))
         (λ a. rw a (and-false (same_key (key_in payload) key)))
 
-    not-loaded : (file : List ℕ) (said : Loaded) → (loads key file ≡ true → said ≡ Loaded.Done → ⊥) → (loads key file && is_done said) ≡ false
-    not-loaded file Loaded.Done u = by (loads key file) (λ t. absurd (u t refl)) (λ t. rw t)
-    not-loaded file (Loaded.Refused n) u = and-false (loads key file)
+    not-loaded : (file : List ℕ) (said : Result (Unit {0}) Refusal) → (loads key file ≡ true → said ≡ Ok tt → ⊥) → (loads key file && is_done said) ≡ false
+    not-loaded file (Ok done) u = by (loads key file) (λ t. absurd (u t refl)) (λ t. rw t)
+    not-loaded file (Err r) u = and-false (loads key file)
 
-    not-freed : (gone : Key) (said : Released) → (gone ≡ key → said ≡ Released.Done → ⊥) → (same_key gone key && frees said) ≡ false
-    not-freed gone Released.Done u = by (same_key gone key) (λ t. absurd (u (same_key_lem gone key t) refl)) (λ t. rw t)
-    not-freed gone (Released.Refused n) u = and-false (same_key gone key)
+    not-freed : (gone : Key) (said : Result (Unit {0}) Refusal) → (gone ≡ key → said ≡ Ok tt → ⊥) → (same_key gone key && frees said) ≡ false
+    not-freed gone (Ok done) u = by (same_key gone key) (λ t. absurd (u (same_key_lem gone key t) refl)) (λ t. rw t)
+    not-freed gone (Err r) u = and-false (same_key gone key)
 
     pub fed-step : Fed s log → (c : Call) → Undisturbed key v l f (entry s c) → Fed (step s c) (entry s c ∷ log)
     fed-step fed (Call.offer payload) u =
@@ -229,7 +227,7 @@ module _ (key : Key) (v l : ℕ) (f : ℕ → List ℕ) where
 module _ (key : Key) where
   still-heard : (s : State) (log : List Entry) (cs : List Call) (n : ℕ) → heard key log n ≡ true → heard key (logged s log cs) n ≡ true
   still-heard s log [] n t = t
-  still-heard s log (c ∷ cs) n t = still-heard (step s c) (entry s c ∷ log) cs n (or-true (heard_in key (entry s c) n) (heard key log n) t)
+  still-heard s log (c ∷ cs) n t = still-heard (step s c) (entry s c ∷ log) cs n (rw t (or-true (heard_in key (entry s c) n)))
 
   pub offered-heard : (s : State) (log : List Entry) (cs : List Call) (payload : List ℕ) → SectionOf key payload → OfferedIn cs payload
       → heard key (logged s log cs) (section_number payload) ≡ true
@@ -292,14 +290,17 @@ module _ (key : Key) (v l : ℕ) (f : ℕ → List ℕ) (h k : List Call)
   good : (h : List Call) → Good (after_all h)
   good h = (holds-all h).good
 
-  hands-out-too : (n : ℕ) (out : List ℕ) → copied_no (copy_after h key n out).said ≡ 0 → copy_after k key n out ≡ copy_after h key n out
+  hands-out-too : (n : ℕ) (out : List ℕ) → number_of (copy_after h key n out).said ≡ 0 → copy_after k key n out ≡ copy_after h key n out
   hands-out-too n out e = go (fed-all key v l f h first)
     where
-      refused : {m : ℕ} → copy_after h key n out ≡ copy (Copied.Refused m) out → (m ≡ 0 → ⊥) → copy_after k key n out ≡ copy_after h key n out
-      refused q ne = absurd (ne (sym (ap (λ c. copied_no c.said) q) ∙ e))
+      refused : {r : Refusal} → copy_after h key n out ≡ copy (Err r) out → copy_after k key n out ≡ copy_after h key n out
+      refused {r} q =
+          let b : 0 < number r = (in_byte r).0 in
+          let z : number r ≡ 0 = sym (ap (λ c. number_of c.said) q) ∙ e in
+          absurd (omega arith)
 
       go : Fed key v l f (after_all h) (log_of h) → copy_after k key n out ≡ copy_after h key n out
-      go (Fed.unheard q _) = refused (unheld-copied (after_all h) (good h) key q n out) (λ z. omega arith)
+      go (Fed.unheard q _) = refused (unheld-copied (after_all h) (good h) key q n out)
       go (Fed.held p kept) =
           by (ltb n sections)
           (λ a.
@@ -307,21 +308,21 @@ module _ (key : Key) (v l : ℕ) (f : ℕ → List ℕ) (h k : List Call)
           by (heard key (log_of h) n)
           (λ t.
           by (ltb (length out) (length (f n)))
-          (λ b. refused (kept-15 (after_all h) (good h) key kept n i t out (ltb-true _ _ b)) (λ z. omega arith))
+          (λ b. refused (kept-15 (after_all h) (good h) key kept n i t out (ltb-true _ _ b)))
           (λ b.
           kept-copied (after_all k) (good k) key (holds-too n t).1 n i (hears-too n t) out (ltb-false _ _ b)
           ∙ sym (kept-copied (after_all h) (good h) key kept n i t out (ltb-false _ _ b))))
-          (λ t. refused (kept-16 (after_all h) (good h) key kept n (kept.numbers n i ∙ t) out) (λ z. omega arith)))
+          (λ t. refused (kept-16 (after_all h) (good h) key kept n (kept.numbers n i ∙ t) out)))
           (λ a.
-          refused (kept-16 (after_all h) (good h) key kept n (above-16 (after_all h) (good h) key p n kept.taken (ltb-false _ _ a)) out) (λ z. omega arith))
+          refused (kept-16 (after_all h) (good h) key kept n (above-16 (after_all h) (good h) key p n kept.taken (ltb-false _ _ a)) out))
 
-  completes-too : whole_after h key ≡ Whole.Complete → whole_after k key ≡ Whole.Complete
+  completes-too : whole_after h key ≡ Ok true → whole_after k key ≡ Ok true
   completes-too e = go (fed-all key v l f h first)
     where
-      go : Fed key v l f (after_all h) (log_of h) → whole_after k key ≡ Whole.Complete
+      go : Fed key v l f (after_all h) (log_of h) → whole_after k key ≡ Ok true
       go (Fed.unheard q _) =
-          let w : Whole.Refused 14 ≡ Whole.Complete = sym (unheld-whole (after_all h) (good h) key q) ∙ e in
-          absurd (let z : ◌≡◌ {A = ℕ} 0 1 = cc in omega arith)
+          let w : ◌≡◌ {A = Result Bool Refusal} (Err TableNotHeld) (Ok true) = sym (unheld-whole (after_all h) (good h) key q) ∙ e in
+          cc
       go (Fed.held p kept) =
           let all : every (l + 1) (heard key (log_of h)) ≡ true = answered _ (sym (kept_whole (after_all h) (good h) key kept) ∙ e) in
           let each : (n : ℕ) → n < l + 1 → heard key (log_of h) n ≡ true = λ n i. every-each (heard key (log_of h)) (l + 1) n i all in

@@ -1,5 +1,5 @@
 -- What a release does. That the sixteen berths it names are zeros, and that a refused one changes nothing: release, proofs/Laws.
---   Refusal, Goes, goes   the cases of a release
+--   Reason, Goes, goes    the cases of a release
 --   release_length        the store keeps its length
 --   release-elsewhere     a berth that is not named stays as it was
 --   release-good          the shelf stays good
@@ -13,6 +13,9 @@ use native.Mathlib.Omega.{arith}
 use lib.Dec.{eqb}
 use lib.ListN.{length, length-replicate}
 use borrow.Author.Tests.{eqb-true, eqb-false}
+use Rattle.std.specs.Prelude.{Ok, Err}
+use Rattle.refusal.specs.declared.Refusal.{Refusal}
+use Rattle.refusal.specs.declared.Refusal.TheVariants.{TableNotHeld, StoreSize, ShelfSpoiled}
 use Rattle.base.proofs.Cases.{by, same_or, unlike}
 use Rattle.berth.specs.Berth.{sections, places, store_size, berth_size, wiped_where, standing}
 use Rattle.berth.proofs.Berths.{where-length, where-spared}
@@ -20,7 +23,6 @@ use Rattle.shelf.specs.Record.{free_place, place_at, with_place, has_key, spoile
 use Rattle.key.specs.Key.{same_key}
 use Rattle.key.specs.declared.Key.{Key}
 use Rattle.shelf_release.specs.Release.{After, release_of}
-use Rattle.shelf_release.specs.declared.Released.{Released}
 use Rattle.shelf_laws.specs.State.{State, release_from, after_release}
 use Rattle.shelf_laws.specs.Named.{release_names}
 use Rattle.shelf_laws.specs.Answers.{frees}
@@ -30,16 +32,16 @@ use Rattle.key.proofs.Keys.{key-itself}
 use Rattle.shelf_laws.proofs.Kept.{Good, Alike, alike-itself, alike-with, good-with}
 
 module _ (s : State) (key : Key) where
-  pub data Refusal : ℕ → Type 0 where
-    17-store : (length s.store ≡ store_size → ⊥) → Refusal 17
-    18-spoiled : spoiled_of s.shelf ≡ true → Refusal 18
-    14-unheld : place_of s.shelf key ≡ places → Refusal 14
+  pub data Reason : Refusal → Type 0 where
+    17-store : (length s.store ≡ store_size → ⊥) → Reason StoreSize
+    18-spoiled : spoiled_of s.shelf ≡ true → Reason ShelfSpoiled
+    14-unheld : place_of s.shelf key ≡ places → Reason TableNotHeld
 
   pub data Goes : After → Type 0 where
-    refuses : (n : ℕ) → Refusal n → Goes (record { said = Released.Refused n; shelf = s.shelf; store = s.store })
+    refuses : (r : Refusal) → Reason r → Goes (record { said = Err r; shelf = s.shelf; store = s.store })
     done : length s.store ≡ store_size → spoiled_of s.shelf ≡ false → place_of s.shelf key < places → Goes (
         record {
-          said = Released.Done;
+          said = Ok tt;
           shelf = with_place s.shelf (place_of s.shelf key) free_place;
           store = wiped_where (λ _. true) sections s.store (place_of s.shelf key);
         })
@@ -50,15 +52,15 @@ module _ (s : State) (key : Key) where
       by (eqb (length s.store) store_size)
       (λ t.
       by (spoiled_of s.shelf)
-      (λ u. rw (t, u) (refuses 18 (18-spoiled u)))
+      (λ u. rw (t, u) (refuses ShelfSpoiled (18-spoiled u)))
       (λ u.
       by (eqb (place_of s.shelf key) places)
-      (λ e. rw (t, u, e) (refuses 14 (14-unheld (eqb-true _ _ e))))
+      (λ e. rw (t, u, e) (refuses TableNotHeld (14-unheld (eqb-true _ _ e))))
       (λ e.
       let ne : place_of s.shelf key ≡ places → ⊥ = eqb-false _ _ e in
       let le : place_of s.shelf key ≤ places = placed s.shelf key in
       rw (t, u, e) (done (eqb-true _ _ t) u (omega arith)))))
-      (λ t. rw t (refuses 17 (17-store (eqb-false _ _ t))))
+      (λ t. rw t (refuses StoreSize (17-store (eqb-false _ _ t))))
 
   length-goes : {r : After} → Goes r → length r.store ≡ length s.store
   length-goes (Goes.refuses _ _) = refl

@@ -10,11 +10,15 @@ use native.Mathlib.Omega.{arith}
 use lib.Dec.{eqb}
 use lib.ListN.{length}
 use borrow.Author.Tests.{eq-eqb, ne_eqb, eqb-true}
+use Rattle.std.specs.Prelude.{Result, Ok, Err}
+use Rattle.refusal.specs.Refusal as refusal
+use Rattle.refusal.specs.declared.Refusal.{Refusal}
+use Rattle.refusal.specs.declared.Refusal.TheVariants.{NoFreePlace}
+use Rattle.refusal.proofs.Numbers.{once}
 use Rattle.base.specs.Bytes.{same}
 use Rattle.base.proofs.Cases.{by, same_or, unlike}
 use Rattle.base.proofs.Same.{same_refl, same-equal}
 use Rattle.section.specs.Section.{read_of, header_of, version, section_number, last_section_number}
-use Rattle.section.specs.declared.Reading.TheVariants.{Sound, Refused}
 use Rattle.section.proofs.Laws.{sound-facts}
 use Rattle.berth.specs.Berth.{sections, places, store_size, standing}
 use Rattle.shelf.specs.Record.{place_at, length_at, holds, place_of, free_of}
@@ -28,7 +32,7 @@ use Rattle.shelf_laws.specs.Log.{held_by, since, version_since, last_since, byte
 use Rattle.shelf_laws.specs.Offers.{Joins, NoPlace, Differs, Says}
 use Rattle.shelf_laws.specs.Laws.{OfferedExactly}
 use Rattle.shelf_laws.proofs.Kept.{Good, Kept}
-use Rattle.shelf_laws.proofs.Offering.{HeardOf, Refusal, Goes, goes}
+use Rattle.shelf_laws.proofs.Offering.{HeardOf, Reason, Goes, goes}
 use Rattle.shelf_laws.proofs.Histories.{logged_table, holds-all}
 use Rattle.shelf_laws.proofs.Held.{held_place, unheld-place, place-held, place-unheld}
 use Rattle.shelf_laws.proofs.Full.{none-full, full-none}
@@ -36,7 +40,7 @@ use Rattle.shelf_laws.proofs.Full.{none-full, full-none}
 unequal : (a b : List ℕ) → ¬ (a ≡ b) → same a b ≡ false
 unequal a b ne = by (same a b) (λ t. absurd (ne (same-equal a b t))) (λ t. t)
 
-module _ (h : List Call) (payload : List ℕ) (sound : read_of payload ≡ Sound (header_of payload)) where
+module _ (h : List Call) (payload : List ℕ) (sound : read_of payload ≡ Ok (header_of payload)) where
   abbrev s : State
   s = after_all h
 
@@ -81,18 +85,18 @@ module _ (h : List Call) (payload : List ℕ) (sound : read_of payload ≡ Sound
     joins : (place_at s.shelf p).version ≡ version payload → (place_at s.shelf p).last ≡ last_section_number payload → Joins key payload log
     joins v l = record { held = held; version = sym kept.version ∙ v; last = sym kept.last ∙ l }
 
-  says-refused : {n : ℕ} → Refusal s payload n → Says key payload log (Offered.Refused n)
-  says-refused (Refusal.17-store l) = absurd (l good.lent)
-  says-refused (Refusal.18-spoiled _ e) = absurd (unlike (sym e ∙ good.unspoiled))
-  says-refused (Refusal.unsound n _ _ e) = absurd (let z : ◌≡◌ {A = ℕ} 0 1 = cc in omega arith)
-  says-refused (Refusal.9-full _ e f) = (place-unheld h key e, none-full h f)
-  says-refused (Refusal.10-last p a v l) = (held p a, sym (kept p a).version ∙ v, inl (λ z. l ((kept p a).last ∙ z)))
-  says-refused (Refusal.10-differs p a v l n b) =
+  says-refused : {r : Refusal} → Reason s payload r → Says key payload log (Err r)
+  says-refused (Reason.17-store l) = absurd (l good.lent)
+  says-refused (Reason.18-spoiled _ e) = absurd (unlike (sym e ∙ good.unspoiled))
+  says-refused (Reason.unsound r _ _ e) = absurd cc
+  says-refused (Reason.9-full _ e f) = (place-unheld h key e, none-full h f)
+  says-refused (Reason.10-last p a v l) = (held p a, sym (kept p a).version ∙ v, inl (λ z. l ((kept p a).last ∙ z)))
+  says-refused (Reason.10-differs p a v l n b) =
       let t : since key log number ≡ true = sym (has-number p (kept p a)) ∙ n in
       (held p a, sym (kept p a).version ∙ v, inr (t, λ z. b (its-bytes p (kept p a) t ∙ z)))
 
   says : {r : After} → Goes s payload r → Says key payload log r.said
-  says (Goes.refuses n y) = says-refused y
+  says (Goes.refuses r y) = says-refused y
   says (Goes.began _ e f) = (place-unheld h key e, λ full. let z : free_of s.shelf ≡ places = full-none h full in omega arith)
   says (Goes.began_again p a v) = (held p a, λ z. v ((kept p a).version ∙ z))
   says (Goes.added p a v l n) = (joins p a v l, sym (has-number p (kept p a)) ∙ n)
@@ -126,59 +130,59 @@ module _ (h : List Call) (payload : List ℕ) (sound : read_of payload ≡ Sound
       same-last : eqb (place_at s.shelf here).last (last_section_number payload) ≡ true
       same-last = eq-eqb _ _ (is-kept.last ∙ l)
 
-      said-added : since key log number ≡ false → (offer_to s payload).said ≡ Offered.Added
+      said-added : since key log number ≡ false → (offer_to s payload).said ≡ Ok Offered.Added
       unfolding held_of
       said-added n = said-held t ∙ rw (same_version, same-last, has-number here is-kept ∙ n)
 
       module _ (n : since key log number ≡ true) where
-        said-repeat : bytes_since key log number ≡ payload → (offer_to s payload).said ≡ Offered.Repeat
+        said-repeat : bytes_since key log number ≡ payload → (offer_to s payload).said ≡ Ok Offered.Repeat
         unfolding held_of
         said-repeat b =
             said-held t
             ∙ rw (same_version, same-last, has-number here is-kept ∙ n, its-bytes here is-kept n, b, same_refl payload)
 
-        said-differs : ¬ (bytes_since key log number ≡ payload) → (offer_to s payload).said ≡ Offered.Refused 10
+        said-differs : ¬ (bytes_since key log number ≡ payload) → (offer_to s payload).said ≡ Err Refusal.Differs
         unfolding held_of
         said-differs b =
             said-held t
             ∙ rw (same_version, same-last, has-number here is-kept ∙ n, its-bytes here is-kept n, unequal _ _ b)
 
-    said-last : ¬ (last_since key log ≡ last_section_number payload) → (offer_to s payload).said ≡ Offered.Refused 10
+    said-last : ¬ (last_since key log ≡ last_section_number payload) → (offer_to s payload).said ≡ Err Refusal.Differs
     unfolding held_of
     said-last l = said-held t ∙ rw (same_version, ne_eqb _ _ (λ z. l (sym is-kept.last ∙ z)))
 
-    said-other : since key log number ≡ true → ¬ (bytes_since key log number ≡ payload) → (offer_to s payload).said ≡ Offered.Refused 10
+    said-other : since key log number ≡ true → ¬ (bytes_since key log number ≡ payload) → (offer_to s payload).said ≡ Err Refusal.Differs
     said-other n b = ⊎_elim (λ l. said-differs l n b) said-last (same_or (last_since key log) (last_section_number payload))
 
-  said-again : held_by key log ≡ true → ¬ (version_since key log ≡ version payload) → (offer_to s payload).said ≡ Offered.BeganAgain
+  said-again : held_by key log ≡ true → ¬ (version_since key log ≡ version payload) → (offer_to s payload).said ≡ Ok Offered.BeganAgain
   unfolding held_of
   said-again t v = said-held t ∙ rw (ne_eqb _ _ (λ z. v (sym (((holds-all h).table key).kept (held_place h key t)).version ∙ z)))
 
-  said-so : (a : Offered) → Says key payload log a → (offer_to s payload).said ≡ a
+  said-so : (a : Result Offered Refusal) → Says key payload log a → (offer_to s payload).said ≡ a
   unfolding new_of
-  said-so Offered.Began w =
+  said-so (Ok Offered.Began) w =
       said-new w.0 ∙ rw (ne_eqb (free_of s.shelf) places (λ e. w.1 (none-full h e)))
-  said-so Offered.BeganAgain w = said-again w.0 w.1
-  said-so Offered.Added w = said-added w.0.held w.0.version w.0.last w.1
-  said-so Offered.Repeat w = said-repeat w.0.held w.0.version w.0.last w.1 w.2
-  said-so (Offered.Refused n) w =
-      by (eqb n 9)
+  said-so (Ok Offered.BeganAgain) w = said-again w.0 w.1
+  said-so (Ok Offered.Added) w = said-added w.0.held w.0.version w.0.last w.1
+  said-so (Ok Offered.Repeat) w = said-repeat w.0.held w.0.version w.0.last w.1 w.2
+  said-so (Err r) w =
+      by (eqb (refusal.number r) 9)
       (λ e.
       let full : NoPlace key payload log = rw e at w in
-      said-new full.0 ∙ rw (full-none h full.1) (ap Offered.Refused (sym (eqb-true _ _ e))))
+      said-new full.0 ∙ rw (full-none h full.1) (ap Err (once NoFreePlace r (sym (eqb-true _ _ e)))))
       (λ e.
-      by (eqb n 10)
+      by (eqb (refusal.number r) 10)
       (λ f.
       let d : Differs key payload log = rw (e, f) at w in
-      ⊎_elim (said-last d.0 d.1) (λ x. said-other d.0 d.1 x.0 x.1) d.2 ∙ ap Offered.Refused (sym (eqb-true _ _ f)))
+      ⊎_elim (said-last d.0 d.1) (λ x. said-other d.0 d.1 x.0 x.1) d.2 ∙ ap Err (once Refusal.Differs r (sym (eqb-true _ _ f))))
       (λ f. absurd (rw (e, f) at w)))
 
-pub unsound-said : (h : List Call) (payload : List ℕ) (n : ℕ) → read_of payload ≡ Refused n → (offer_to (after_all h) payload).said ≡ Offered.Refused n
+pub unsound-said : (h : List Call) (payload : List ℕ) (r : Refusal) → read_of payload ≡ Err r → (offer_to (after_all h) payload).said ≡ Err r
 unfolding offer_of
-unsound-said h payload n e =
+unsound-said h payload r e =
     rw (eq-eqb (length (after_all h).store) store_size (holds-all h).good.lent, (holds-all h).good.unspoiled, e)
 
 pub offered-exactly : OfferedExactly
-offered-exactly h key payload of a =
+offered-exactly h _ payload of a =
     subst (λ k. ((offer_to (after_all h) payload).said ≡ a) ↔ Says k payload (log_of h) a) of.its_key
     (λ e. subst (Says (key_in payload) payload (log_of h)) e (says h payload of.sound (goes (after_all h) payload)), said-so h payload of.sound a)

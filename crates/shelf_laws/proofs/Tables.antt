@@ -2,33 +2,36 @@
 --   held-told, told-held      a held table is told by a place as the log tells it, and a place tells no other
 --   told-once                 no table is told twice
 --   load_told                 a load gives a place the table that the file's own question tells
-use Rattle.std.specs.Prelude.{if◌then◌else◌}
+use Rattle.std.specs.Prelude.{Result}
 use mathlib.Core.Path.{◌≡◌, refl, sym, ap, ◌∙◌}
-use mathlib.Core.Bool.{Bool, true, false, not}
-use mathlib.Core.List.{List, [], ◌∷◌}
-use mathlib.Core.Logic.{◌⊎◌, inl, inr}
+use mathlib.Core.Bool.{true, false, not}
+use mathlib.Core.List.{List, []}
+use mathlib.Core.Logic.{inl, inr}
 use Prim.Native.Nat.{ℕ, ◌<◌, ◌≤◌}
 use native.Mathlib.Omega.{arith}
 use lib.Dec.{eqb, ltb}
 use lib.ListN.{length, get_or-eq_default}
 use borrow.Author.Tests.{eqb-true, ltb-true, ltb-false}
+use Rattle.refusal.specs.declared.Refusal.{Refusal}
+use Rattle.refusal.specs.declared.Refusal.TheVariants.{TableNotHeld}
 use Rattle.base.proofs.Cases.{by, unlike}
 use Rattle.answers.specs.Answers.{told}
 use Rattle.tables.specs.Numbers.{table_numbers}
 use Rattle.berth.specs.Berth.{sections, places}
-use Rattle.shelf.specs.Record.{Place, place_at, length_at, holds, place_of, free_of}
+use Rattle.shelf.specs.Record.{Place, place_at, length_at, place_of, free_of}
 use Rattle.key.specs.declared.Key.{Key}
 use Rattle.shelf.proofs.Lists.{filled-all}
 use Rattle.shelf_ask.specs.Tables.{place_table}
 use Rattle.shelf_ask.proofs.Tables.{taken-14, taken-place, told-refused, told-table, place-by}
 use Rattle.shelf_load.specs.Load.{After, loaded_place}
-use Rattle.file.specs.declared.Scan.{Scan}
+use Rattle.file.specs.declared.Table.{Table}
 use Rattle.file.specs.Scan.{scan_of}
 use Rattle.file_table.specs.Answer.{file_told, told_by}
+use Rattle.shelf_laws.specs.File.{lengths_in}
 use Rattle.shelf_laws.specs.State.{State, load_on, after_load}
 use Rattle.shelf_laws.specs.Answers.{is_done}
 use Rattle.shelf_laws.specs.History.{Call, Entry, after_all, log_of}
-use Rattle.shelf_laws.specs.Log.{held_by, since, bytes_since}
+use Rattle.shelf_laws.specs.Log.{held_by, since}
 use Rattle.shelf_laws.specs.Tables.{length_since, numbers_by, tells_of, HeldTold, ToldHeld, ToldOnce, LoadTold}
 use Rattle.shelf_laws.proofs.Places.{has-key, its_key, is-taken, at_same, place-of}
 use Rattle.shelf_laws.proofs.Kept.{Good, Kept, kept-key}
@@ -42,7 +45,7 @@ module _ (s : State) (g : Good s) (p : ℕ) where
   tells-taken l t = told-table s.shelf (length s.store) p p (taken-place s.shelf (length s.store) p g.lent g.unspoiled l t)
 
   tells-free : (place_at s.shelf p).taken ≡ false → tells_of s p ≡ told 14 []
-  tells-free f = told-refused s.shelf (length s.store) p 14 (taken-14 s.shelf (length s.store) p g.lent g.unspoiled f)
+  tells-free f = told-refused s.shelf (length s.store) p TableNotHeld (taken-14 s.shelf (length s.store) p g.lent g.unspoiled f)
 
   -- there are four places
   taken-below : (place_at s.shelf p).taken ≡ true → p < places
@@ -130,21 +133,25 @@ told-once h p q e =
 
 -- a load that is done gives the lowest free place the file's table
 module _ (s : State) (g : Good s) (file : List ℕ) where
-  placed-goes : {scan : Scan} {r : After} → Goes s file scan r → is_done r.said ≡ true
+  placed-goes : {scan : Result Table Refusal} {r : After} → scan_of file ≡ scan → Goes s file scan r → is_done r.said ≡ true
       → ((place_at r.shelf (free_of s.shelf)).taken ≡ true)
-      × (told 0 (table_numbers (place_table (place_at r.shelf (free_of s.shelf)))) ≡ told_by (scan_of file).lengths scan)
+      × (told 0 (table_numbers (place_table (place_at r.shelf (free_of s.shelf)))) ≡ told_by scan)
       × (free_of s.shelf < places)
-  placed-goes (Goes.refuses _ _ _) e = absurd (unlike (sym e))
-  placed-goes (Goes.done h c l u q f) e =
-      let w = at_same s.shelf g.formed (free_of s.shelf) f (loaded_place h (scan_of file).lengths) in
-      (ap (λ (x : Place). x.taken) w, ap (λ (x : Place). told 0 (table_numbers (place_table x))) w, f)
+  placed-goes q (Goes.refuses _ _ _) e = absurd (unlike (sym e))
+  placed-goes q (Goes.done table c l u _ f) e =
+      let w = at_same s.shelf g.formed (free_of s.shelf) f (loaded_place table.header (lengths_in (scan_of file))) in (
+        ap (λ (x : Place). x.taken) w,
+        ap (λ (x : Place). told 0 (table_numbers (place_table x))) w
+            ∙ ap (λ scan. told 0 (table_numbers (place_table (loaded_place table.header (lengths_in scan))))) q,
+        f,
+      )
 
 pub load_told : LoadTold
 unfolding file_told
 load_told h file e =
     let s = after_all h in
     let g = (holds-all h).good in
-    let k = placed-goes s g file (goes s file) (ap is_done e) in (
+    let k = placed-goes s g file refl (goes s file) (ap is_done e) in (
       ap (λ t. t.number) (sym k.1),
       k.2,
       tells-taken (after_load (load_on s file)) (load-good s file g) (free_of s.shelf) k.2 k.0 ∙ k.1,

@@ -1,20 +1,15 @@
 -- Histories of calls on a shelf begun fresh, each call handed the record and the store that the last one left, and their logs:
 -- each call with its answer.
-use Rattle.std.specs.Prelude.{ℕ, List, [], ◌∷◌}
+use Rattle.std.specs.Prelude.{ℕ, List, [], ◌∷◌, Bool, Result, Option}
+use Rattle.refusal.specs.Refusal.{number_of}
+use Rattle.refusal.specs.declared.Refusal.{Refusal}
 use Rattle.base.specs.Bytes.{zeros}
 use Rattle.base.specs.Octets.{Octets}
 use Rattle.berth.specs.Berth.{store_size}
 use Rattle.shelf.specs.Record.{fresh}
 use Rattle.key.specs.declared.Key.{Key}
-use Rattle.shelf_offer.specs.Offer as Offer
 use Rattle.shelf_offer.specs.declared.Offered.{Offered}
-use Rattle.shelf_release.specs.Release as Release
-use Rattle.shelf_release.specs.declared.Released.{Released}
 use Rattle.shelf_ask.specs.Ask as Ask
-use Rattle.shelf_ask.specs.declared.Whole.{Whole}
-use Rattle.shelf_ask.specs.declared.Missing.{Missing}
-use Rattle.shelf_load.specs.Load as Load
-use Rattle.shelf_load.specs.declared.Loaded.{Loaded}
 use Rattle.shelf_save.specs.Save as Save
 use Rattle.shelf_laws.specs.State.{State, offer_to, load_on, release_from, copy_out, whole_in, missing_in, save_out, after_offer, after_load, after_release}
 
@@ -39,15 +34,15 @@ pub data Call : Type 0 where
 
 pub data Reply : Type 0 where
   copied : Ask.Copy → Reply
-  wholly : Whole → Reply
-  lacking : Missing → Reply
+  wholly : Result Bool Refusal → Reply
+  lacking : Result (Option ℕ) Refusal → Reply
   saved : Save.Save → Reply
 
 -- a call with its answer
 pub data Entry : Type 0 where
-  offered : List ℕ → Offered → Entry
-  loaded : List ℕ → Loaded → Entry
-  released : Key → Released → Entry
+  offered : List ℕ → Result Offered Refusal → Entry
+  loaded : List ℕ → Result (Unit {0}) Refusal → Entry
+  released : Key → Result (Unit {0}) Refusal → Entry
   asked : Question → Reply → Entry
 
 abbrev pub reply : State → Question → Reply
@@ -96,20 +91,20 @@ reply_after h = reply (after_all h)
 abbrev pub copy_after : List Call → Key → ℕ → List ℕ → Ask.Copy
 copy_after h = copy_out (after_all h)
 
-abbrev pub whole_after : List Call → Key → Whole
+abbrev pub whole_after : List Call → Key → Result Bool Refusal
 whole_after h = whole_in (after_all h)
 
 -- the paper's number of an entry's answer; 0 for none
 abbrev pub reply_no : Reply → ℕ
-reply_no (copied said) = Ask.copied_no said.said
-reply_no (wholly said) = Ask.whole_no said
-reply_no (lacking said) = Ask.missing_no said
-reply_no (saved said) = Save.number_of said.said
+reply_no (copied said) = number_of said.said
+reply_no (wholly said) = number_of said
+reply_no (lacking said) = number_of said
+reply_no (saved said) = number_of said.said
 
 abbrev pub number_in : Entry → ℕ
-number_in (offered payload said) = Offer.number_of said
-number_in (loaded file said) = Load.number_of said
-number_in (released key said) = Release.number_of said
+number_in (offered payload said) = number_of said
+number_in (loaded file said) = number_of said
+number_in (released key said) = number_of said
 number_in (asked question said) = reply_no said
 
 -- payloads and files are of bytes

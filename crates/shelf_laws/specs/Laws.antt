@@ -1,16 +1,15 @@
 -- The words of the laws that other pages cite; each is proved in the file of proofs/ that is named beside it.
-use Rattle.std.specs.Prelude.{ℕ, ◌<◌, ◌≤◌, ◌≡◌, Bool, true, false, ◌↔◌, List, [], ◌++◌, length, drop, if◌then◌else◌}
+use Rattle.std.specs.Prelude.{ℕ, ◌<◌, ◌≤◌, ◌≡◌, Bool, true, false, ◌↔◌, List, [], ◌++◌, length, drop, if◌then◌else◌, Result, Ok, Err}
+use Rattle.refusal.specs.Refusal.{number_of}
+use Rattle.refusal.specs.declared.Refusal.{Refusal}
+use Rattle.refusal.specs.declared.Refusal.TheVariants.{TableNotHeld}
 use Rattle.section.specs.Section.{section_number}
 use Rattle.berth.specs.Berth.{sections, store_size, berth_size, standing}
 use Rattle.shelf.specs.Record.{fresh}
 use Rattle.key.specs.declared.Key.{Key}
 use Rattle.shelf_offer.specs.declared.Offered.{Offered}
-use Rattle.shelf_release.specs.declared.Released.{Released}
 use Rattle.file.specs.Scan.{scan_of}
-use Rattle.shelf_load.specs.declared.Loaded.{Loaded}
-use Rattle.shelf_ask.specs.Ask.{copy, copied_no}
-use Rattle.shelf_ask.specs.declared.Copied.{Copied}
-use Rattle.shelf_ask.specs.declared.Whole.{Whole}
+use Rattle.shelf_ask.specs.Ask.{copy}
 use Rattle.shelf_laws.specs.State.{State, Formed, offer_to, load_on, release_from, copy_out, after_offer, after_load}
 use Rattle.shelf_laws.specs.Named.{key_in, offer_names, load_names, release_names}
 use Rattle.shelf_laws.specs.Answers.{accepted}
@@ -28,21 +27,21 @@ HeldExactly = (h : List Call) (q : Question) → (reply_no (reply_after h q) ≡
 -- and then a release is done, which else is refused 14 (Held)
 abbrev pub ReleasedExactly : Type 0
 ReleasedExactly =
-    (h : List Call) (key : Key) → (release_from (after_all h) key).said ≡ (if held_by key (log_of h) then Released.Done else Released.Refused 14)
+    (h : List Call) (key : Key) → (release_from (after_all h) key).said ≡ (if held_by key (log_of h) then Ok tt else Err TableNotHeld)
 
 -- a held table is called complete exactly when every section from 0 to its last was accepted or loaded since it last began (Complete)
 abbrev pub CompleteExactly : Type 0
 CompleteExactly =
     (h : List Call) (key : Key)
     → held_by key (log_of h) ≡ true
-    → (whole_after h key ≡ Whole.Complete) ↔ ((n : ℕ) → n ≤ last_since key (log_of h) → since key (log_of h) n ≡ true)
+    → (whole_after h key ≡ Ok true) ↔ ((n : ℕ) → n ≤ last_since key (log_of h) → since key (log_of h) n ≡ true)
 
 -- a sound section of a table is answered so exactly when the log says it (Says)
 abbrev pub OfferedExactly : Type 0
 OfferedExactly =
     (h : List Call) (key : Key) (payload : List ℕ)
     → SectionOf key payload
-    → (a : Offered)
+    → (a : Result Offered Refusal)
     → ((offer_to (after_all h) payload).said ≡ a) ↔ Says key payload (log_of h) a
 
 -- every question is answered what the log says (Questions)
@@ -52,7 +51,7 @@ AskedExactly = (h : List Call) (q : Question) → reply_after h q ≡ reply_by (
 -- a load is answered so exactly when the file and the log say it (Loads)
 abbrev pub LoadedExactly : Type 0
 LoadedExactly =
-    (h : List Call) (file : List ℕ) (a : Loaded) → ((load_on (after_all h) file).said ≡ a) ↔ FileSays (scan_of file).answer (log_of h) a
+    (h : List Call) (file : List ℕ) (a : Result (Unit {0}) Refusal) → ((load_on (after_all h) file).said ≡ a) ↔ FileSays (scan_of file) (log_of h) a
 
 -- of two histories that leave a table undisturbed, if the second offers every sound section of it that the first does, then it hands out
 -- each section that the first does, with the same bytes, and calls the table complete if the first does (Reception)
@@ -62,8 +61,8 @@ MoreReception =
     → Each (Undisturbed key version last bytes) (log_of first)
     → Each (Undisturbed key version last bytes) (log_of second)
     → ((payload : List ℕ) → SectionOf key payload → OfferedIn first payload → OfferedIn second payload)
-    → ((n : ℕ) (out : List ℕ) → copied_no (copy_after first key n out).said ≡ 0 → copy_after second key n out ≡ copy_after first key n out)
-    × (whole_after first key ≡ Whole.Complete → whole_after second key ≡ Whole.Complete)
+    → ((n : ℕ) (out : List ℕ) → number_of (copy_after first key n out).said ≡ 0 → copy_after second key n out ≡ copy_after first key n out)
+    × (whole_after first key ≡ Ok true → whole_after second key ≡ Ok true)
 
 -- from a fresh shelf with any store of its size, no call of any history is answered 17 or 18 (Never)
 abbrev pub Never17Nor18 : Type 0
@@ -84,7 +83,7 @@ HandedOut =
     → (out : List ℕ)
     → length payload ≤ length out
     → copy_out (after_offer (offer_to s payload)) (key_in payload) (section_number payload) out
-    ≡ copy (Copied.Bytes (length payload)) (payload ++ drop (length payload) out)
+    ≡ copy (Ok (length payload)) (payload ++ drop (length payload) out)
 
 -- a call changes only the berths that document 01 names: of any other the first bytes, be they as many as they may, stay (OnlyNamed,
 -- Loaded, Released)
@@ -103,10 +102,10 @@ ReleaseElsewhere = (s : State) (key : Key) → Stays s (release_from s key).stor
 
 -- a refused call changes nothing, and neither does a repeat (Offered, Loaded)
 abbrev pub OfferRefused : Type 0
-OfferRefused = (s : State) (payload : List ℕ) (n : ℕ) → (offer_to s payload).said ≡ Offered.Refused n → after_offer (offer_to s payload) ≡ s
+OfferRefused = (s : State) (payload : List ℕ) (r : Refusal) → (offer_to s payload).said ≡ Err r → after_offer (offer_to s payload) ≡ s
 
 abbrev pub OfferRepeat : Type 0
-OfferRepeat = (s : State) (payload : List ℕ) → (offer_to s payload).said ≡ Offered.Repeat → after_offer (offer_to s payload) ≡ s
+OfferRepeat = (s : State) (payload : List ℕ) → (offer_to s payload).said ≡ Ok Offered.Repeat → after_offer (offer_to s payload) ≡ s
 
 abbrev pub LoadRefused : Type 0
-LoadRefused = (s : State) (file : List ℕ) (n : ℕ) → (load_on s file).said ≡ Loaded.Refused n → after_load (load_on s file) ≡ s
+LoadRefused = (s : State) (file : List ℕ) (r : Refusal) → (load_on s file).said ≡ Err r → after_load (load_on s file) ≡ s

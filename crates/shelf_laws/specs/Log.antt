@@ -1,44 +1,45 @@
 -- What a log says of the table with a key, by the calls and their answers alone. A log has its latest entry first.
-use Rattle.std.specs.Prelude.{ℕ, ◌<◌, ◌≡◌, List, [], ◌∷◌, Bool, true, false, ◌&&◌, ◌||◌, eqb, if◌then◌else◌}
+use Rattle.std.specs.Prelude.{ℕ, ◌<◌, ◌≡◌, List, [], ◌∷◌, Bool, true, false, ◌&&◌, ◌||◌, eqb, if◌then◌else◌, Result, Ok, Err}
+use Rattle.refusal.specs.declared.Refusal.{Refusal}
 use Rattle.section.specs.Section.{version, section_number, last_section_number}
 use Rattle.berth.specs.Berth.{places}
 use Rattle.key.specs.Key.{same_key}
 use Rattle.key.specs.declared.Key.{Key}
 use Rattle.shelf.specs.Record.{key_of}
 use Rattle.file.specs.Scan.{scan_of}
-use Rattle.file.specs.declared.Scan.{Scan}
+use Rattle.file.specs.declared.Table.{Table}
 use Rattle.shelf_laws.specs.File.{carries, section_in}
 use Rattle.shelf_laws.specs.Named.{key_in}
 use Rattle.shelf_laws.specs.Answers.{begins, accepted, is_done, frees}
 use Rattle.shelf_laws.specs.History.{Entry, offered, loaded, released, asked}
 
 -- the table of a scan: whether it has that key, its version, its last number
-abbrev pub table_has : Key → Scan → Bool
-table_has key (Scan.Table h) = same_key (key_of h) key
-table_has key (Scan.Refused n) = false
+abbrev pub table_has : Key → Result Table Refusal → Bool
+table_has key (Ok t) = same_key (key_of t.header) key
+table_has key (Err r) = false
 
-abbrev pub table_version : Scan → ℕ
-table_version (Scan.Table h) = h.version
-table_version (Scan.Refused n) = 0
+abbrev pub table_version : Result Table Refusal → ℕ
+table_version (Ok t) = t.header.version
+table_version (Err r) = 0
 
-abbrev pub table_last : Scan → ℕ
-table_last (Scan.Table h) = h.last
-table_last (Scan.Refused n) = 0
+abbrev pub table_last : Result Table Refusal → ℕ
+table_last (Ok t) = t.header.last
+table_last (Err r) = 0
 
 -- the file's table is the one with that key
 abbrev pub loads : Key → List ℕ → Bool
-loads key file = table_has key (scan_of file).answer
+loads key file = table_has key (scan_of file)
 
 -- the version in an entry, the last number, and the bytes of section n
 abbrev pub version_of : Entry → ℕ
 version_of (offered payload said) = version payload
-version_of (loaded file said) = table_version (scan_of file).answer
+version_of (loaded file said) = table_version (scan_of file)
 version_of (released k said) = 0
 version_of (asked question said) = 0
 
 abbrev pub last_of : Entry → ℕ
 last_of (offered payload said) = last_section_number payload
-last_of (loaded file said) = table_last (scan_of file).answer
+last_of (loaded file said) = table_last (scan_of file)
 last_of (released k said) = 0
 last_of (asked question said) = 0
 

@@ -1,7 +1,9 @@
 -- Document 01, "Offering a sound section", by the log alone: what a log says of a table and a sound section of it exactly when the
 -- section is answered so.
+use Rattle.refusal.specs.Refusal.{number}
+use Rattle.refusal.specs.declared.Refusal.{Refusal}
 use Rattle.base.specs.Choice.{If◌then◌else◌}
-use Rattle.std.specs.Prelude.{ℕ, ◌≡◌, true, false, ◌⊎◌, List, eqb}
+use Rattle.std.specs.Prelude.{ℕ, ◌≡◌, true, false, ◌⊎◌, List, eqb, Result, Ok, Err}
 use Rattle.section.specs.Section.{version, section_number, last_section_number}
 use Rattle.key.specs.declared.Key.{Key}
 use Rattle.shelf_offer.specs.declared.Offered.{Offered}
@@ -27,9 +29,9 @@ module _ (key : Key) (payload : List ℕ) (log : List Entry) where
       × (¬ (last_since key log ≡ last_section_number payload)
       ⊎ ((since key log (section_number payload) ≡ true) × ¬ (bytes_since key log (section_number payload) ≡ payload)))
 
-  abbrev pub Says : Offered → Type 0
-  Says Offered.Began = (held_by key log ≡ false) × ¬ (Full log)
-  Says Offered.BeganAgain = (held_by key log ≡ true) × ¬ (version_since key log ≡ version payload)
-  Says Offered.Added = Joins × (since key log (section_number payload) ≡ false)
-  Says Offered.Repeat = Joins × (since key log (section_number payload) ≡ true) × (bytes_since key log (section_number payload) ≡ payload)
-  Says (Offered.Refused n) = If eqb n 9 then NoPlace else (If eqb n 10 then Differs else ⊥)
+  abbrev pub Says : Result Offered Refusal → Type 0
+  Says (Ok Offered.Began) = (held_by key log ≡ false) × ¬ (Full log)
+  Says (Ok Offered.BeganAgain) = (held_by key log ≡ true) × ¬ (version_since key log ≡ version payload)
+  Says (Ok Offered.Added) = Joins × (since key log (section_number payload) ≡ false)
+  Says (Ok Offered.Repeat) = Joins × (since key log (section_number payload) ≡ true) × (bytes_since key log (section_number payload) ≡ payload)
+  Says (Err r) = If eqb (number r) 9 then NoPlace else (If eqb (number r) 10 then Differs else ⊥)

@@ -1,5 +1,6 @@
 -- A shelf's record with the store that is lent with it, the calls on the two, and what each call leaves.
-use Rattle.std.specs.Prelude.{ℕ, ◌<◌, List, ◌≡◌, length}
+use Rattle.std.specs.Prelude.{ℕ, ◌<◌, List, ◌≡◌, Bool, length, Result, Option}
+use Rattle.refusal.specs.declared.Refusal.{Refusal}
 use Rattle.berth.specs.Berth.{places, sections}
 use Rattle.shelf.specs.Record.{place_at}
 use Rattle.key.specs.declared.Key.{Key}
@@ -7,8 +8,6 @@ use Rattle.shelf.specs.Record.{Shelf}
 use Rattle.shelf_offer.specs.Offer as Offer
 use Rattle.shelf_release.specs.Release as Release
 use Rattle.shelf_ask.specs.Ask as Ask
-use Rattle.shelf_ask.specs.declared.Whole.{Whole}
-use Rattle.shelf_ask.specs.declared.Missing.{Missing}
 use Rattle.shelf_load.specs.Load as Load
 use Rattle.shelf_save.specs.Save as Save
 
@@ -34,10 +33,10 @@ module _ (s : State) where
   abbrev pub copy_out : Key → ℕ → List ℕ → Ask.Copy
   copy_out key n out = Ask.copy_of s.shelf s.store key n out
 
-  abbrev pub whole_in : Key → Whole
+  abbrev pub whole_in : Key → Result Bool Refusal
   whole_in key = Ask.whole_of s.shelf s.store key
 
-  abbrev pub missing_in : Key → Missing
+  abbrev pub missing_in : Key → Result (Option ℕ) Refusal
   missing_in key = Ask.missing_of s.shelf s.store key
 
   abbrev pub save_out : Key → List ℕ → Save.Save

@@ -1,12 +1,11 @@
 -- Which tables are held after a history, by the log alone, and which table a load brings; the theorems are in proofs/Tables.
-use Rattle.std.specs.Prelude.{ℕ, ◌/◌, ◌%◌, ◌<◌, ◌≡◌, true, List, [], ◌∷◌, ◌⊎◌, length, if◌then◌else◌}
+use Rattle.std.specs.Prelude.{ℕ, ◌/◌, ◌%◌, ◌<◌, ◌≡◌, true, List, [], ◌∷◌, ◌⊎◌, length, if◌then◌else◌, Ok}
 use Rattle.answers.specs.Answers.{Told, told}
 use Rattle.berth.specs.Berth.{sections, places}
 use Rattle.key.specs.declared.Key.{Key}
 use Rattle.shelf.specs.Record.{free_of}
 use Rattle.shelf.specs.Layout.{listed}
 use Rattle.shelf_ask.specs.Tables.{table_told}
-use Rattle.shelf_load.specs.declared.Loaded.{Loaded}
 use Rattle.file_table.specs.Answer.{file_told}
 use Rattle.shelf_laws.specs.State.{State, load_on, after_load}
 use Rattle.shelf_laws.specs.History.{Call, Entry, after_all, log_of}
@@ -57,7 +56,7 @@ ToldOnce =
 abbrev pub LoadTold : Type 0
 LoadTold =
     (h : List Call) (file : List ℕ)
-    → (load_on (after_all h) file).said ≡ Loaded.Done
+    → (load_on (after_all h) file).said ≡ Ok tt
     → ((file_told file).number ≡ 0)
     × (free_of (after_all h).shelf < places)
     × (tells_of (after_load (load_on (after_all h) file)) (free_of (after_all h).shelf) ≡ file_told file)
