@@ -27,7 +27,8 @@ use Rattle.clock_keep.specs.Keep.{moved, forgotten, kept_of}
 use Rattle.clock.specs.declared.Clock.{Clock}
 use Rattle.clock.specs.declared.Heard.{Heard}
 use Rattle.clock_record.specs.Book.{Book, Same, fresh, spoiled}
-use Rattle.clock.specs.Record.{book_of, clock_of, left_by}
+use Rattle.clock.specs.Record.{book_of, clock_of, offer_to, move_to}
+use Rattle.clock.specs.declared.Handed.{Handed}
 use Rattle.clock.specs.Offer.{faults, refused, applies, waits, offer_in}
 use Rattle.clock.specs.Move.{move_in}
 use Rattle.clock.specs.Ask.{time_in, state_in}
@@ -199,15 +200,11 @@ module _ (b c : Book) (s : Same b c) where
 
 -- two answers that satisfy one promise are equal
 module _ (c : Clock) where
-  pub one-offer : (a : Activation) (r s : Result Heard Refusal) (x y : Clock)
-      → r ≡ (offer_in (book_of c) a).answer → x ≡ left_by c (offer_in (book_of c) a)
-      → s ≡ (offer_in (book_of c) a).answer → y ≡ left_by c (offer_in (book_of c) a) → (r ≡ s) × (x ≡ y)
-  one-offer a r s x y p f q g = (p ∙ sym q, f ∙ sym g)
+  pub one-offer : (a : Activation) (r s : Handed Heard) → r ≡ offer_to c a → s ≡ offer_to c a → r ≡ s
+  one-offer a r s p q = p ∙ sym q
 
-  pub one-move : (to : ℕ) (r s : Result ℕ Refusal) (x y : Clock)
-      → r ≡ (move_in (book_of c) to).answer → x ≡ left_by c (move_in (book_of c) to)
-      → s ≡ (move_in (book_of c) to).answer → y ≡ left_by c (move_in (book_of c) to) → (r ≡ s) × (x ≡ y)
-  one-move to r s x y p f q g = (p ∙ sym q, f ∙ sym g)
+  pub one-move : (to : ℕ) (r s : Handed ℕ) → r ≡ move_to c to → s ≡ move_to c to → r ≡ s
+  one-move to r s p q = p ∙ sym q
 
   pub one_time : (r s : Result ℕ Refusal) → r ≡ time_in (book_of c) → s ≡ time_in (book_of c) → r ≡ s
   one_time r s p q = p ∙ sym q

@@ -1,6 +1,6 @@
 -- What the records that are left say.
---   offer-says, move-says   an offer and a move, refused or not, leave a record that says what they leave
---   offer-long, move-long   and that is 67 words, where the one that was lent is
+--   offer-says, move-says   an offer and a move, refused or not, hand back a record that says what they leave
+--   offer-long, move-long   and that is 67 words, where the one that was given is
 use Rattle.std.specs.Prelude.{Ok}
 use mathlib.Core.Path.{◌≡◌, refl, ap, ◌∙◌}
 use mathlib.Core.Bool.{Bool, true, false, not}
@@ -28,7 +28,7 @@ use Rattle.clock.specs.declared.Heard.{Heard}
 use Rattle.clock.specs.Answered.{Answered}
 use Rattle.clock.specs.Offer.{more, applies, waits, offer_in}
 use Rattle.clock.specs.Move.{advanced, move_in}
-use Rattle.clock.specs.Record.{book_of, left_by}
+use Rattle.clock.specs.Record.{book_of, left_by, offer_to, move_to}
 use Rattle.clock_laws.specs.Says.{OfferSays, MoveSays}
 use Rattle.clock_laws.proofs.Cases.{Accepts, offer-cases, move-cases}
 use Rattle.clock_laws.proofs.Few.{kept-few}
@@ -74,6 +74,7 @@ module _ (c : Clock) (a : Activation) where
       )
 
   pub offer-says : Narrow a → OfferSays c a
+  unfolding offer_to
   offer-says f =
       offer-cases (book_of c) a SaysSo (λ n. refl)
       (λ y h.
@@ -102,6 +103,7 @@ module _ (c : Clock) (to : ℕ) where
   MovedSo r = record { answer = r.answer; book = book_of (left_by c r) } ≡ r
 
   pub move-says : MoveSays c to
+  unfolding move_to
   move-says =
       move-cases (book_of c) to MovedSo (λ n. refl)
       (λ s h.

@@ -1,13 +1,13 @@
--- What the records that are left say: the layer's calls are `offer_in` and `move_in` of what the records say.
+-- What the records that are handed back say: the layer's calls are `offer_in` and `move_in` of what the records say.
 use Rattle.std.specs.Prelude.{ℕ, ◌≡◌}
 use Rattle.clock_activation.specs.declared.Activation.{Activation}
 use Rattle.clock.specs.declared.Clock.{Clock}
 use Rattle.clock.specs.Offer.{offer_in}
 use Rattle.clock.specs.Move.{move_in}
-use Rattle.clock.specs.Record.{book_of, left_by}
+use Rattle.clock.specs.Record.{book_of, offer_to, move_to}
 
 abbrev pub OfferSays : Clock → Activation → Type 0
-OfferSays c a = record { answer = (offer_in (book_of c) a).answer; book = book_of (left_by c (offer_in (book_of c) a)) } ≡ offer_in (book_of c) a
+OfferSays c a = record { answer = (offer_to c a).answer; book = book_of (offer_to c a).clock } ≡ offer_in (book_of c) a
 
 abbrev pub MoveSays : Clock → ℕ → Type 0
-MoveSays c to = record { answer = (move_in (book_of c) to).answer; book = book_of (left_by c (move_in (book_of c) to)) } ≡ move_in (book_of c) to
+MoveSays c to = record { answer = (move_to c to).answer; book = book_of (move_to c to).clock } ≡ move_in (book_of c) to
