@@ -3,15 +3,13 @@
 #![tactic(auto)]
 
 ghost use Rattle.std.specs.Prelude.{◌≡◌, ◌+◌, ◌≤◌, length, Ok};
-ghost use Rattle.base.specs.Bytes.{word, same};
+ghost use Rattle.base.specs.Bytes.{word};
 ghost use Rattle.trigger_faults.specs.Parts.{head_fault, target_fault, placed_in, Sound};
 ghost use Rattle.trigger.specs.Belongs.{belongs_of};
 ghost use Rattle.trigger.specs.Trigger.{description_of, id_of, module_of, target_of, trigger_of, read_of};
 
 use refusal::Refusal;
-use trigger_faults::{
-    ABSOLUTE_URI, HTTP_URI, LENGTH, LID_URI, MODULE, NAME_AT, Placed, TAP, TARGET_HEAD, word_at,
-};
+use trigger_faults::{Kind, LENGTH, NAME_AT, Placed, TARGET_HEAD, word_at};
 
 // Where an application id begins, behind its description.
 const ID_AT: usize = 5;
@@ -115,12 +113,12 @@ fn target_of(payload: &[u8], at: usize) -> Target
         return Target::None;
     }
     let bytes = Extent { place, length };
-    match kind {
-        MODULE => Target::Module(module_at(payload, place)),
-        TAP => Target::Tap(word_at(payload, place)),
-        ABSOLUTE_URI => Target::AbsoluteUri(bytes),
-        LID_URI => Target::LidUri(bytes),
-        HTTP_URI => Target::HttpUri(bytes),
+    match Kind::from(kind) {
+        Kind::Module => Target::Module(module_at(payload, place)),
+        Kind::Tap => Target::Tap(word_at(payload, place)),
+        Kind::AbsoluteUri => Target::AbsoluteUri(bytes),
+        Kind::LidUri => Target::LidUri(bytes),
+        Kind::HttpUri => Target::HttpUri(bytes),
         _ => Target::Reserved(Reserved { kind, bytes }),
     }
 }
@@ -154,23 +152,6 @@ pub fn read_trigger(payload: &[u8]) -> Result<Trigger, Refusal>
     Ok(trigger_of(payload, placed))
 }
 
-// Whether two runs of bytes are the same. All are looked at: a loop without an exit is one of wide steps.
-fn is_same(found: &[u8], id: &[u8]) -> bool
-    ensures { result ≡ same found.now id.now }
-{
-    let count = found.len();
-    if count != id.len() {
-        return false;
-    }
-    let mut equal = true;
-    let mut i = 0;
-    while i < count {
-        equal = equal & (found[i] == id[i]);
-        i += 1;
-    }
-    equal
-}
-
 // Whether a trigger that was read from a payload belongs to the application with an id. Any trigger may be handed in with
 // any payload: one that names an application by bytes that do not lie in the payload belongs to none.
 pub fn belongs(payload: &[u8], trigger: Trigger, application: &[u8]) -> bool
@@ -180,9 +161,8 @@ pub fn belongs(payload: &[u8], trigger: Trigger, application: &[u8]) -> bool
     if idlength == 0 {
         return true;
     }
-    let id = trigger.id;
-    let place = id.place;
-    let count = id.length;
+    let place = trigger.id.place;
+    let count = trigger.id.length;
     let size = payload.len();
     if size < place {
         return false;
@@ -191,5 +171,5 @@ pub fn belongs(payload: &[u8], trigger: Trigger, application: &[u8]) -> bool
         return false;
     }
     let end = place + count;
-    is_same(&payload[place..end], application)
+    &payload[place..end] == application
 }

@@ -1,6 +1,5 @@
 -- The laws of reading a trigger into a lent buffer (`specs/Lent.antt` has the words).
 --   read_untouched, read_accepted, read_comes_back, by_its_numbers
---   aim-numbers                          a target's five numbers, in the code's struct
 --   lent-refused, lent-short, lent-put   each way out of a call
 --   read-few, read-early, read-ends      whether numbers can be a payload's; read-long: they are eleven
 --   belongs-not, belongs-by              both of the question whom a trigger is for
@@ -27,20 +26,19 @@ use Rattle.trigger.specs.Belongs.{belongs_of}
 use Rattle.trigger.specs.Answer.{target_numbers, numbers_of, trigger_told, trigger_back}
 use Rattle.trigger.proofs.Answers.{numbers_back}
 use Rattle.trigger.proofs.Places.{all_placed}
-use Rattle.trigger_answers.specs.Aim.{aim_of}
 use Rattle.trigger_answers.specs.Lent.{trigger_lent, can_be_read_by, belongs_lent, ReadUntouched, ReadAccepted, ReadComesBack, ByItsNumbers}
 
-pub aim-numbers : (t : Target) → target_numbers t ≡ (aim_of t).kind ∷ (aim_of t).of ∷ (aim_of t).first ∷ (aim_of t).second ∷ (aim_of t).third ∷ []
-aim-numbers Target.None = refl
-aim-numbers (Target.Module m) = refl
-aim-numbers (Target.Tap n) = refl
-aim-numbers (Target.AbsoluteUri e) = refl
-aim-numbers (Target.LidUri e) = refl
-aim-numbers (Target.HttpUri e) = refl
-aim-numbers (Target.Reserved r) = refl
+five : (t : Target) → length (target_numbers t) ≡ 5
+five Target.None = refl
+five (Target.Module m) = refl
+five (Target.Tap n) = refl
+five (Target.AbsoluteUri e) = refl
+five (Target.LidUri e) = refl
+five (Target.HttpUri e) = refl
+five (Target.Reserved r) = refl
 
 pub eleven : (t : Trigger) → length (numbers_of t) ≡ 11
-eleven t = rw (aim-numbers t.target)
+eleven t = let n = five t.target in omega (arith, n, length-append (target_numbers t.target) (t.user.place ∷ t.user.length ∷ []))
 
 module _ (s fields : List ℕ) where
   module _ (r : Refusal) (e : read_of s ≡ Err r) where

@@ -13,7 +13,7 @@ use Rattle.trigger.specs.Trigger.{read_of}
 use Rattle.trigger.specs.Places.{TargetLies}
 use Rattle.trigger.proofs.Places.{all_placed}
 use Rattle.trigger.proofs.Clean.{reads-clean}
-use Rattle.trigger_answers.specs.Aim.{NarrowTarget, NarrowTrigger}
+use Rattle.trigger_answers.specs.Narrow.{NarrowTarget, NarrowTrigger}
 
 narrow-target : (from to : ℕ) (t : Target) → to ≤ 4096 → TargetLies from to t → NarrowTarget t
 narrow-target from to Target.None h l = tt

@@ -1,14 +1,16 @@
 // The reading of a trigger in numbers, as a host gets them.
 #![tactic(auto)]
 
-ghost use Rattle.std.specs.Prelude.{◌≡◌, ◌++◌, ◌≤◌, ◌<◌, length, drop};
+ghost use Rattle.std.specs.Prelude.{◌≡◌, [], ◌∷◌};
 ghost use Rattle.answers.specs.Answers.{out as out_of};
-ghost use Rattle.trigger.specs.Answer.{numbers_of};
-ghost use Rattle.trigger_answers.specs.Aim.{aim_of, Narrow, NarrowTarget, NarrowTrigger};
+ghost use Rattle.trigger_faults.specs.Kinds.{type_of};
+ghost use Rattle.trigger.specs.Answer.{target_numbers, numbers_of};
+ghost use Rattle.trigger_answers.specs.Narrow.{Narrow, NarrowTarget, NarrowTrigger};
 ghost use Rattle.trigger_answers.specs.Lent.{trigger_lent, can_be_read_by, belongs_lent};
 
 use refusal::Refusal;
 use trigger::{Extent, Target, Trigger};
+use trigger_faults::Kind;
 
 // How many numbers a trigger is answered in.
 const NUMBERS: usize = 11;
@@ -27,104 +29,55 @@ const USER_BYTES: usize = 10;
 // The bytes of a trigger before its id.
 const BEFORE_ID: usize = 3;
 
-// Kinds of target. Those below the last are also the types that A/93 gives them.
-const NONE: u16 = 0;
-
-const MODULE: u16 = 1;
-
-const TAP: u16 = 2;
-
-const ABSOLUTE_URI: u16 = 3;
-
-const LID_URI: u16 = 4;
-
-const HTTP_URI: u16 = 5;
-
-const RESERVED: u16 = 6;
-
-// A target in numbers: its kind, its type, and up to three numbers of it.
-#[derive(Drop)]
-struct Aim {
-    kind: u16,
-    of: u16,
-    first: u16,
-    second: u16,
-    third: u16,
+// A target that is bytes of the payload, in numbers.
+fn bytes_numbers(kind: Kind, of: u16, bytes: Extent) -> [u16; 5]
+    requires { Narrow bytes }
+    ensures { result ≡ type_of kind ∷ of ∷ bytes.place ∷ bytes.length ∷ 0 ∷ [] }
+{
+    [kind as u16, of, bytes.place as u16, bytes.length as u16, 0]
 }
 
-// A target that is bytes of the payload.
-fn bytes_aim(kind: u16, of: u16, bytes: Extent) -> Aim
-    requires { Narrow bytes }
-    ensures { result ≡ Rattle.trigger_answers.specs.Aim.aim kind of bytes.place bytes.length 0 }
+// A target in numbers: its kind, its type, and up to three numbers of it. Of a kind that is not reserved the type is the kind's number.
+fn target_numbers(target: Target) -> [u16; 5]
+    requires { NarrowTarget target }
+    ensures { result ≡ target_numbers target }
 {
-    let first = bytes.place as u16;
-    let second = bytes.length as u16;
-    Aim {
+    match target {
+        Target::None => [0; 5],
+        Target::Module(m) => [
+            Kind::Module as u16,
+            Kind::Module as u16,
+            m.download,
+            m.group,
+            m.number,
+        ],
+        Target::Tap(n) => [Kind::Tap as u16, Kind::Tap as u16, n, 0, 0],
+        Target::AbsoluteUri(e) => bytes_numbers(Kind::AbsoluteUri, Kind::AbsoluteUri as u16, e),
+        Target::LidUri(e) => bytes_numbers(Kind::LidUri, Kind::LidUri as u16, e),
+        Target::HttpUri(e) => bytes_numbers(Kind::HttpUri, Kind::HttpUri as u16, e),
+        Target::Reserved(r) => bytes_numbers(Kind::Reserved, u16::from(r.kind), r.bytes),
+    }
+}
+
+// A trigger's numbers.
+fn numbers_of(t: Trigger) -> [u16; NUMBERS]
+    requires { NarrowTrigger t }
+    ensures { result ≡ numbers_of t }
+{
+    let [kind, of, first, second, third] = target_numbers(t.target);
+    [
+        t.idlength,
+        t.description,
+        t.id.place as u16,
+        t.id.length as u16,
         kind,
         of,
         first,
         second,
-        third: 0,
-    }
-}
-
-fn aim_of(target: Target) -> Aim
-    requires { NarrowTarget target }
-    ensures { result ≡ aim_of target }
-{
-    match target {
-        Target::None => Aim {
-            kind: NONE,
-            of: NONE,
-            first: 0,
-            second: 0,
-            third: 0,
-        },
-        Target::Module(m) => Aim {
-            kind: MODULE,
-            of: MODULE,
-            first: m.download,
-            second: m.group,
-            third: m.number,
-        },
-        Target::Tap(n) => Aim {
-            kind: TAP,
-            of: TAP,
-            first: n,
-            second: 0,
-            third: 0,
-        },
-        Target::AbsoluteUri(e) => bytes_aim(ABSOLUTE_URI, ABSOLUTE_URI, e),
-        Target::LidUri(e) => bytes_aim(LID_URI, LID_URI, e),
-        Target::HttpUri(e) => bytes_aim(HTTP_URI, HTTP_URI, e),
-        Target::Reserved(r) => {
-            let of = r.kind as u16;
-            let bytes = r.bytes;
-            bytes_aim(RESERVED, of, bytes)
-        }
-    }
-}
-
-// Puts a trigger's numbers at the front of the buffer.
-fn put(t: Trigger, fields: &mut [u16])
-    requires { NarrowTrigger t × (11 ≤ length fields.old) }
-    ensures { fields.new ≡ numbers_of t ++ drop 11 fields.old }
-{
-    let target = t.target;
-    let id = t.id;
-    let user = t.user;
-    let aim = aim_of(target);
-    fields[ID_LENGTH] = t.idlength;
-    fields[1] = t.description;
-    fields[ID_PLACE] = id.place as u16;
-    fields[ID_BYTES] = id.length as u16;
-    fields[4] = aim.kind;
-    fields[5] = aim.of;
-    fields[6] = aim.first;
-    fields[7] = aim.second;
-    fields[8] = aim.third;
-    fields[USER_PLACE] = user.place as u16;
-    fields[USER_BYTES] = user.length as u16;
+        third,
+        t.user.place as u16,
+        t.user.length as u16,
+    ]
 }
 
 // Reads the payload as a trigger and puts its numbers at the front of the buffer, or answers the refusal.
@@ -137,7 +90,7 @@ pub fn trigger_read(payload: &[u8], fields: &mut [u16]) -> u8
             if fields.len() < NUMBERS {
                 return Refusal::OutputTooSmall as u8;
             }
-            put(t, fields);
+            fields[..NUMBERS].copy_from_slice(&numbers_of(t));
             0
         }
     }

@@ -3,6 +3,7 @@
 
 ghost use Rattle.std.specs.Prelude.{◌≡◌, ◌+◌, ◌≤◌, length};
 ghost use Rattle.base.specs.Bytes.{word};
+ghost use Rattle.trigger_faults.specs.Kinds.{type_of, Typed};
 ghost use Rattle.trigger_faults.specs.Fields.{wrong_length, is_uri, some_high};
 ghost use Rattle.trigger_faults.specs.Parts.{head_fault, target_fault, user_fault, parts_of};
 
@@ -26,18 +27,34 @@ const MODULE_LENGTH: usize = 6;
 
 const TAP_LENGTH: usize = 2;
 
-// Target types.
-const NONE: u8 = 0;
+// What the type of a target is kept for; each but the last has the number that A/93 gives the type.
+#[derive(Clone, Copy, Debug, PartialEq, Eq)]
+pub enum Kind {
+    None = 0,
+    Module = 1,
+    Tap = 2,
+    AbsoluteUri = 3,
+    LidUri = 4,
+    HttpUri = 5,
+    // Any other type.
+    Reserved = 6,
+}
 
-pub const MODULE: u8 = 1;
+impl From<u8> for Kind {
+    ghost from_gives = { Typed };
 
-pub const TAP: u8 = 2;
-
-pub const ABSOLUTE_URI: u8 = 3;
-
-pub const LID_URI: u8 = 4;
-
-pub const HTTP_URI: u8 = 5;
+    fn from(number: u8) -> Kind {
+        match number {
+            0 => Kind::None,
+            1 => Kind::Module,
+            2 => Kind::Tap,
+            3 => Kind::AbsoluteUri,
+            4 => Kind::LidUri,
+            5 => Kind::HttpUri,
+            _ => Kind::Reserved,
+        }
+    }
+}
 
 // Where the target's type and where the user data's length stands, in a payload without a fault.
 #[derive(Clone, Copy, Debug, PartialEq, Eq)]
@@ -55,27 +72,24 @@ pub fn word_at(payload: &[u8], at: usize) -> u16
 }
 
 // Whether a target type forbids a length.
-fn is_wrong_length(kind: u8, count: usize) -> bool
-    ensures { result ≡ wrong_length kind count }
+fn is_wrong_length(kind: Kind, count: usize) -> bool
+    ensures { result ≡ wrong_length (type_of kind) count }
 {
     if count == 0 {
         return false;
     }
     match kind {
-        NONE => true,
-        MODULE => count != MODULE_LENGTH,
-        TAP => count != TAP_LENGTH,
+        Kind::None => true,
+        Kind::Module => count != MODULE_LENGTH,
+        Kind::Tap => count != TAP_LENGTH,
         _ => false,
     }
 }
 
-fn is_uri(kind: u8) -> bool
-    ensures { result ≡ is_uri kind }
+fn is_uri(kind: Kind) -> bool
+    ensures { result ≡ is_uri (type_of kind) }
 {
-    if kind < ABSOLUTE_URI {
-        return false;
-    }
-    kind <= HTTP_URI
+    matches!(kind, Kind::AbsoluteUri | Kind::LidUri | Kind::HttpUri)
 }
 
 // Whether a byte above 127 is among those of a part. All are looked at: a loop without an exit is one of wide steps.
@@ -84,10 +98,8 @@ fn is_high(payload: &[u8], at: usize, count: usize) -> bool
     ensures { result ≡ some_high payload.now at count }
 {
     let mut high = false;
-    let mut i = 0;
-    while i < count {
-        high = high | (HIGHEST_ASCII < payload[at + i]);
-        i += 1;
+    for i in 0..count {
+        high |= HIGHEST_ASCII < payload[at + i];
     }
     high
 }
@@ -128,7 +140,7 @@ fn target_fault(payload: &[u8], at: usize) -> Result<(), Refusal>
     if size < at + TARGET_HEAD {
         return Err(Refusal::TriggerCutOff);
     }
-    let kind = payload[at];
+    let kind = Kind::from(payload[at]);
     let length = usize::from(word_at(payload, at + 1));
     let after = at + TARGET_HEAD + length;
     let wrong = is_wrong_length(kind, length);

@@ -3,7 +3,7 @@ use native.Mathlib.Omega.{arith}
 use borrow.Author.Tests.{eq-eqb, ne_eqb}
 use mathlib.Core.Path.{◌∙◌}
 use Rattle.trigger.specs.Belongs.{belongs_of}
-use Rattle.trigger.proofs.Ids.{id-outside, id-inside}
+use Rattle.trigger.proofs.Ids.{compared, id-outside, id-inside}
 use Rattle.trigger.proofs.belongs.Goals as goal
 
 pub returns-then-idlength-eq0 : goal.returns-then-idlength-eq0
@@ -20,4 +20,4 @@ returns-then-size-place-2 c = rw (ne_eqb _ _ c.if-idlength-eq0.false) (id-outsid
 
 pub returns : goal.returns
 unfolding belongs_of
-returns c = rw (ne_eqb _ _ c.if-idlength-eq0.false) (c.is_same.ensures ∙ id-inside _ _ _ _ (omega arith))
+returns c = rw (ne_eqb _ _ c.if-idlength-eq0.false) (c.eq.ensures ∙ compared _ _ ∙ id-inside _ _ _ _ (omega arith))

@@ -2,9 +2,12 @@
 use native.Mathlib.Omega.{arith}
 use borrow.Author.Rules.{rules}
 use borrow.Author.Tests.{ne_eqb}
-use mathlib.Core.Path.{◌≡◌, ◌∙◌}
+use mathlib.Core.Path.{◌≡◌, sym, ◌∙◌}
 use Prim.Native.Nat.{ℕ, ◌+◌}
 use Rattle.base.specs.Bytes.{byte, word}
+use Rattle.trigger_faults.specs.Kinds.{kind_in}
+use Rattle.trigger_faults.specs.declared.Kind.{Kind}
+use Rattle.trigger_faults.proofs.Types.{kind-type, kind-not}
 use Rattle.trigger.specs.Trigger.{target_of}
 use Rattle.trigger_faults.proofs.Exits.{Aimed, target_sound}
 use Rattle.trigger.proofs.Lengths.{module-six, tap-two}
@@ -32,50 +35,57 @@ returns-then-length-eq0 c = let given : c.from-length.result ≡ word c.args.pay
     rw (← given, c.if-length-eq0.true)
 
 pub module_at-requires : goal.module_at-requires
-module_at-requires c = let sound : Aimed c.args.payload.now c.args.at = target_sound _ _ c.requires in
+module_at-requires c = let type : byte c.args.payload.now c.args.at ≡ 1 = kind-type _ Kind.Module (sym c.from.ensures ∙ c.in-Module.is) (λ e. cc) in
+    let sound : Aimed c.args.payload.now c.args.at = target_sound _ _ c.requires in
     let given : c.from-length.result ≡ word c.args.payload.now (c.args.at + 1) = search rules in
-    let h = sound in let e = given in let n : word c.args.payload.now (c.args.at + 1) ≡ 6 = module-six _ _ (λ z. c.if-length-eq0.false (e ∙ z)) h.allowed c.in-1.is in omega arith
+    let h = sound in let e = given in let n : word c.args.payload.now (c.args.at + 1) ≡ 6 = module-six _ _ (λ z. c.if-length-eq0.false (e ∙ z)) h.allowed type in omega arith
 
-pub word_at-requires-in-2 : goal.word_at-requires-in-2
-word_at-requires-in-2 c = let sound : Aimed c.args.payload.now c.args.at = target_sound _ _ c.requires in
+pub word_at-requires-in-Tap : goal.word_at-requires-in-Tap
+word_at-requires-in-Tap c = let type : byte c.args.payload.now c.args.at ≡ 2 = kind-type _ Kind.Tap (sym c.from.ensures ∙ c.in-Tap.is) (λ e. cc) in
+    let sound : Aimed c.args.payload.now c.args.at = target_sound _ _ c.requires in
     let given : c.from-length.result ≡ word c.args.payload.now (c.args.at + 1) = search rules in
-    let h = sound in let e = given in let n : word c.args.payload.now (c.args.at + 1) ≡ 2 = tap-two _ _ (λ z. c.if-length-eq0.false (e ∙ z)) h.allowed c.in-2.is in omega arith
+    let h = sound in let e = given in let n : word c.args.payload.now (c.args.at + 1) ≡ 2 = tap-two _ _ (λ z. c.if-length-eq0.false (e ∙ z)) h.allowed type in omega arith
 
-pub returns-in-1 : goal.returns-in-1
+pub returns-in-Module : goal.returns-in-Module
 unfolding target_of
-returns-in-1 c = let given : c.from-length.result ≡ word c.args.payload.now (c.args.at + 1) = search rules in
-    rw (← given, ne_eqb _ _ c.if-length-eq0.false, c.in-1.is, c.module_at.ensures)
+returns-in-Module c = let type : byte c.args.payload.now c.args.at ≡ 1 = kind-type _ Kind.Module (sym c.from.ensures ∙ c.in-Module.is) (λ e. cc) in
+    let given : c.from-length.result ≡ word c.args.payload.now (c.args.at + 1) = search rules in
+    rw (← given, ne_eqb _ _ c.if-length-eq0.false, type, c.module_at.ensures)
 
-pub returns-in-2 : goal.returns-in-2
+pub returns-in-Tap : goal.returns-in-Tap
 unfolding target_of
-returns-in-2 c = let given : c.from-length.result ≡ word c.args.payload.now (c.args.at + 1) = search rules in
-    rw (← given, ne_eqb _ _ c.if-length-eq0.false, c.in-2.is, c.word_at-in-2.ensures)
+returns-in-Tap c = let type : byte c.args.payload.now c.args.at ≡ 2 = kind-type _ Kind.Tap (sym c.from.ensures ∙ c.in-Tap.is) (λ e. cc) in
+    let given : c.from-length.result ≡ word c.args.payload.now (c.args.at + 1) = search rules in
+    rw (← given, ne_eqb _ _ c.if-length-eq0.false, type, c.word_at-in-Tap.ensures)
 
-pub returns-in-3 : goal.returns-in-3
+pub returns-in-AbsoluteUri : goal.returns-in-AbsoluteUri
 unfolding target_of
-returns-in-3 c = let given : c.from-length.result ≡ word c.args.payload.now (c.args.at + 1) = search rules in
-    rw (← given, ne_eqb _ _ c.if-length-eq0.false, c.in-3.is)
+returns-in-AbsoluteUri c = let type : byte c.args.payload.now c.args.at ≡ 3 = kind-type _ Kind.AbsoluteUri (sym c.from.ensures ∙ c.in-AbsoluteUri.is) (λ e. cc) in
+    let given : c.from-length.result ≡ word c.args.payload.now (c.args.at + 1) = search rules in
+    rw (← given, ne_eqb _ _ c.if-length-eq0.false, type)
 
-pub returns-in-4 : goal.returns-in-4
+pub returns-in-LidUri : goal.returns-in-LidUri
 unfolding target_of
-returns-in-4 c = let given : c.from-length.result ≡ word c.args.payload.now (c.args.at + 1) = search rules in
-    rw (← given, ne_eqb _ _ c.if-length-eq0.false, c.in-4.is)
+returns-in-LidUri c = let type : byte c.args.payload.now c.args.at ≡ 4 = kind-type _ Kind.LidUri (sym c.from.ensures ∙ c.in-LidUri.is) (λ e. cc) in
+    let given : c.from-length.result ≡ word c.args.payload.now (c.args.at + 1) = search rules in
+    rw (← given, ne_eqb _ _ c.if-length-eq0.false, type)
 
-pub returns-in-5 : goal.returns-in-5
+pub returns-in-HttpUri : goal.returns-in-HttpUri
 unfolding target_of
-returns-in-5 c = let given : c.from-length.result ≡ word c.args.payload.now (c.args.at + 1) = search rules in
-    rw (← given, ne_eqb _ _ c.if-length-eq0.false, c.in-5.is)
+returns-in-HttpUri c = let type : byte c.args.payload.now c.args.at ≡ 5 = kind-type _ Kind.HttpUri (sym c.from.ensures ∙ c.in-HttpUri.is) (λ e. cc) in
+    let given : c.from-length.result ≡ word c.args.payload.now (c.args.at + 1) = search rules in
+    rw (← given, ne_eqb _ _ c.if-length-eq0.false, type)
 
 pub returns-in_default : goal.returns-in_default
-unfolding target_of
+unfolding target_of kind_in
 returns-in_default c = let given : c.from-length.result ≡ word c.args.payload.now (c.args.at + 1) = search rules in
     let kind : ℕ = byte c.args.payload.now c.args.at in
     rw (
       ← given,
       ne_eqb _ _ c.if-length-eq0.false,
-      ne_eqb kind 1 (λ h. omega arith),
-      ne_eqb kind 2 (λ h. omega arith),
-      ne_eqb kind 3 (λ h. omega arith),
-      ne_eqb kind 4 (λ h. omega arith),
-      ne_eqb kind 5 (λ h. omega arith),
+      ne_eqb kind 1 (kind-not kind 1 (λ e. c.in_default.not-Module (c.from.ensures ∙ e))),
+      ne_eqb kind 2 (kind-not kind 2 (λ e. c.in_default.not-Tap (c.from.ensures ∙ e))),
+      ne_eqb kind 3 (kind-not kind 3 (λ e. c.in_default.not-AbsoluteUri (c.from.ensures ∙ e))),
+      ne_eqb kind 4 (kind-not kind 4 (λ e. c.in_default.not-LidUri (c.from.ensures ∙ e))),
+      ne_eqb kind 5 (kind-not kind 5 (λ e. c.in_default.not-HttpUri (c.from.ensures ∙ e))),
     )
