@@ -1,6 +1,6 @@
 -- Offering in two parts, as the code goes about it: the step that an offer comes to, and what is then done. `Offer` and `On` have the whole, and
--- it is proved that the two parts are it (`step-done`, `decided`). Last, a step that writes, as numbers that one function hands to another.
-use Rattle.std.specs.Prelude.{ℕ, ◌+◌, ◌*◌, List, not, eqb, length, if◌then◌else◌, Result, Ok, Err}
+-- it is proved that the two parts are it (`step-done`, `decided`).
+use Rattle.std.specs.Prelude.{ℕ, List, not, eqb, length, if◌then◌else◌, Result, Ok, Err}
 use Rattle.base.specs.Bytes.{same}
 use Rattle.refusal.specs.declared.Refusal.{Refusal}
 use Rattle.refusal.specs.declared.Refusal.TheVariants.{StoreSize, ShelfSpoiled, NoFreePlace, Differs}
@@ -15,7 +15,6 @@ use Rattle.shelf_offer.specs.declared.Step.{Step}
 use Rattle.shelf_offer.specs.declared.Step.TheVariants.{Repeats, Begins, BeginsAgain, Adds}
 use Rattle.shelf_offer.specs.Offer.{After, begun_place, added_place, no}
 use Rattle.shelf.specs.Record.{key_of}
-use Rattle.shelf.specs.Calls.{mask_among}
 use Rattle.shelf_write.specs.Writes.{held_in}
 use Rattle.shelf_offer.specs.On.{begun_words}
 
@@ -76,39 +75,3 @@ written words payload (Ok Repeats) = words
 written words payload (Ok (Begins p)) = begun_words words p (header_of payload) (length payload)
 written words payload (Ok (BeginsAgain p)) = begun_words words p (header_of payload) (length payload)
 written words payload (Ok (Adds p)) = held_in words p (header_of payload).number (length payload)
-
--- the answer of a step, and the place that it writes in; 0 means nothing where it writes nothing
-abbrev pub answer_by : Result Step Refusal → Result Offered Refusal
-answer_by (Err r) = Err r
-answer_by (Ok Repeats) = Ok Offered.Repeat
-answer_by (Ok (Begins p)) = Ok Offered.Began
-answer_by (Ok (BeginsAgain p)) = Ok Offered.BeganAgain
-answer_by (Ok (Adds p)) = Ok Offered.Added
-
-abbrev pub place_by : Result Step Refusal → ℕ
-place_by (Err r) = 0
-place_by (Ok Repeats) = 0
-place_by (Ok (Begins p)) = p
-place_by (Ok (BeginsAgain p)) = p
-place_by (Ok (Adds p)) = p
-
--- the kind of a step that writes, as one number: the answer's from bit 8 up, 1 began, 2 began again, 3 added, as `offered_code` has it; the number of a
--- section that is added, which is at most 15, from bit 1 up; bit 0 is left for the code to say that 18 is still to be asked. 0 where it writes nothing
-abbrev pub what_by : Result Step Refusal → ℕ → ℕ
-what_by (Err r) number = 0
-what_by (Ok Repeats) number = 0
-what_by (Ok (Begins p)) number = 256
-what_by (Ok (BeginsAgain p)) number = 512
-what_by (Ok (Adds p)) number = 768 + 2 * number
-
--- the step that writes, by the kind of its answer, which is what_by / 256: 3 adds, 2 begins again, 1 begins. Any other number is read as 1, and
--- nothing follows from it: what writes nothing comes here no more
-unfoldable pub step_by : ℕ → ℕ → Step
-step_by kind p = if eqb kind 3 then Adds p else (if eqb kind 2 then BeginsAgain p else Begins p)
-
--- of a table that begins, by that kind: the held sections that give way, as bits, and the answer
-unfoldable pub going_by : List ℕ → ℕ → ℕ → ℕ
-going_by words p kind = if eqb kind 2 then mask_among words p else 0
-
-unfoldable pub begun_by : ℕ → Offered
-begun_by kind = if eqb kind 2 then Offered.BeganAgain else Offered.Began

@@ -1,16 +1,17 @@
 // Offering a section to the shelf (document 01, "Offering a sound section"), over the numbers and the store that the host lends.
 #![tactic(auto)]
 
-ghost use Rattle.std.specs.Prelude.{◌≡◌, true, false, ◌<◌, ◌≤◌, ◌/◌, ◌%◌, length, Ok};
+ghost use Rattle.std.specs.Prelude.{◌≡◌, true, false, ◌<◌, ◌≤◌, length, Ok, IsErr};
 ghost use Rattle.berth.specs.Berth.{berth_size, places, sections, store_size};
-ghost use Rattle.berth.specs.Calls.{put_in};
+ghost use Rattle.base.specs.Bits.{bit};
+ghost use Rattle.berth.specs.Calls.{put_in, wiped_where_in};
 ghost use Rattle.key.specs.Theorems.{Proper};
 ghost use Rattle.section.specs.Section.{read_of, header_of};
-ghost use Rattle.section.specs.declared.Header.{Header as HeaderOf};
+ghost use Rattle.refusal.specs.Refusal.{number_of};
 ghost use Rattle.shelf.specs.Record.{place_at, spoiled_of};
 ghost use Rattle.shelf.specs.Layout.{count, taken_in, shelf_in, shelf_at};
-ghost use Rattle.shelf_write.specs.Calls.{held_put};
-ghost use Rattle.shelf_offer.specs.Steps.{held_step, sound_step, step_of, step_by, what_by, place_by, answer_by, going_by, begun_by};
+ghost use Rattle.shelf_write.specs.Calls.{held_put, head_put};
+ghost use Rattle.shelf_offer.specs.Steps.{held_step, sound_step, step_of};
 ghost use Rattle.shelf_check.specs.Unless.{unless_spoiled};
 ghost use Rattle.answers.specs.Answers.{lent};
 ghost use Rattle.shelf_offer.specs.Answer.{offered_code, offer_lent};
@@ -103,21 +104,17 @@ fn add(words: &mut [u16], store: &mut [u8], payload: &[u8], p: usize, n: usize)
     berth::put(store, p, n, payload);
 }
 
-// The kinds of an offer that writes.
-const BEGINS: u16 = 1;
-
-const BEGINS_AGAIN: u16 = 2;
-
-const ADDS: u16 = 3;
-
 // The answers as numbers: the kind from bit 8 up.
-const BEGAN: u16 = 256 * BEGINS;
+const BEGAN: u16 = 256;
 
-const BEGAN_AGAIN: u16 = 256 * BEGINS_AGAIN;
+const BEGAN_AGAIN: u16 = 512;
 
-const ADDED: u16 = 256 * ADDS;
+const ADDED: u16 = 768;
 
 const REPEAT: u16 = 1024;
+
+// Where a section has its number.
+const NUMBER: usize = 6;
 
 // An answer in a number whose low 8 bits are the refusal.
 fn code_of(answer: Result<Offered, Refusal>) -> u16
@@ -132,17 +129,6 @@ fn code_of(answer: Result<Offered, Refusal>) -> u16
     }
 }
 
-// Whether the record is spoiled, which one that has passed is not.
-fn spoiled(words: &[u16], passed: bool) -> bool
-    requires { passed ≡ true → spoiled_of (shelf_at words.now) ≡ false }
-    ensures { result ≡ spoiled_of (shelf_at words.now) }
-{
-    if passed {
-        return false;
-    }
-    shelf_check::is_spoiled(words)
-}
-
 // The answer of an offer that writes nothing, which is that number where the record is not spoiled.
 fn settle(words: &[u16], passed: bool, number: u16) -> u16
     requires { passed ≡ true → spoiled_of (shelf_at words.now) ≡ false }
@@ -154,123 +140,86 @@ fn settle(words: &[u16], passed: bool, number: u16) -> u16
     shelf_check::unless_spoiled(words, number)
 }
 
-// The held sections that give way where a table begins: all, where it begins again.
-fn going(words: &[u16], p: usize, kind: u16) -> u16
-    ensures { result ≡ going_by words.now p kind }
+// The answer to a payload that is no sound section. It is read again, so that the offer itself need not know which refusal it was.
+#[inline(never)]
+fn refuse(words: &[u16], payload: &[u8], passed: bool) -> u16
+    requires passed { passed ≡ true → spoiled_of (shelf_at words.now) ≡ false }
+    requires refused { IsErr (read_of payload.now) }
+    ensures { result ≡ unless_spoiled (spoiled_of (shelf_at words.now)) (number_of (read_of payload.now)) }
 {
-    if kind == BEGINS_AGAIN {
-        return shelf::mask_of(words, p);
-    }
-    0
+    let refusal = section::read(payload).unwrap_err();
+    settle(words, passed, code_of(Err(refusal)))
 }
 
-// What is answered then.
-fn begun(kind: u16) -> Offered
-    ensures { result ≡ begun_by kind }
+// Begins a table in place p, where the held sections give way whose bits are 1. The header is read again, so that all comes in registers.
+#[inline(never)]
+fn begin(words: &mut [u16], store: &mut [u8], payload: &[u8], p: usize, going: u16)
+    requires { read_of payload.now ≡ Ok (header_of payload.now) }
+    ensures words_after { words.new
+        ≡ held_put (head_put words.old p (header_of payload.now).key (header_of payload.now).version (header_of payload.now).last) p (header_of payload.now).number (length payload.now) }
+    ensures store_after { store.new
+        ≡ put_in (wiped_where_in (bit going) store.old p) p (header_of payload.now).number payload.now }
 {
-    if kind == BEGINS_AGAIN {
-        return Offered::BeganAgain;
-    }
-    Offered::Began
-}
-
-// Begins a table in a record that is not spoiled, or begins it again.
-fn begin(
-    words: &mut [u16],
-    store: &mut [u8],
-    payload: &[u8],
-    header: Header,
-    p: usize,
-    kind: u16,
-) -> u16
-    requires store_len { (length store.old ≡ store_size) × (spoiled_of (shelf_at words.old) ≡ false) }
-    requires payload_len_bound { (length payload.now ≤ berth_size) × (kind ≡ 3 → ⊥) × (header ≡ header_of payload.now) × (step_of (shelf_at words.old) store.old payload.now ≡ Ok (step_by kind p)) }
-    ensures { lent result words.new store.new ≡ offer_lent words.old store.old payload.now }
-{
-    berth::wipe_where(store, p, going(words, p, kind));
+    let header = section::read(payload).unwrap();
+    berth::wipe_where(store, p, going);
     shelf_write::put_head(words, p, header.key, header.version, header.last);
     add(words, store, payload, p, usize::from(header.number));
-    code_of(Ok(begun(kind)))
 }
 
-// What is not a repeat, whole. `what` is one number: bit 0 is 1 where the record has yet to be asked, the number of a section that is added
-// stands from bit 1 up, and the kind of the answer from bit 8 up.
-fn carried(words: &mut [u16], store: &mut [u8], payload: &[u8], p: usize, what: u16) -> u16
-    requires store_len { length store.old ≡ store_size }
-    requires words_value { what % 2 ≡ 0 → spoiled_of (shelf_at words.old) ≡ false }
-    requires payload_value { ((h : HeaderOf) → read_of payload.now ≡ Ok h → spoiled_of (shelf_at words.old) ≡ false → step_of (shelf_at words.old) store.old payload.now ≡ Ok (step_by (what / 256) p)) × (what / 256 ≡ 3 → (read_of payload.now ≡ Ok (header_of payload.now)) × (what / 2 % 16 ≡ (header_of payload.now).number)) }
+// Carries a step out in a record that is not spoiled.
+fn carried(words: &mut [u16], store: &mut [u8], payload: &[u8], step: Step) -> u16
+    requires store_len { (length store.old ≡ store_size) × (spoiled_of (shelf_at words.old) ≡ false) }
+    requires sound { read_of payload.now ≡ Ok (header_of payload.now) }
+    requires is_step { step_of (shelf_at words.old) store.old payload.now ≡ Ok step }
     ensures { lent result words.new store.new ≡ offer_lent words.old store.old payload.now }
 {
-    if spoiled(words, what % 2 == 0) {
-        return code_of(Err(Refusal::ShelfSpoiled));
-    }
-    if what / 256 == ADDS {
-        add(words, store, payload, p, usize::from(what / 2 % 16));
-        return code_of(Ok(Offered::Added));
-    }
-    match section::read(payload) {
-        Ok(header) => begin(words, store, payload, header, p, what / 256),
-        Err(refusal) => code_of(Err(refusal)),
+    match step {
+        Step::Repeats => code_of(Ok(Offered::Repeat)),
+        Step::Begins(p) => {
+            begin(words, store, payload, p, 0);
+            code_of(Ok(Offered::Began))
+        }
+        Step::BeginsAgain(p) => {
+            let going = shelf::mask_of(words, p);
+            begin(words, store, payload, p, going);
+            code_of(Ok(Offered::BeganAgain))
+        }
+        Step::Adds(p) => {
+            add(words, store, payload, p, usize::from(payload[NUMBER]));
+            code_of(Ok(Offered::Added))
+        }
     }
 }
 
-// The same, apart from a repeat, which nine offers in ten are and which needs no frame. The payload is taken apart at once, and the header of
-// one that begins a table is read again, so that all comes in registers.
-fn carry_out(words: &mut [u16], store: &mut [u8], payload: &[u8], p: usize, what: u16) -> u16
-    requires store_len { length store.old ≡ store_size }
-    requires words_value { what % 2 ≡ 0 → spoiled_of (shelf_at words.old) ≡ false }
-    requires payload_value { ((h : HeaderOf) → read_of payload.now ≡ Ok h → spoiled_of (shelf_at words.old) ≡ false → step_of (shelf_at words.old) store.old payload.now ≡ Ok (step_by (what / 256) p)) × (what / 256 ≡ 3 → (read_of payload.now ≡ Ok (header_of payload.now)) × (what / 2 % 16 ≡ (header_of payload.now).number)) }
+// The same, apart from a repeat, which nine offers in ten are and which needs no frame. The payload is taken apart at once, so that all
+// comes in registers: a step with its place takes two.
+#[inline(never)]
+fn carry_out(words: &mut [u16], store: &mut [u8], payload: &[u8], step: Step) -> u16
+    requires store_len { (length store.old ≡ store_size) × (spoiled_of (shelf_at words.old) ≡ false) }
+    requires sound { read_of payload.now ≡ Ok (header_of payload.now) }
+    requires is_step { step_of (shelf_at words.old) store.old payload.now ≡ Ok step }
     ensures { lent result words.new store.new ≡ offer_lent words.old store.old payload.now }
 {
     let size = payload.len();
     let section = &payload[0..size];
-    carried(words, store, section, p, what)
+    carried(words, store, section, step)
 }
 
-// Bit 0 of `what`.
-fn asks(passed: bool) -> u16
-    ensures { (result ≤ 1) × (result ≡ 0 → passed ≡ true) }
+// The same in a record that has yet to be asked.
+#[inline(never)]
+fn ask_first(words: &mut [u16], store: &mut [u8], payload: &[u8], step: Step) -> u16
+    requires store_len { length store.old ≡ store_size }
+    requires sound { read_of payload.now ≡ Ok (header_of payload.now) }
+    requires is_step { spoiled_of (shelf_at words.old) ≡ false → step_of (shelf_at words.old) store.old payload.now ≡ Ok step }
+    ensures { lent result words.new store.new ≡ offer_lent words.old store.old payload.now }
 {
-    if passed { 0 } else { 1 }
-}
-
-// The rest of `what`, which is 0 where a step writes nothing.
-fn what_by(step: Result<Step, Refusal>, number: u8) -> u16
-    ensures { (result ≡ what_by step number) × (result < 1280) }
-{
-    match step {
-        Ok(Step::Repeats) => 0,
-        Err(_) => 0,
-        Ok(Step::Begins(_)) => BEGAN,
-        Ok(Step::BeginsAgain(_)) => BEGAN_AGAIN,
-        Ok(Step::Adds(_)) => ADDED + 2 * u16::from(number),
+    let size = payload.len();
+    let section = &payload[0..size];
+    let spoiled = shelf_check::is_spoiled(words);
+    if spoiled {
+        return code_of(Err(Refusal::ShelfSpoiled));
     }
-}
-
-// The place that a step writes in.
-fn place_by(step: Result<Step, Refusal>) -> usize
-    ensures { result ≡ place_by step }
-{
-    match step {
-        Ok(Step::Repeats) => 0,
-        Err(_) => 0,
-        Ok(Step::Begins(p)) => p,
-        Ok(Step::BeginsAgain(p)) => p,
-        Ok(Step::Adds(p)) => p,
-    }
-}
-
-// The answer of a step.
-fn answer_by(step: Result<Step, Refusal>) -> Result<Offered, Refusal>
-    ensures { result ≡ answer_by step }
-{
-    match step {
-        Ok(Step::Repeats) => Ok(Offered::Repeat),
-        Err(refusal) => Err(refusal),
-        Ok(Step::Begins(_)) => Ok(Offered::Began),
-        Ok(Step::BeginsAgain(_)) => Ok(Offered::BeganAgain),
-        Ok(Step::Adds(_)) => Ok(Offered::Added),
-    }
+    carry_out(words, store, section, step)
 }
 
 // Offers a sound section.
@@ -285,12 +234,17 @@ fn offer_sound(
     requires words_value { passed ≡ true → spoiled_of (shelf_at words.old) ≡ false }
     ensures { lent result words.new store.new ≡ offer_lent words.old store.old payload.now }
 {
-    let step = sound_step(words, store, payload, header);
-    let what = what_by(step, header.number);
-    if what == 0 {
-        return settle(words, passed, code_of(answer_by(step)));
+    match sound_step(words, store, payload, header) {
+        Err(refusal) => settle(words, passed, code_of(Err(refusal))),
+        Ok(Step::Repeats) => settle(words, passed, code_of(Ok(Offered::Repeat))),
+        Ok(step) => {
+            if passed {
+                carry_out(words, store, payload, step)
+            } else {
+                ask_first(words, store, payload, step)
+            }
+        }
     }
-    carry_out(words, store, payload, place_by(step), what + asks(passed))
 }
 
 // Offers a payload to the record that the numbers are, and answers in a number whose low 8 bits are the refusal. A refused call and a
@@ -308,6 +262,6 @@ pub fn offer_code(words: &mut [u16], store: &mut [u8], payload: &[u8]) -> u16
     let passed = shelf_check::passes(words);
     match section::read(payload) {
         Ok(header) => offer_sound(words, store, payload, header, passed),
-        Err(_) => carry_out(words, store, payload, 0, asks(passed)),
+        Err(_) => refuse(words, payload, passed),
     }
 }

@@ -1,22 +1,30 @@
--- `shelf_offer::carried` meets its promise: 18, a section more, a table begun, or a refused reading's own number.
-use mathlib.Core.Path.{sym, ◌∙◌}
-use Rattle.base.proofs.Tests.{told}
+-- `shelf_offer::carried` meets its promise: each step, done.
+use mathlib.Core.Path.{ap, ◌∙◌}
+use native.Mathlib.Omega.{arith}
+use Rattle.std.specs.Prelude.{Ok}
 use Rattle.section.proofs.Laws.{sound-facts}
-use Rattle.shelf_offer.proofs.Steps.{step-refused}
-use Rattle.shelf_offer.proofs.Left.{all-spoiled, refused-lent, wrote-added}
+use Rattle.shelf_offer.proofs.Left.{repeat-lent, wrote-added, wrote-begun, wrote-again}
 use Rattle.shelf_offer.proofs.carried.Goals as goal
 
-pub returns-then-spoiled : goal.returns-then-spoiled
-returns-then-spoiled c = all-spoiled _ _ _ c.requires.store_len (told c.spoiled.ensures c.if-spoiled.true) c.code_of.ensures
+pub returns-in-Repeats : goal.returns-in-Repeats
+returns-in-Repeats c = repeat-lent _ _ _ (c.requires.is_step ∙ ap Ok c.in-Repeats.is) c.code_of.ensures
+
+pub returns-in-Begins : goal.returns-in-Begins
+returns-in-Begins c =
+    wrote-begun _ _ _ _ (c.requires.is_step ∙ ap Ok c.in-Begins.is) c.begin.ensures.words_after c.begin.ensures.store_after c.code_of-in-Begins.ensures
+
+pub returns-in-BeginsAgain : goal.returns-in-BeginsAgain
+returns-in-BeginsAgain c =
+    wrote-again _ _ _ _ (c.requires.is_step ∙ ap Ok c.in-BeginsAgain.is) c.mask_of-going.ensures
+    c.begin-in-BeginsAgain.ensures.words_after c.begin-in-BeginsAgain.ensures.store_after c.code_of-in-BeginsAgain.ensures
+
+pub bounds-payload-6 : goal.bounds-payload-6
+bounds-payload-6 c = omega (arith, (sound-facts _ _ c.requires.sound).least)
 
 pub add-requires : goal.add-requires
-add-requires c = (sound-facts _ _ (c.requires.payload_value.1 c.if-what-eq-ADDS.true).0).most
+add-requires c = (sound-facts _ _ c.requires.sound).most
 
-pub returns-then-what-eq-ADDS : goal.returns-then-what-eq-ADDS
-returns-then-what-eq-ADDS c = let r = c.requires.payload_value.1 c.if-what-eq-ADDS.true in wrote-added _ _ _ _ _ (c.requires.payload_value.0 _ r.0 (told c.spoiled.ensures c.if-spoiled.false)) c.if-what-eq-ADDS.true (c.from.ensures ∙ r.1) c.add.ensures.words_after c.add.ensures.store_after c.code_of-then-what-eq-ADDS.ensures
-
-pub begin-requires-clause-payload_len_bound : goal.begin-requires-clause-payload_len_bound
-begin-requires-clause-payload_len_bound c = let e = told c.read.ensures c.in-Ok.is in let u = told c.spoiled.ensures c.if-spoiled.false in ((sound-facts _ _ e).most, c.if-what-eq-ADDS.false, (sound-facts _ _ e).header, c.requires.payload_value.0 _ e u)
-
-pub returns-in-Err : goal.returns-in-Err
-returns-in-Err c = refused-lent _ _ _ _ (sym (step-refused _ _ _ c.requires.store_len (told c.spoiled.ensures c.if-spoiled.false) _ (told c.read.ensures c.in-Err.is))) c.code_of-in-Err.ensures
+pub returns-in-Adds : goal.returns-in-Adds
+returns-in-Adds c =
+    wrote-added _ _ _ _ (c.requires.is_step ∙ ap Ok c.in-Adds.is) c.from.ensures c.add.ensures.words_after c.add.ensures.store_after
+    c.code_of-in-Adds.ensures

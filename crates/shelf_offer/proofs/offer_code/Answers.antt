@@ -1,5 +1,6 @@
 -- `shelf_offer::offer_code` meets its promise: 17, 18 for another count of numbers, and the rest by the reading.
-use Rattle.shelf_offer.proofs.Left.{no_store, no-count}
+use Rattle.base.proofs.Tests.{told}
+use Rattle.shelf_offer.proofs.Left.{no_store, no-count, unread}
 use Rattle.shelf_offer.proofs.offer_code.Goals as goal
 
 pub returns-then-store-ne-STORE : goal.returns-then-store-ne-STORE
@@ -7,3 +8,6 @@ returns-then-store-ne-STORE c = no_store _ _ _ c.if-store-ne-STORE.true c.code_o
 
 pub returns-then-words-ne-WORDS : goal.returns-then-words-ne-WORDS
 returns-then-words-ne-WORDS c = no-count _ _ _ c.if-store-ne-STORE.false c.if-words-ne-WORDS.true c.code_of-then-words-ne-WORDS.ensures
+
+pub returns-in-Err : goal.returns-in-Err
+returns-in-Err c = unread _ _ _ _ c.if-store-ne-STORE.false (told c.read.ensures c.in-Err.is) c.refuse.ensures
