@@ -1,32 +1,35 @@
 // Reads an input, as the standard one, into a buffer, for the programs.
 #![tactic(auto)]
 
-ghost use Rattle.std.specs.Prelude.{length};
-ghost use Rattle.input.specs.Within.{Within};
+ghost use Rattle.std.specs.Prelude.{◌≡◌, ◌+◌, ◌≤◌, length, IfOk};
+ghost use Rattle.file.specs.Layout.{largest_file};
 
-use std::io::Read;
+use std::io::{self, Read};
 
-#[derive(Drop)]
-pub enum Input {
-    // The input ended after so many bytes, or the buffer is full.
-    Bytes(usize),
-    Failed,
-}
-
-// Reads until the input ends or the buffer is full. A read that fails is not the end of the input.
-pub fn read_input<R: Read>(reader: &mut R, buffer: &mut [u8]) -> Input
-    ensures { Within (length buffer.new) result }
+// Reads until the input ends or the buffer is full; how many bytes those are. A read that fails is not the end of the input.
+pub fn read_input<R: Read>(reader: &mut R, buffer: &mut [u8]) -> io::Result<usize>
+    ensures { IfOk result (λ n. n ≤ length buffer.new) }
 {
     let mut n = 0;
     while n < buffer.len() {
-        let more = match reader.read(&mut buffer[n..]) {
-            Ok(got) => got,
-            Err(_) => return Input::Failed,
-        };
+        let more = reader.read(&mut buffer[n..])?;
         if more == 0 {
-            return Input::Bytes(n);
+            break;
         }
         n += more;
     }
-    Input::Bytes(n)
+    Ok(n)
+}
+
+// One byte more than the largest file, so 16,419: an input that fills the buffer is no file, and is refused as one that has
+// bytes left over.
+pub const BUFFER: usize = file::LARGEST + 1;
+
+// Reads a file into a buffer that has room for one byte more than the largest: what was cut off at its end is too long for a
+// file.
+pub fn read_whole<R: Read>(reader: &mut R, buffer: &mut [u8]) -> io::Result<usize>
+    requires { length buffer.old ≡ largest_file + 1 }
+    ensures { IfOk result (λ n. n ≤ length buffer.new) }
+{
+    read_input(reader, buffer)
 }
