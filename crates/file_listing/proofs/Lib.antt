@@ -1,4 +1,5 @@
 pub mod Growing
+pub mod Digits
 pub mod Lines
 pub mod Whole
 pub mod Short

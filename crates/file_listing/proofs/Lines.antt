@@ -28,23 +28,24 @@ module _ (key : Key) (t : Text) where
   unfolding added_words
   are-added r e g = rw (eq-eqb key.table nrt_it e) g
 
+-- the code looks at the place of a number that it has made wider
 module _ (lengths : List ℕ) (n : ℕ) (t : Text) where
-  pub no-section : get_or lengths n 0 ≡ 0 → Grew (section_of lengths n) 26 t t
+  pub no-section : {m : ℕ} → m ≡ n → get_or lengths m 0 ≡ 0 → Grew (section_of lengths n) 26 t t
   unfolding section_of
-  no-section e = rw (eq-eqb (get_or lengths n 0) 0 e) (nothing t 26)
+  no-section q e = rw (eq-eqb (get_or lengths n 0) 0 (rw q at e)) (nothing t 26)
 
-  pub a-section : (m : ℕ) (r : Text) → (get_or lengths n 0 ≡ 0 → ⊥) → m ≡ n → Grew (section_line m (get_or lengths n 0)) 26 t r
+  pub a-section : (r : Text) {m : ℕ} → m ≡ n → (get_or lengths m 0 ≡ 0 → ⊥) → Grew (section_line n (get_or lengths m 0)) 26 t r
       → Grew (section_of lengths n) 26 t r
   unfolding section_of
-  a-section m r d e g = rw (ne_eqb (get_or lengths n 0) 0 d) (rw e at g)
+  a-section r q d g = rw (ne_eqb (get_or lengths n 0) 0 (rw q at d)) (rw q at g)
 
-  pub no-missing : (get_or lengths n 0 ≡ 0 → ⊥) → Grew (missing_of lengths n) 14 t t
+  pub no-missing : {m : ℕ} → m ≡ n → (get_or lengths m 0 ≡ 0 → ⊥) → Grew (missing_of lengths n) 14 t t
   unfolding missing_of
-  no-missing d = rw (ne_eqb (get_or lengths n 0) 0 d) (nothing t 14)
+  no-missing q d = rw (ne_eqb (get_or lengths n 0) 0 (rw q at d)) (nothing t 14)
 
-  pub a-missing : (m : ℕ) (r : Text) → get_or lengths n 0 ≡ 0 → m ≡ n → Grew (missing_line m) 14 t r → Grew (missing_of lengths n) 14 t r
+  pub a-missing : (r : Text) {m : ℕ} → m ≡ n → get_or lengths m 0 ≡ 0 → Grew (missing_line n) 14 t r → Grew (missing_of lengths n) 14 t r
   unfolding missing_of
-  a-missing m r z e g = rw (eq-eqb (get_or lengths n 0) 0 z, ← e) g
+  a-missing r q z g = rw (eq-eqb (get_or lengths n 0) 0 (rw q at z)) g
 
 module _ (f : ℕ → List ℕ) (k : ℕ) (t : Text) where
   pub no_line : Grew (lines 0 f) (k * 0) t t

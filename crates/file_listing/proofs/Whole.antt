@@ -8,8 +8,8 @@ use mathlib.Core.Bool.{true, false}
 use mathlib.Core.List.{List, ◌++◌}
 use Prim.Native.Nat.{ℕ, ◌+◌, ◌<◌, ◌≤◌}
 use native.Mathlib.Omega.{arith}
-use lib.ListN.{length, take, drop}
-use lib.Seq.{length-take-le, take-length}
+use lib.ListN.{length, drop}
+use lib.Seq.{length-take-le}
 use borrow.Author.Tests.{lt-ltb, le-ltb}
 use Rattle.base.specs.Below.{every}
 use Rattle.file.specs.Scan.{scan_of, found_at}
@@ -58,13 +58,6 @@ module _ (file out : List ℕ) (t : Text) (long : length t.bytes ≡ 718) (g : G
   unfolding list_of
   too_small l = rw (text-size, lt-ltb (length out) t.size l)
 
-  shown-size : length (shown t) ≡ t.size
-  shown-size = ap length g.shows ∙ text-size
-
-  pub fits : t.size ≤ length out → (after : List ℕ) → after ≡ take (length (shown t)) (shown t) ++ drop (length (shown t)) out
-      → listing (Ok t.size) after ≡ list_of file out
+  pub fits : t.size ≤ length out → {written : List ℕ} → written ≡ shown t → listing (Ok t.size) (written ++ drop t.size out) ≡ list_of file out
   unfolding list_of
-  fits l after e =
-      let back : after ≡ text_of file ++ drop t.size out
-      = e ∙ ap (λ w. w ++ drop (length (shown t)) out) (take-length (shown t) ∙ g.shows) ∙ ap (λ n. text_of file ++ drop n out) shown-size in
-      rw (text-size, le-ltb (length out) t.size l, back)
+  fits l e = rw (text-size, le-ltb (length out) t.size l, e, g.shows)

@@ -2,7 +2,7 @@
 #![tactic(auto)]
 
 ghost use Rattle.std.specs.Prelude.{◌≡◌, [], ◌∷◌, ◌++◌, ◌+◌, ◌<◌, ◌≤◌, length, drop};
-ghost use Rattle.file_listing.specs.Words.{place as place_of, decimal, long_decimal, lines};
+ghost use Rattle.file_listing.specs.Words.{place as place_of, digits, decimal, lines};
 ghost use Rattle.file_listing.specs.Growing.{room, empty, Grew};
 ghost use Rattle.file.specs.Scan.{found_at};
 ghost use Rattle.file_listing.specs.Listing.{added_words, head_line, section_line, missing_line, complete_line, refused_line, section_of, missing_of, end_of, table_text, text_of, listing, list_of};
@@ -40,246 +40,204 @@ impl Text {
         }
     }
 
-    fn byte(mut self, b: u8) -> Text
-        requires { self.size < room }
-        ensures { Grew (b ∷ []) 1 self result }
+    fn byte(&mut self, b: u8)
+        requires { self.old.size < room }
+        ensures { Grew (b ∷ []) 1 self.old self.new }
     {
-        let at = self.size;
-        self.bytes[at] = b;
-        self.size = at + 1;
-        self
+        self.bytes[self.size] = b;
+        self.size += 1;
     }
 
-    fn word(self, w: &[u8]) -> Text
-        requires { self.size + length w.now ≤ room }
-        ensures { Grew w.now (length w.now) self result }
+    fn word(&mut self, w: &[u8])
+        requires { self.old.size + length w.now ≤ room }
+        ensures { Grew w.now (length w.now) self.old self.new }
     {
-        let mut bytes = self.bytes;
-        let at = self.size;
-        copy(w, &mut bytes[at..]);
-        let size = at + w.len();
-        Text { bytes, size }
+        let end = self.size + w.len();
+        self.bytes[self.size..end].copy_from_slice(w);
+        self.size = end;
     }
 
-    // The digit of a power of ten, where the number reaches it. It is put where the text stands: one handed on to `byte` would leave
-    // another text on the stack for each digit.
-    fn place(mut self, n: u32, power: u32) -> Text
-        requires size_lt_room { self.size < room }
+    // The digit of a power of ten, where the number reaches it.
+    fn place(&mut self, n: u32, power: u32)
+        requires size_lt_room { self.old.size < room }
         requires power_nonzero { 0 < power }
-        ensures { Grew (place_of power n) 1 self result }
+        ensures { Grew (place_of power n) 1 self.old self.new }
     {
-        if n < power {
-            return self;
+        if power <= n {
+            self.byte(48 + (n / power % 10) as u8);
         }
-        let at = self.size;
-        self.bytes[at] = 48 + (n / power % 10) as u8;
-        self.size = at + 1;
-        self
-    }
-    // A number of up to five digits in decimal; of a longer one the last five.
-    fn number(self, n: u32) -> Text
-        requires { self.size + 5 ≤ room }
-        ensures { Grew (decimal n) 5 self result }
-    {
-        let a = self.place(n, 10000);
-        let b = a.place(n, 1000);
-        let c = b.place(n, 100);
-        let d = c.place(n, 10);
-        d.byte(48 + (n % 10) as u8)
     }
 
-    // A number of up to ten digits.
-    fn long_number(self, n: u32) -> Text
-        requires { self.size + 10 ≤ room }
-        ensures { Grew (long_decimal n) 10 self result }
+    // A number in decimal: the digits of so many powers of ten from the highest down, and the last digit.
+    fn digits(&mut self, n: u32, powers: u32)
+        requires { (powers ≤ 9) × (self.old.size + (powers + 1) ≤ room) }
+        ensures { Grew (digits powers n) (powers + 1) self.old self.new }
     {
-        let a = self.place(n, 1000000000);
-        let b = a.place(n, 100000000);
-        let c = b.place(n, 10000000);
-        let d = c.place(n, 1000000);
-        let e = d.place(n, 100000);
-        e.number(n)
-    }
-
-    // A word and a number.
-    fn field(self, w: &[u8], n: u16) -> Text
-        requires { self.size + (length w.now + 5) ≤ room }
-        ensures { Grew (w.now ++ decimal n) (length w.now + 5) self result }
-    {
-        let named = self.word(w);
-        named.number(u32::from(n))
-    }
-
-    // What an NRT-IT's line says after its extension: the rest of its key.
-    fn added_words(self, key: Key) -> Text
-        requires { self.size + 31 ≤ room }
-        ensures { Grew (added_words key) 31 self result }
-    {
-        if key.table != key::NRT_IT {
-            return self;
+        let mut power = 10u32.pow(powers);
+        for i in 0..powers {
+            self.place(n, power);
+            power /= 10;
         }
-        let service = self.field(b" service ", key.service);
-        let start = service.word(b" start ");
-        start.long_number(key.start)
+        self.byte(48 + (n % 10) as u8);
     }
 
-    fn head_line(self, h: Header) -> Text
-        requires { self.size + 78 ≤ room }
-        ensures { Grew (head_line h) 78 self result }
+    // A word and a number of up to five digits.
+    fn field(&mut self, w: &[u8], n: u16)
+        requires { self.old.size + (length w.now + 5) ≤ room }
+        ensures { Grew (w.now ++ decimal n) (length w.now + 5) self.old self.new }
     {
-        let key = h.key;
-        let table = self.field(b"table ", u16::from(key.table));
-        let extension = table.field(b" key ", key.extension);
-        let added = extension.added_words(key);
-        let version = added.field(b" version ", u16::from(h.version));
-        let last = version.field(b" last ", u16::from(h.last));
-        last.byte(NEWLINE)
+        self.word(w);
+        self.digits(u32::from(n), 4);
     }
 
-    fn section_line(self, n: u16, length: u16) -> Text
-        requires { self.size + 26 ≤ room }
-        ensures { Grew (section_line n length) 26 self result }
+    // What an NRT-IT's line says after its extension: the rest of its key, where a time has up to ten digits.
+    fn added_words(&mut self, key: Key)
+        requires { self.old.size + 31 ≤ room }
+        ensures { Grew (added_words key) 31 self.old self.new }
     {
-        let section = self.field(b"section ", n);
-        let bytes = section.field(b" bytes ", length);
-        bytes.byte(NEWLINE)
+        if key.table == key::NRT_IT {
+            self.field(b" service ", key.service);
+            self.word(b" start ");
+            self.digits(key.start, 9);
+        }
     }
 
-    fn missing_line(self, n: u16) -> Text
-        requires { self.size + 14 ≤ room }
-        ensures { Grew (missing_line n) 14 self result }
+    fn head_line(&mut self, h: Header)
+        requires { self.old.size + 78 ≤ room }
+        ensures { Grew (head_line h) 78 self.old self.new }
     {
-        let missing = self.field(b"missing ", n);
-        missing.byte(NEWLINE)
+        self.field(b"table ", u16::from(h.key.table));
+        self.field(b" key ", h.key.extension);
+        self.added_words(h.key);
+        self.field(b" version ", u16::from(h.version));
+        self.field(b" last ", u16::from(h.last));
+        self.byte(NEWLINE);
     }
 
-    fn complete_line(self) -> Text
-        requires { self.size + 9 ≤ room }
-        ensures { Grew complete_line 9 self result }
+    fn section_line(&mut self, n: u8, length: u16)
+        requires { self.old.size + 26 ≤ room }
+        ensures { Grew (section_line n length) 26 self.old self.new }
     {
-        let complete = self.word(b"complete");
-        complete.byte(NEWLINE)
+        self.field(b"section ", u16::from(n));
+        self.field(b" bytes ", length);
+        self.byte(NEWLINE);
     }
 
-    fn refused_line(self, n: u8) -> Text
-        requires { self.size + 14 ≤ room }
-        ensures { Grew (refused_line n) 14 self result }
+    fn missing_line(&mut self, n: u8)
+        requires { self.old.size + 14 ≤ room }
+        ensures { Grew (missing_line n) 14 self.old self.new }
     {
-        let refused = self.field(b"refused ", u16::from(n));
-        refused.byte(NEWLINE)
+        self.field(b"missing ", u16::from(n));
+        self.byte(NEWLINE);
     }
+
+    fn complete_line(&mut self)
+        requires { self.old.size + 9 ≤ room }
+        ensures { Grew complete_line 9 self.old self.new }
+    {
+        self.word(b"complete");
+        self.byte(NEWLINE);
+    }
+
+    fn refused_line(&mut self, n: u8)
+        requires { self.old.size + 14 ≤ room }
+        ensures { Grew (refused_line n) 14 self.old self.new }
+    {
+        self.field(b"refused ", u16::from(n));
+        self.byte(NEWLINE);
+    }
+
     // The line of one section, where the file holds it.
-    fn section_of(self, n: u8, lengths: [u16; 16]) -> Text
+    fn section_of(&mut self, n: u8, lengths: &[u16; section::SECTIONS])
         requires n_bound { n < 16 }
-        requires size_bound { self.size + 26 ≤ room }
-        ensures { Grew (section_of lengths n) 26 self result }
+        requires size_bound { self.old.size + 26 ≤ room }
+        ensures { Grew (section_of lengths.now n) 26 self.old self.new }
     {
-        let at = n as usize;
-        let length = lengths[at];
-        if length == 0 {
-            return self;
+        let length = lengths[usize::from(n)];
+        if length != 0 {
+            self.section_line(n, length);
         }
-        self.section_line(u16::from(n), length)
     }
 
     // The line of one number that the file lacks.
-    fn missing_of(self, n: u8, lengths: [u16; 16]) -> Text
+    fn missing_of(&mut self, n: u8, lengths: &[u16; section::SECTIONS])
         requires n_bound { n < 16 }
-        requires size_bound { self.size + 14 ≤ room }
-        ensures { Grew (missing_of lengths n) 14 self result }
+        requires size_bound { self.old.size + 14 ≤ room }
+        ensures { Grew (missing_of lengths.now n) 14 self.old self.new }
     {
-        let at = n as usize;
-        let length = lengths[at];
-        if length == 0 {
-            return self.missing_line(u16::from(n));
+        if lengths[usize::from(n)] == 0 {
+            self.missing_line(n);
         }
-        self
     }
 
     // A line for each section held, rising.
-    fn section_lines(self, last: u8, lengths: [u16; 16]) -> Text
+    fn section_lines(&mut self, last: u8, lengths: &[u16; section::SECTIONS])
         requires last_bound { last ≤ 15 }
-        requires size_bound { self.size + 416 ≤ room }
-        ensures { Grew (lines (last + 1) (section_of lengths)) 416 self result }
+        requires size_bound { self.old.size + 416 ≤ room }
+        ensures { Grew (lines (last + 1) (section_of lengths.now)) 416 self.old self.new }
     {
-        let mut text = self;
-        let mut n: u8 = 0;
-        while n <= last {
-            text = text.section_of(n, lengths);
-            n += 1;
+        for n in 0..last + 1 {
+            self.section_of(n, lengths);
         }
-        text
     }
 
     // A line for each number that lacks, rising.
-    fn missing_lines(self, last: u8, lengths: [u16; 16]) -> Text
+    fn missing_lines(&mut self, last: u8, lengths: &[u16; section::SECTIONS])
         requires last_bound { last ≤ 15 }
-        requires size_bound { self.size + 224 ≤ room }
-        ensures { Grew (lines (last + 1) (missing_of lengths)) 224 self result }
+        requires size_bound { self.old.size + 224 ≤ room }
+        ensures { Grew (lines (last + 1) (missing_of lengths.now)) 224 self.old self.new }
     {
-        let mut text = self;
-        let mut n: u8 = 0;
-        while n <= last {
-            text = text.missing_of(n, lengths);
-            n += 1;
+        for n in 0..last + 1 {
+            self.missing_of(n, lengths);
         }
-        text
-    }
-    // What the listing ends with: that the table is complete, or the numbers that lack.
-    fn end_lines(self, last: u8, lengths: [u16; 16]) -> Text
-        requires last_bound { last ≤ 15 }
-        requires size_bound { self.size + 224 ≤ room }
-        ensures { Grew (end_of last lengths) 224 self result }
-    {
-        if all_held(last, lengths) {
-            return self.complete_line();
-        }
-        self.missing_lines(last, lengths)
     }
 
-    fn table(self, h: Header, lengths: [u16; 16]) -> Text
-        requires last_bound { h.last ≤ 15 }
-        requires size_bound { self.size + 718 ≤ room }
-        ensures { Grew (table_text h lengths) 718 self result }
+    // What the listing ends with: that the table is complete, or the numbers that lack.
+    fn end_lines(&mut self, last: u8, lengths: &[u16; section::SECTIONS])
+        requires last_bound { last ≤ 15 }
+        requires size_bound { self.old.size + 224 ≤ room }
+        ensures { Grew (end_of last lengths.now) 224 self.old self.new }
     {
-        let last = h.last;
-        let head = self.head_line(h);
-        let sections = head.section_lines(last, lengths);
-        sections.end_lines(last, lengths)
+        if all_held(last, lengths) {
+            self.complete_line();
+        } else {
+            self.missing_lines(last, lengths);
+        }
+    }
+
+    fn table(&mut self, h: Header, lengths: &[u16; section::SECTIONS])
+        requires last_bound { h.last ≤ 15 }
+        requires size_bound { self.old.size + 718 ≤ room }
+        ensures { Grew (table_text h lengths.now) 718 self.old self.new }
+    {
+        self.head_line(h);
+        self.section_lines(h.last, lengths);
+        self.end_lines(h.last, lengths);
     }
 }
 
 // Every number from 0 to the last is held.
-fn all_held(last: u8, lengths: [u16; 16]) -> bool
+fn all_held(last: u8, lengths: &[u16; section::SECTIONS]) -> bool
     requires { last ≤ 15 }
-    ensures { result ≡ every (last + 1) (found_at lengths) }
+    ensures { result ≡ every (last + 1) (found_at lengths.now) }
 {
     let mut all = true;
-    let mut number: u8 = 0;
-    while number <= last {
-        let at = number as usize;
-        all = all & (lengths[at] != 0);
-        number += 1;
+    for number in 0..last + 1 {
+        all &= lengths[usize::from(number)] != 0;
     }
     all
 }
+
 // The whole text for a file.
 fn text_for(file: &[u8]) -> Text
     ensures { Grew (text_of file.now) 718 empty result }
 {
-    let text = Text::empty();
+    let mut text = Text::empty();
     match file::read_file(file) {
-        Ok(table) => text.table(table.header, table.lengths),
+        Ok(table) => text.table(table.header, &table.lengths),
         Err(refusal) => text.refused_line(u8::from(refusal)),
     }
-}
-
-// Bytes at the front of a buffer that has room for them; those past them stay as they were.
-fn copy(from: &[u8], to: &mut [u8])
-    requires { length from.now ≤ length to.old }
-    ensures { to.new ≡ from.now ++ drop (length from.now) to.old }
-{
-    to[..from.len()].copy_from_slice(from);
+    text
 }
 
 // The listing of a file, at the front of the output; 15 where it does not fit.
@@ -287,12 +245,11 @@ pub fn list_file(file: &[u8], out: &mut [u8]) -> Result<usize, Refusal>
     ensures { listing result out.new ≡ list_of file.now out.old }
 {
     let text = text_for(file);
-    let bytes = text.bytes;
     let size = text.size;
     if out.len() < size {
         return Err(Refusal::OutputTooSmall);
     }
-    copy(&bytes[..size], out);
+    out[..size].copy_from_slice(&text.bytes[..size]);
     Ok(size)
 }
 

@@ -1,8 +1,6 @@
 -- `file_listing::list_file` meets its promise: the text is copied to the front of the output where it fits.
-use mathlib.Core.Path.{◌≡◌, sym, ap, ◌∙◌}
-use mathlib.Core.List.{◌++◌}
-use lib.ListN.{length, take, drop}
-use lib.Seq.{take-length}
+use mathlib.Core.Path.{◌≡◌}
+use lib.ListN.{length}
 use borrow.Author.Rules.{rules}
 use Rattle.file_listing.proofs.Whole.{too_small, fits}
 use Rattle.file_listing.proofs.list_file.Goals as goal
@@ -15,5 +13,4 @@ returns-then-out-size c =
 pub returns : goal.returns
 returns c =
     let long : length c.text_for-text.result.bytes ≡ 718 = search rules in
-    fits _ _ _ long c.text_for-text.ensures c.if-out-size.false _
-    (c.copy.ensures ∙ ap (λ w. w ++ drop (length (take c.text_for-text.result.size c.text_for-text.result.bytes)) c.args.out.now) (sym (take-length _)))
+    fits _ _ _ long c.text_for-text.ensures c.if-out-size.false c.copy_from_slice.ensures.after

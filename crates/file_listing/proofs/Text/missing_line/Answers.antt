@@ -5,4 +5,4 @@ use Rattle.file_listing.proofs.Text.missing_line.Goals as goal
 
 pub returns : goal.returns
 unfolding missing_line
-returns c = then c.field-missing.ensures c.byte.ensures
+returns c = then (rw c.from.ensures at c.field.ensures) c.byte.ensures

@@ -1,10 +1,13 @@
 -- `Text::missing_lines` meets its promise: the loop keeps that the lines below `n` are written, each in 14 bytes at most.
 use native.Mathlib.Omega.{arith}
-use Rattle.file_listing.proofs.Lines.{no_line, one_more}
+use Rattle.file_listing.proofs.Lines.{no_line, one_more, all_lines}
 use Rattle.file_listing.proofs.Text.missing_lines.Goals as goal
 
 pub loop-n-init : goal.loop-n-init
-loop-n-init c = (omega arith, no_line _ 14 _)
+loop-n-init c = no_line _ 14 _
 
 pub loop-n-preserved : goal.loop-n-preserved
-loop-n-preserved c = (omega arith, one_more _ 14 _ _ c.loop-n.invariant.1 c.missing_of-text.ensures)
+loop-n-preserved c = one_more _ 14 _ _ c.loop-n.invariant c.missing_of.ensures
+
+pub returns : goal.returns
+returns c = all_lines _ 14 _ _ _ _ (omega arith) (omega arith) c.loop-n.invariant

@@ -1,15 +1,9 @@
 -- `Text::place` meets its promise.
-use mathlib.Core.Path.{◌≡◌}
-use native.Mathlib.Omega.{arith}
-use lib.ListN.{length}
-use borrow.Author.Rules.{rules}
-use Rattle.file_listing.proofs.Growing.{not-reached, reached, one}
+use Rattle.file_listing.proofs.Growing.{not-reached, reached}
 use Rattle.file_listing.proofs.Text.place.Goals as goal
 
-pub returns-then-n-power : goal.returns-then-n-power
-returns-then-n-power c = not-reached _ _ _ c.if-n-power.true
+pub returns-then-power-n : goal.returns-then-power-n
+returns-then-power-n c = reached _ _ _ _ c.if-power-n.true c.byte.ensures
 
-pub returns : goal.returns
-returns c =
-    let long : length c.args.self.bytes ≡ 718 = search rules in
-    reached _ _ _ _ c.if-n-power.false (one _ _ (omega (arith, long)))
+pub returns-else-power-n : goal.returns-else-power-n
+returns-else-power-n c = not-reached _ _ _ c.if-power-n.false

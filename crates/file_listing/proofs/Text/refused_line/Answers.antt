@@ -5,4 +5,4 @@ use Rattle.file_listing.proofs.Text.refused_line.Goals as goal
 
 pub returns : goal.returns
 unfolding refused_line
-returns c = then (rw c.from.ensures at c.field-refused.ensures) c.byte.ensures
+returns c = then (rw c.from.ensures at c.field.ensures) c.byte.ensures

@@ -5,4 +5,4 @@ use Rattle.file_listing.proofs.Text.section_line.Goals as goal
 
 pub returns : goal.returns
 unfolding section_line
-returns c = then c.field-section.ensures (then c.field-bytes.ensures c.byte.ensures)
+returns c = then (rw c.from.ensures at c.field.ensures) (then c.field-2.ensures c.byte.ensures)

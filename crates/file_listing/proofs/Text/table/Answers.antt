@@ -5,4 +5,4 @@ use Rattle.file_listing.proofs.Text.table.Goals as goal
 
 pub returns : goal.returns
 unfolding table_text
-returns c = then c.head_line-head.ensures (then c.section_lines-sections.ensures c.end_lines.ensures)
+returns c = then c.head_line.ensures (then c.section_lines.ensures c.end_lines.ensures)
