@@ -3,7 +3,7 @@
 --   list-told        what listing promised, told in this number
 use mathlib.Core.Path.{◌≡◌, refl, sym, ap, ◌∙◌}
 use mathlib.Core.List.{List}
-use Prim.Native.Nat.{ℕ, ◌*◌, ◌%◌, ◌^◌, ◌<◌, ◌≤◌}
+use Prim.Native.Nat.{ℕ, ◌%◌, ◌^◌, ◌<◌, ◌≤◌}
 use native.Mathlib.Omega.{arith}
 use lib.Dec.{ltb}
 use lib.ListN.{length}
@@ -57,7 +57,3 @@ module _ (file old : List ℕ) where
 pub list-told : (file o o' : List ℕ) (r : Result ℕ Refusal) (code : ℕ) → listing r o' ≡ list_of file o → code ≡ listed_code r → out code o' ≡ list_lent file o
 unfolding list_lent
 list-told file o o' r code e q = ap (λ n. out n o') q ∙ ap list_out e
-
--- a size in an answer fits 64 bits
-pub told-fits : (r : Result ℕ Refusal) (n : ℕ) → n ≤ 327768 → 256 * n < 2 ^ 64
-told-fits r n l = omega arith

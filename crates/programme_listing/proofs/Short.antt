@@ -15,11 +15,11 @@ use Rattle.base.proofs.Bytes.{length_part}
 use Rattle.base.proofs.Cases.{by}
 use Rattle.section.specs.declared.Header.{Header}
 use Rattle.file.specs.Scan.{scan_of}
+use Rattle.file.specs.declared.Table.{Table}
 use Rattle.std.specs.Prelude.{Result, Ok, Err}
-use Rattle.refusal.specs.Refusal.{number}
 use Rattle.refusal.specs.declared.Refusal.{Refusal}
 use Rattle.refusal.specs.declared.Refusal.TheVariants.{OutputTooSmall}
-use Rattle.file.specs.declared.Table.{Table}
+use Rattle.refusal.specs.Refusal.{number}
 use Rattle.file.proofs.Held.{held}
 use Rattle.file_listing.specs.Words.{lines}
 use Rattle.file_listing.specs.Listing.{head_line, missing_line, missing_of, refused_line}
@@ -107,10 +107,8 @@ unfolding list_of
 listed-within file old n after e =
     by (ltb (length old) (length (text_of file)))
     (λ t.
-    absurd
-    (let q : ◌≡◌ {A = Result ℕ Refusal} (Ok n) (Err OutputTooSmall) = ap (λ l. l.said) (rw t at e) in
-    let z : ◌≡◌ {A = ℕ} 0 1 = cc in
-    omega arith))
+    let q : ◌≡◌ {A = Result ℕ Refusal} (Ok n) (Err OutputTooSmall) = ap (λ l. l.said) (rw t at e) in
+    cc)
     (λ f.
     let q : ◌≡◌ {A = Result ℕ Refusal} (Ok n) (Ok (length (text_of file))) = ap (λ l. l.said) (rw f at e) in
     let z : n ≡ length (text_of file) = cc in

@@ -15,12 +15,12 @@ use borrow.Author.Tests.{eq-eqb, ne_eqb, lt-ltb, le-ltb}
 use Rattle.base.specs.Below.{every}
 use Rattle.section.specs.declared.Header.{Header}
 use Rattle.file.specs.Scan.{scan_of}
+use Rattle.file.specs.declared.Table.{Table}
 use Rattle.std.specs.Prelude.{Ok, Err}
-use Rattle.refusal.specs.Refusal.{number}
 use Rattle.refusal.specs.declared.Refusal.{Refusal}
 use Rattle.refusal.specs.declared.Refusal.TheVariants.{OutputTooSmall}
+use Rattle.refusal.specs.Refusal.{number}
 use Rattle.refusal.proofs.Numbers.{in_byte}
-use Rattle.file.specs.declared.Table.{Table}
 use Rattle.file.proofs.Held.{held}
 use Rattle.file_listing.specs.Words.{lines, newline}
 use Rattle.file_listing.specs.Listing.{head_line, missing_of, refused_line}
@@ -58,21 +58,23 @@ module _ (file starts lengths : List ℕ) {out after : List ℕ} {at end : ℕ} 
     no-list d w = rw (ne_eqb h.key.table 223 d) (then v w)
 
 module _ (file : List ℕ) {out after : List ℕ} {end : ℕ} where
-  pub refused-text : (r : Refusal) (n : ℕ) → n ≡ number r → Err r ≡ scan_of file → Wrote (field "refused " n ++ newline) out 0 after end → Wrote (text_of file) out 0 after end
+  pub refused-text : (refusal : Refusal) → Err refusal ≡ scan_of file → {n : ℕ} → n ≡ number refusal → Wrote (field "refused " n ++ newline) out 0 after end
+      → Wrote (text_of file) out 0 after end
   unfolding text_of refused_line
-  refused-text r n q e w =
-      let low : n < 256 = rw q (in_byte r).1 in
-      rw (← e, ← q, ← same-decimal n (omega arith)) w
+  refused-text refusal e {n = n} q w =
+      let l : number refusal < 256 = (in_byte refusal).1 in
+      let v = rw q at w in
+      rw (← e, ← same-decimal (number refusal) (omega arith)) v
 
-  pub table-text : (t : Table) → Ok t ≡ scan_of file → Wrote (table_text file t.starts t.lengths t.header) out 0 after end
+  pub table-text : (table : Table) → Ok table ≡ scan_of file → Wrote (table_text file table.starts table.lengths table.header) out 0 after end
       → Wrote (text_of file) out 0 after end
   unfolding text_of
-  table-text t e w = rw (← e) w
+  table-text table e w = rw (← e) w
 
 -- a section that is held lies in the file; one that lacks has no bytes, and its place is 0
-pub lies : (file : List ℕ) (t : Table) → Ok t ≡ scan_of file → AllInside t.header.last file t.starts t.lengths
-lies file t e =
-    let g = held file t (sym e) in
+pub lies : (file : List ℕ) (table : Table) → Ok table ≡ scan_of file → AllInside table.header.last file table.starts table.lengths
+lies file table e =
+    let g = held file table (sym e) in
     record {
       few = g.last;
       each = λ n l d. ⊎_elim (λ z. absurd (d z)) (λ w. w.inside) (g.each n);

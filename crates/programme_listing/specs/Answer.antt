@@ -1,9 +1,9 @@
 -- The number and the values of the answer to listing a programme list, in the number that crosses the boundary, and what is so of it.
 use Rattle.std.specs.Prelude.{ℕ, ◌*◌, List, Result, Ok, Err}
-use Rattle.refusal.specs.Refusal.{number, refusal_of}
-use Rattle.refusal.specs.declared.Refusal.{Refusal}
 use Rattle.answers.specs.Answers.{Out, out, size_or}
 use Rattle.programme_listing.specs.Listing.{Listing, list_of}
+use Rattle.refusal.specs.Refusal.{number, refusal_of}
+use Rattle.refusal.specs.declared.Refusal.{Refusal}
 
 -- a size from bit 8 up, in the 56 bits above: the text may have more than 65,535 bytes
 abbrev pub long_code : ℕ → ℕ

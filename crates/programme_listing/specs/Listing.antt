@@ -1,14 +1,14 @@
 -- The text for staff: what a programme list holds.
 use Rattle.std.specs.Prelude.{ℕ, ◌+◌, Bool, true, false, ◌&&◌, List, [], ◌∷◌, ◌++◌, ltb, eqb, length, get_or, drop, if◌then◌else◌, Result, Ok, Err}
-use Rattle.refusal.specs.Refusal.{number}
-use Rattle.refusal.specs.declared.Refusal.{Refusal}
-use Rattle.refusal.specs.declared.Refusal.TheVariants.{OutputTooSmall}
 use Rattle.base.specs.Choice.{◌if◌, first}
 use Rattle.base.specs.Below.{every}
 use Rattle.base.specs.Bytes.{part}
 use Rattle.section.specs.declared.Header.{Header}
 use Rattle.file.specs.Scan.{scan_of, found_at}
 use Rattle.file.specs.declared.Table.{Table}
+use Rattle.refusal.specs.Refusal.{number}
+use Rattle.refusal.specs.declared.Refusal.{Refusal}
+use Rattle.refusal.specs.declared.Refusal.TheVariants.{OutputTooSmall}
 use Rattle.file_listing.specs.Words.{lines}
 use Rattle.file_listing.specs.Listing.{head_line, missing_of, refused_line}
 use Rattle.programme.specs.Table.{nrt_it}
@@ -47,7 +47,6 @@ module _ (file starts lengths : List ℕ) where
 abbrev pub answer_text : List ℕ → Result Table Refusal → List ℕ
 answer_text file (Ok table) = table_text file table.starts table.lengths table.header
 answer_text file (Err r) = refused_line (number r)
-
 
 -- the text for a file
 unfoldable pub text_of : List ℕ → List ℕ

@@ -1,9 +1,9 @@
 -- What is so of listing a programme list.
 use Rattle.std.specs.Prelude.{ℕ, ◌≤◌, ◌≡◌, List, ◌++◌, ◌↔◌, length, drop, Result, Ok}
-use Rattle.refusal.specs.declared.Refusal.{Refusal}
 use Rattle.answers.specs.Answers.{Out, refusal_in, size_in}
 use Rattle.programme_listing.specs.Listing.{text_of, listing, list_of}
 use Rattle.programme_listing.specs.Answer.{listed_in, list_lent}
+use Rattle.refusal.specs.declared.Refusal.{Refusal}
 
 -- a room for any text: a first line of at most 78 bytes, at most 20 bytes for each byte of sixteen sections of 1,024, and a last line of 10
 abbrev pub room : ℕ

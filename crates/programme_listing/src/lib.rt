@@ -12,84 +12,64 @@ ghost use Rattle.programme_listing.specs.Inside.{Inside, AllInside};
 ghost use Rattle.programme_listing.specs.Answer.{list_lent};
 ghost use Rattle.programme_listing.specs.Listing.{section_of, whole_at, end_line, list_text, table_text, text_of, listing, list_of};
 
+use file::Table;
 use programme_section::Done;
 use refusal::Refusal;
-use section::Header;
 
 // An output of so many bytes is never too small: 78 of the first line, 20 for each byte of sixteen sections of 1,024, and 10 of the last.
 pub const ROOM: usize = 327768;
 
 // Section n, where the file holds it.
-fn section_of(
-    out: &mut [u8],
-    at: usize,
-    n: u8,
-    file: &[u8],
-    starts: [usize; 16],
-    lengths: [u16; 16],
-) -> Done
-    requires { Inside n file.now starts lengths }
-    ensures wrote { Wrote (section_of file.now starts lengths n) out.old at out.new result.at }
-    ensures whole_value { result.whole ≡ whole_at file.now starts lengths n }
+fn section_of(out: &mut [u8], at: usize, n: u8, file: &[u8], table: &Table) -> Done
+    requires { Inside n file.now table.now.starts table.now.lengths }
+    ensures wrote { Wrote (section_of file.now table.now.starts table.now.lengths n) out.old at out.new result.at }
+    ensures whole_value { result.whole ≡ whole_at file.now table.now.starts table.now.lengths n }
 {
-    let i = n as usize;
-    let length = lengths[i];
+    let i = usize::from(n);
+    let length = table.lengths[i];
     if length == 0 {
         return Done { at, whole: false };
     }
-    let from = starts[i];
+    let from = table.starts[i];
     let to = from + usize::from(length);
     programme_section::section(out, at, n, &file[from..to])
 }
 
 // The sections that the file holds, by rising number.
-fn sections(
-    out: &mut [u8],
-    at: usize,
-    last: u8,
-    file: &[u8],
-    starts: [usize; 16],
-    lengths: [u16; 16],
-) -> Done
-    requires { AllInside last file.now starts lengths }
-    ensures wrote { Wrote (lines (last + 1) (section_of file.now starts lengths)) out.old at out.new result.at }
-    ensures whole_value { result.whole ≡ every (last + 1) (whole_at file.now starts lengths) }
+fn sections(out: &mut [u8], at: usize, file: &[u8], table: &Table) -> Done
+    requires { AllInside table.now.header.last file.now table.now.starts table.now.lengths }
+    ensures wrote { Wrote (lines (table.now.header.last + 1) (section_of file.now table.now.starts table.now.lengths)) out.old at out.new result.at }
+    ensures whole_value { result.whole ≡ every (table.now.header.last + 1) (whole_at file.now table.now.starts table.now.lengths) }
 {
     let mut end = at;
     let mut whole = true;
-    let mut n: u8 = 0;
-    while n <= last {
-        let done = section_of(out, end, n, file, starts, lengths);
+    for n in 0..table.header.last + 1 {
+        let done = section_of(out, end, n, file, table);
         end = done.at;
-        whole = whole & done.whole;
-        n += 1;
+        whole &= done.whole;
     }
     Done { at: end, whole }
 }
 
 // The line of a number that the file lacks.
-fn missing_of(out: &mut [u8], at: usize, n: u8, lengths: [u16; 16]) -> usize
+fn missing_of(out: &mut [u8], at: usize, n: u8, table: &Table) -> usize
     requires { n < 16 }
-    ensures { Wrote (missing_of lengths n) out.old at out.new result }
+    ensures { Wrote (missing_of table.now.lengths n) out.old at out.new result }
 {
-    let i = n as usize;
-    let length = lengths[i];
-    if length == 0 {
-        return text::line(out, at, b"missing ", n as u64);
+    if table.lengths[usize::from(n)] == 0 {
+        return text::line(out, at, b"missing ", u64::from(n));
     }
     at
 }
 
 // A line for each number that the file lacks, rising.
-fn missing_lines(out: &mut [u8], at: usize, last: u8, lengths: [u16; 16]) -> usize
-    requires { last ≤ 15 }
-    ensures { Wrote (lines (last + 1) (missing_of lengths)) out.old at out.new result }
+fn missing_lines(out: &mut [u8], at: usize, table: &Table) -> usize
+    requires { table.now.header.last ≤ 15 }
+    ensures { Wrote (lines (table.now.header.last + 1) (missing_of table.now.lengths)) out.old at out.new result }
 {
     let mut end = at;
-    let mut k: u8 = 0;
-    while k <= last {
-        end = missing_of(out, end, k, lengths);
-        k += 1;
+    for k in 0..table.header.last + 1 {
+        end = missing_of(out, end, k, table);
     }
     end
 }
@@ -105,36 +85,22 @@ fn end_line(out: &mut [u8], at: usize, whole: bool) -> usize
 }
 
 // The text of a programme list behind its first line.
-fn list_text(
-    out: &mut [u8],
-    at: usize,
-    last: u8,
-    file: &[u8],
-    starts: [usize; 16],
-    lengths: [u16; 16],
-) -> usize
-    requires { AllInside last file.now starts lengths }
-    ensures { Wrote (list_text file.now starts lengths last) out.old at out.new result }
+fn list_text(out: &mut [u8], at: usize, file: &[u8], table: &Table) -> usize
+    requires { AllInside table.now.header.last file.now table.now.starts table.now.lengths }
+    ensures { Wrote (list_text file.now table.now.starts table.now.lengths table.now.header.last) out.old at out.new result }
 {
-    let done = sections(out, at, last, file, starts, lengths);
-    let missing = missing_lines(out, done.at, last, lengths);
+    let done = sections(out, at, file, table);
+    let missing = missing_lines(out, done.at, table);
     end_line(out, missing, done.whole)
 }
 
-fn table_text(
-    out: &mut [u8],
-    at: usize,
-    h: Header,
-    file: &[u8],
-    starts: [usize; 16],
-    lengths: [u16; 16],
-) -> usize
-    requires { AllInside h.last file.now starts lengths }
-    ensures { Wrote (table_text file.now starts lengths h) out.old at out.new result }
+fn table_text(out: &mut [u8], at: usize, file: &[u8], table: &Table) -> usize
+    requires { AllInside table.now.header.last file.now table.now.starts table.now.lengths }
+    ensures { Wrote (table_text file.now table.now.starts table.now.lengths table.now.header) out.old at out.new result }
 {
-    let head = programme_lines::head_line(out, at, h);
-    if h.key.table == key::NRT_IT {
-        return list_text(out, head, h.last, file, starts, lengths);
+    let head = programme_lines::head_line(out, at, table.header);
+    if table.header.key.table == key::NRT_IT {
+        return list_text(out, head, file, table);
     }
     text::word(out, head, b"no programme list\n")
 }
@@ -144,19 +110,12 @@ fn text_for(out: &mut [u8], file: &[u8]) -> usize
     ensures { Wrote (text_of file.now) out.old 0 out.new result }
 {
     match file::read_file(file) {
-        Ok(table) => table_text(
-            out,
-            0,
-            table.header,
-            file,
-            table.starts,
-            table.lengths,
-        ),
+        Ok(table) => table_text(out, 0, file, &table),
         Err(refusal) => text::line(out, 0, b"refused ", u64::from(u8::from(refusal))),
     }
 }
 
-// The text for a file, at the front of the output, and its size; 15 where it does not fit.
+// The text for a file, at the front of the output; 15 where it does not fit.
 pub fn list_programmes(file: &[u8], out: &mut [u8]) -> Result<usize, Refusal>
     ensures { listing result out.new ≡ list_of file.now out.old }
 {

@@ -16,20 +16,20 @@ use Rattle.base.proofs.Cases.{by}
 use Rattle.key.specs.declared.Key.{Key}
 use Rattle.section.specs.declared.Header.{Header}
 use Rattle.file.specs.Scan.{scan_of, found_at}
-use Rattle.file.specs.declared.Scan.{Scan}
+use Rattle.file.specs.declared.Table.{Table}
 use Rattle.file_listing.specs.Words as words
 use Rattle.file_listing.specs.Words.{ascii, newline, lines}
 use Rattle.file_listing.specs.Listing.{added_words, head_line, missing_line, missing_of, refused_line}
 use Rattle.text.specs.Words.{field}
 use Rattle.text.proofs.Clean.{Plain, plain-join, plain_word, good, all-good, plain-decimal, plain-lister, plain-long, plain-escaped}
 use Rattle.programme.specs.Table.{nrt_it}
-use Rattle.programme.specs.Reading.{read_of, step_of, own_of}
+use Rattle.programme.specs.Reading.{Reading, Step, Own, read_of, step_of, own_of}
+use Rattle.std.specs.Prelude.{Result, Ok, Err, Some, None}
+use Rattle.refusal.specs.declared.Refusal.{Refusal}
+use Rattle.refusal.specs.Refusal.{number}
 use Rattle.programme.specs.declared.Programme.{Programme}
 use Rattle.programme.specs.declared.Loop.{Loop}
 use Rattle.programme.specs.declared.Item.{Item}
-use Rattle.programme.specs.declared.Reading.{Reading}
-use Rattle.programme.specs.declared.Step.{Step}
-use Rattle.programme.specs.declared.Own.{Own}
 use Rattle.programme_lines.specs.Lines.{refused_at, programme_line, item_line, flags_line, playback_line, delay_line, expires_line, size_line, name_line, descriptors_line, list_line, item_text}
 use Rattle.programme_lines.specs.Lines.{other_line, whole_line, not_whole_line}
 use Rattle.programme_section.specs.Section.{own_place, own_text, step_text, items_text, read_text, section_text}
@@ -75,9 +75,9 @@ refused : (n : ℕ) → Plain (refused_line n)
 unfolding refused_line all-good good
 refused n = plain-join (listed "refused " n refl) ended
 
-refused-at : (n m at : ℕ) → Plain (refused_at n m at)
+refused-at : (n : ℕ) (m : Refusal) (at : ℕ) → Plain (refused_at n m at)
 unfolding refused_at all-good good
-refused-at n m at = plain-join (one "section " n refl) (plain-join (one " refused " m refl) (plain-join (one " place " at refl) ended))
+refused-at n m at = plain-join (one "section " n refl) (plain-join (one " refused " (number m) refl) (plain-join (one " place " at refl) ended))
 
 programme : (n : ℕ) (p : Programme) → Plain (programme_line n p)
 unfolding programme_line all-good good
@@ -137,13 +137,13 @@ item bytes o k i =
 
 module _ (n : ℕ) (s : List ℕ) (o : Octets s) where
   own : (at : ℕ) (x : Own) → Plain (own_text n s at x)
-  own at (Own.Loop l) = list-line l
-  own at (Own.Refused m) = refused-at n m (own_place n s at m)
+  own at (Ok l) = list-line l
+  own at (Err m) = refused-at n m (own_place n s at m)
 
   step : (k at : ℕ) (x : Step) (follow : ℕ → List ℕ) → ((to : ℕ) → Plain (follow to)) → Plain (step_text n s k at x follow)
-  step k at (Step.Item i) follow p = plain-join (item (part s i.nameat i.named) (octets-part s i.nameat i.named o) k i) (p i.next)
-  step k at (Step.Refused m) follow p = refused-at n m at
-  step k at Step.Over follow p = none
+  step k at (Ok (Some i)) follow p = plain-join (item (part s i.nameat i.named) (octets-part s i.nameat i.named o) k i) (p i.next)
+  step k at (Err m) follow p = refused-at n m at
+  step k at (Ok None) follow p = none
 
   items : (left k at : ℕ) → Plain (items_text n s left k at)
   unfolding items_text
@@ -151,8 +151,8 @@ module _ (n : ℕ) (s : List ℕ) (o : Octets s) where
   items (suc left) k at = step k at (step_of s at k) (items_text n s left (k + 1)) (items left (k + 1))
 
   read : (r : Reading) → Plain (read_text n s r)
-  read (Reading.Refused m) = refused-at n m 8
-  read (Reading.Programme p) = plain-join (programme n p) (items p.items 0 17)
+  read (Err m) = refused-at n m 8
+  read (Ok p) = plain-join (programme n p) (items p.items 0 17)
 
   section : Plain (section_text n s)
   unfolding section_text
@@ -193,10 +193,10 @@ module _ (file starts lengths : List ℕ) (o : Octets file) where
       (λ t. rw t (plain-join (head h) (list h.last)))
       (λ f. rw f (plain-join (head h) (plain_word other_line refl)))
 
-  answer : (a : Scan) → Plain (answer_text file starts lengths a)
-  answer (Scan.Refused n) = refused n
-  answer (Scan.Table h) = table h
+answer : (file : List ℕ) → Octets file → (a : Result Table Refusal) → Plain (answer_text file a)
+answer file o (Ok t) = table file t.starts t.lengths o t.header
+answer file o (Err r) = refused (number r)
 
 pub text_clean : (file : List ℕ) → TextClean file
 unfolding text_of
-text_clean file o = (answer file (scan_of file).starts (scan_of file).lengths o (scan_of file).answer).each
+text_clean file o = (answer file o (scan_of file)).each

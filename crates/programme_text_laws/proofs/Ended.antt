@@ -12,13 +12,13 @@ use Rattle.file_listing.specs.Words as words
 use Rattle.file_listing.specs.Words.{newline, lines}
 use Rattle.file_listing.specs.Listing.{added_words, head_line, missing_line, missing_of}
 use Rattle.text.specs.Words.{field}
-use Rattle.programme.specs.Reading.{read_of, step_of, own_of}
+use Rattle.programme.specs.Reading.{Reading, Step, Own, read_of, step_of, own_of}
+use Rattle.std.specs.Prelude.{Ok, Err, Some, None}
+use Rattle.refusal.specs.declared.Refusal.{Refusal}
+use Rattle.refusal.specs.Refusal.{number}
 use Rattle.programme.specs.declared.Programme.{Programme}
 use Rattle.programme.specs.declared.Loop.{Loop}
 use Rattle.programme.specs.declared.Item.{Item}
-use Rattle.programme.specs.declared.Reading.{Reading}
-use Rattle.programme.specs.declared.Step.{Step}
-use Rattle.programme.specs.declared.Own.{Own}
 use Rattle.programme_lines.specs.Lines.{refused_at, programme_line, item_line, flags_line, included_lines, name_line, descriptors_line, list_line, item_text}
 use Rattle.programme_section.specs.Section.{own_place, own_text, step_text, items_text, read_text, section_text}
 use Rattle.programme_listing.specs.Listing.{payload_of, section_of}
@@ -64,9 +64,9 @@ missing : (n : ℕ) → Line (missing_line n)
 unfolding missing_line
 missing n = front (words.field "missing " n) new
 
-refused-at : (n m at : ℕ) → Line (refused_at n m at)
+refused-at : (n : ℕ) (m : Refusal) (at : ℕ) → Line (refused_at n m at)
 unfolding refused_at
-refused-at n m at = front (field "section " n) (front (field " refused " m) (front (field " place " at) new))
+refused-at n m at = front (field "section " n) (front (field " refused " (number m)) (front (field " place " at) new))
 
 programme : (n : ℕ) (p : Programme) → Line (programme_line n p)
 unfolding programme_line
@@ -91,14 +91,14 @@ item name k i =
 
 module _ (n : ℕ) (s : List ℕ) where
   own : (at : ℕ) (x : Own) → Ends (own_text n s at x)
-  own at (Own.Loop l) = line (list-line l)
-  own at (Own.Refused m) = line (refused-at n m (own_place n s at m))
+  own at (Ok l) = line (list-line l)
+  own at (Err m) = line (refused-at n m (own_place n s at m))
 
   step : (k at : ℕ) (x : Step) (follow : ℕ → List ℕ) → ((to : ℕ) → Ends (follow to)) → Ends (step_text n s k at x follow)
-  step k at (Step.Item i) follow p =
+  step k at (Ok (Some i)) follow p =
       join (item_text (part s i.nameat i.named) k i) (follow i.next) (line (item (part s i.nameat i.named) k i)) (p i.next)
-  step k at (Step.Refused m) follow p = line (refused-at n m at)
-  step k at Step.Over follow p = none
+  step k at (Err m) follow p = line (refused-at n m at)
+  step k at (Ok None) follow p = none
 
   items : (left k at : ℕ) → Ends (items_text n s left k at)
   unfolding items_text
@@ -106,8 +106,8 @@ module _ (n : ℕ) (s : List ℕ) where
   items (suc left) k at = step k at (step_of s at k) (items_text n s left (k + 1)) (items left (k + 1))
 
   read : (r : Reading) → Ends (read_text n s r)
-  read (Reading.Refused m) = line (refused-at n m 8)
-  read (Reading.Programme p) = join (programme_line n p) (items_text n s p.items 0 17) (line (programme n p)) (items p.items 0 17)
+  read (Err m) = line (refused-at n m 8)
+  read (Ok p) = join (programme_line n p) (items_text n s p.items 0 17) (line (programme n p)) (items p.items 0 17)
 
   section : Ends (section_text n s)
   unfolding section_text

@@ -3,48 +3,36 @@
 use mathlib.Core.Path.{◌≡◌, refl, sym, ap}
 use mathlib.Core.Bool.{true}
 use mathlib.Core.List.{List, ◌∷◌}
-use mathlib.Core.Logic.{◌↔◌, ⊎_elim}
-use Prim.Native.Nat.{ℕ, zero, suc, ◌+◌, ◌≤◌}
+use mathlib.Core.Logic.{◌↔◌}
+use Prim.Native.Nat.{ℕ, zero, suc, ◌+◌, ◌<◌, ◌≤◌}
 use native.Mathlib.Nat.{zero-add}
 use native.Mathlib.Omega.{arith}
 use Rattle.base.proofs.Cases.{unlike}
 use Rattle.programme.specs.Table.{num_content_items}
-use Rattle.programme.specs.Reading.{read_of, step_of, own_of, programme_of}
+use Rattle.programme.specs.Reading.{Reading, Step, Own, read_of, step_of, own_of, programme_of}
 use Rattle.programme.specs.Answer.{reading_told, own_told}
+use Rattle.std.specs.Prelude.{Ok, Err, Some, None}
+use Rattle.refusal.specs.Refusal.{number}
+use Rattle.refusal.proofs.Numbers.{in_byte}
 use Rattle.programme.specs.declared.Programme.{Programme}
-use Rattle.programme.specs.declared.Reading.{Reading}
-use Rattle.programme.specs.declared.Step.{Step}
-use Rattle.programme.specs.declared.Own.{Own}
 use Rattle.programme.proofs.Items as items
 use Rattle.programme_laws.specs.Walk.{onward, walk, walk_of, reached, Accepted, Unrefused, answers_to}
-use Rattle.section.proofs.ExactlyWhen.{own-bounds}
 use Rattle.programme_laws.proofs.ExactlyWhen as when
 use Rattle.programme_section.specs.Section.{own_read, step_read, items_read, read_read, section_read}
 use Rattle.programme_text_laws.specs.Theorems.{SectionRead}
 
 module _ (s : List ℕ) where
-  -- no refusal's number is 0
-  reading-above : (n : ℕ) → read_of s ≡ Reading.Refused n → 1 ≤ n
-  reading-above n e = ⊎_elim (λ w. (own-bounds n w).0) (⊎_elim (λ q. omega arith) (λ q. omega arith)) (when.read_range s n e)
-
-  step-above : (at k n : ℕ) → step_of s at k ≡ Step.Refused n → 1 ≤ n
-  step-above at k n e = ⊎_elim (λ w. (own-bounds n w).0) (⊎_elim (λ q. omega arith) (λ q. omega arith)) (when.step_range s at k n e)
-
-  own-above : (at n : ℕ) → own_of s at ≡ Own.Refused n → 1 ≤ n
-  own-above at n e =
-      ⊎_elim (λ w. (own-bounds n w).0) (⊎_elim (λ q. omega arith) (⊎_elim (λ q. omega arith) (λ q. omega arith))) (when.own_range s at n e)
-
   -- the table's own loop
   own_exactly : (at : ℕ) → (own_read s (own_of s at) ≡ true) ↔ ((own_told (own_of s at)).number ≡ 0)
   own_exactly at = go (own_of s at) refl
     where
       go : (x : Own) → own_of s at ≡ x → (own_read s x ≡ true) ↔ ((own_told x).number ≡ 0)
-      go (Own.Loop l) e = (λ t. refl, λ z. refl)
-      go (Own.Refused n) e = (λ f. absurd (unlike (sym f)), λ z. absurd (let l : 1 ≤ n = own-above at n e in omega arith))
+      go (Ok l) e = (λ t. refl, λ z. refl)
+      go (Err r) e = (λ f. absurd (unlike (sym f)), λ z. absurd (let l : 0 < number r = (in_byte r).0 in omega arith))
 
-  module _ (p : Programme) (e : read_of s ≡ Reading.Programme p) where
+  module _ (p : Programme) (e : read_of s ≡ Ok p) where
     -- while items are left no step is over
-    not-over : (at k left : ℕ) → k + suc left ≡ p.items → step_of s at k ≡ Step.Over → ⊥
+    not-over : (at k left : ℕ) → k + suc left ≡ p.items → step_of s at k ≡ Ok None → ⊥
     not-over at k left q o =
         let r = (when.read_exactly s p).0 e in
         let many : p.items ≡ (programme_of s).items = ap (λ (x : Programme). x.items) r.1 in
@@ -68,19 +56,19 @@ module _ (s : List ℕ) where
             → (step_read s x (items_read s left (k + 1)) ≡ true)
             ↔ (Accepted (x ∷ onward x (λ next. walk (suc left) s next (k + 1)))
             × ((own_told (own_of s (reached at (x ∷ onward x (λ next. walk (suc left) s next (k + 1)))))).number ≡ 0))
-        go ih (Step.Item i) o = (λ t. let r = (ih i.next).0 t in ((refl, r.0), r.1), λ a. (ih i.next).1 (a.0.1, a.1))
-        go ih (Step.Refused m) o =
-            (λ f. absurd (unlike (sym f)), λ a. absurd (let l : 1 ≤ m = step-above at k m o in let z : m ≡ 0 = a.0.0 in omega arith))
-        go ih Step.Over o = absurd (not-over at k left q o)
+        go ih (Ok (Some i)) o = (λ t. let r = (ih i.next).0 t in ((refl, r.0), r.1), λ a. (ih i.next).1 (a.0.1, a.1))
+        go ih (Err m) o =
+            (λ f. absurd (unlike (sym f)), λ a. absurd (let l : 0 < number m = (in_byte m).0 in let z : number m ≡ 0 = a.0.0 in omega arith))
+        go ih (Ok None) o = absurd (not-over at k left q o)
 
   pub section-read : SectionRead s
   unfolding section_read
   section-read = go (read_of s) refl
     where
       go : (r : Reading) → read_of s ≡ r → (read_read s r ≡ true) ↔ Unrefused (answers_to s)
-      go (Reading.Refused n) e =
-          (λ f. absurd (unlike (sym f)), λ u. absurd (let l : 1 ≤ n = reading-above n e in let z : n ≡ 0 = rw e at u.reading in omega arith))
-      go (Reading.Programme p) e =
+      go (Err r) e =
+          (λ f. absurd (unlike (sym f)), λ u. absurd (let l : 0 < number r = (in_byte r).0 in let z : number r ≡ 0 = rw e at u.reading in omega arith))
+      go (Ok p) e =
           let many : p.items ≡ num_content_items s = ap (λ (x : Programme). x.items) ((when.read_exactly s p).0 e).1 in
           let steps : walk (suc p.items) s 17 0 ≡ walk_of s = ap (λ n. walk n s 17 0) (omega arith) in
           let w = walked p e p.items 0 17 (zero-add p.items) in (

@@ -12,7 +12,8 @@ use Rattle.base.specs.Below.{every}
 use Rattle.base.proofs.Below.{every-all, every-each}
 use Rattle.base.proofs.Cases.{by, and_left, and_right}
 use Rattle.section.specs.declared.Header.{Header}
-use Rattle.file.specs.Scan.{scan_of, found_at}
+use Rattle.file.specs.declared.Table.{Table}
+use Rattle.file.specs.Scan.{found_at}
 use Rattle.file_listing.specs.Words.{lines, newline}
 use Rattle.file_listing.specs.Listing.{head_line, missing_of}
 use Rattle.programme_lines.specs.Lines.{whole_line, not_whole_line}
@@ -42,12 +43,15 @@ behind a b c line l = (
       ∙ sym (append_assoc a (b ++ c) line) ∙ ap (λ t. t ++ line) l.is ∙ append_assoc l.before newline line,
 )
 
-module _ (file : List ℕ) (h : Header) (list : ListFile file h) where
+module _ (file : List ℕ) (table : Table) (list : ListFile file table) where
+  abbrev h : Header
+  h = table.header
+
   abbrev starts : List ℕ
-  starts = (scan_of file).starts
+  starts = table.starts
 
   abbrev lengths : List ℕ
-  lengths = (scan_of file).lengths
+  lengths = table.lengths
 
   abbrev whole : Bool
   whole = every (h.last + 1) (whole_at file starts lengths)
@@ -59,14 +63,14 @@ module _ (file : List ℕ) (h : Header) (list : ListFile file h) where
       (behind (head_line h) (lines (h.last + 1) (section_of file starts lengths)) (lines (h.last + 1) (missing_of lengths)) (end_line whole)
       (before_last file starts lengths h (h.last + 1)))
 
-  each : whole ≡ true → EachRead file h.last
+  each : whole ≡ true → EachRead file table
   unfolding whole_at
   each t n l =
       let both = every-each (whole_at file starts lengths) (h.last + 1) n (omega arith) t in
       let read = and_right (found_at lengths n) (section_read (payload_of file starts lengths n)) both in
       (and_left (found_at lengths n) (section_read (payload_of file starts lengths n)) both, (section-read (payload_of file starts lengths n)).0 read)
 
-  all : EachRead file h.last → whole ≡ true
+  all : EachRead file table → whole ≡ true
   unfolding whole_at
   all e = every-all (whole_at file starts lengths) (h.last + 1) go
     where
@@ -79,14 +83,14 @@ module _ (file : List ℕ) (h : Header) (list : ListFile file h) where
   pub says-not : whole ≡ false → LastLine not_whole_line (text_of file)
   says-not f = rw f at last_line
 
-pub whole_exactly : (file : List ℕ) (h : Header) → WholeExactly file h
-whole_exactly file h list = (
-  λ w. by (whole file h list) (each file h list) (λ f. absurd (apart w (says-not file h list f))),
-  λ e. says-whole file h list (all file h list e),
+pub whole_exactly : (file : List ℕ) (table : Table) → WholeExactly file table
+whole_exactly file table list = (
+  λ w. by (whole file table list) (each file table list) (λ f. absurd (apart w (says-not file table list f))),
+  λ e. says-whole file table list (all file table list e),
 )
 
-pub not_whole_exactly : (file : List ℕ) (h : Header) → NotWholeExactly file h
-not_whole_exactly file h list = (
-  λ w e. apart (says-whole file h list (all file h list e)) w,
-  λ d. by (whole file h list) (λ t. absurd (d (each file h list t))) (says-not file h list),
+pub not_whole_exactly : (file : List ℕ) (table : Table) → NotWholeExactly file table
+not_whole_exactly file table list = (
+  λ w e. apart (says-whole file table list (all file table list e)) w,
+  λ d. by (whole file table list) (λ t. absurd (d (each file table list t))) (says-not file table list),
 )

@@ -1,9 +1,8 @@
 -- What is proved of the text for staff about a file: each statement is a theorem of `proofs/` by the same name in small letters.
-use Rattle.std.specs.Prelude.{ℕ, ◌≤◌, ◌≡◌, true, List, ◌∷◌, ◌++◌, ◌↔◌}
+use Rattle.std.specs.Prelude.{ℕ, ◌≤◌, ◌≡◌, true, List, ◌∷◌, ◌++◌, ◌↔◌, Ok}
 use Rattle.base.specs.Octets.{Octets}
-use Rattle.section.specs.declared.Header.{Header}
 use Rattle.file.specs.Scan.{scan_of, found_at}
-use Rattle.file.specs.declared.Scan.{Scan}
+use Rattle.file.specs.declared.Table.{Table}
 use Rattle.text.specs.Clean.{Clean}
 use Rattle.programme_laws.specs.Walk.{answers_to, Unrefused}
 use Rattle.programme_lines.specs.Lines.{name_line, whole_line, not_whole_line}
@@ -28,31 +27,32 @@ module _ (file : List ℕ) where
   abbrev pub TextClean : Type 0
   TextClean = Octets file → Clean (text_of file)
 
-  -- the file holds section n
-  abbrev pub Held : ℕ → Type 0
-  Held n = found_at (scan_of file).lengths n ≡ true
+  -- of the table that the file is read as:
+  module _ (table : Table) where
+    -- the file holds section n
+    abbrev pub Held : ℕ → Type 0
+    Held n = found_at table.lengths n ≡ true
 
-  -- the bytes of section n
-  abbrev pub payload : ℕ → List ℕ
-  payload n = payload_of file (scan_of file).starts (scan_of file).lengths n
+    -- the bytes of section n
+    abbrev pub payload : ℕ → List ℕ
+    payload n = payload_of file table.starts table.lengths n
 
-  -- section n is read to its end: such a host meets no refusal
-  abbrev pub Read : ℕ → Type 0
-  Read n = Unrefused (answers_to (payload n))
+    -- section n is read to its end: such a host meets no refusal
+    abbrev pub Read : ℕ → Type 0
+    Read n = Unrefused (answers_to (payload n))
 
-  -- every section from 0 to the last is held and read
-  abbrev pub EachRead : ℕ → Type 0
-  EachRead last = (n : ℕ) → n ≤ last → Held n × Read n
+    -- every section from 0 to the last is held and read
+    abbrev pub EachRead : Type 0
+    EachRead = (n : ℕ) → n ≤ table.header.last → Held n × Read n
 
-  -- of a file that is accepted, and whose table id is the NRT-IT's
-  module _ (h : Header) where
+    -- the file is accepted, and its table id is the NRT-IT's
     abbrev pub ListFile : Type 0
-    ListFile = ((scan_of file).answer ≡ Scan.Table h) × (h.key.table ≡ 0xDF)
+    ListFile = (scan_of file ≡ Ok table) × (table.header.key.table ≡ 0xDF)
 
     -- the last line is whole exactly when every section from 0 to the last is held and read to its end,
     abbrev pub WholeExactly : Type 0
-    WholeExactly = ListFile → LastLine whole_line (text_of file) ↔ EachRead h.last
+    WholeExactly = ListFile → LastLine whole_line (text_of file) ↔ EachRead
 
     -- and not whole exactly when that is not so
     abbrev pub NotWholeExactly : Type 0
-    NotWholeExactly = ListFile → LastLine not_whole_line (text_of file) ↔ (¬ EachRead h.last)
+    NotWholeExactly = ListFile → LastLine not_whole_line (text_of file) ↔ (¬ EachRead)

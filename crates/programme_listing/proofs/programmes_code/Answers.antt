@@ -15,4 +15,4 @@ pub returns-in-Ok : goal.returns-in-Ok
 returns-in-Ok c = list-told _ _ _ _ _ c.list_programmes.ensures (sym (ap listed_code c.in-Ok.is))
 
 pub returns-in-Err : goal.returns-in-Err
-returns-in-Err c = list-told _ _ _ _ _ c.list_programmes.ensures (search rules ∙ sym (ap listed_code c.in-Err.is))
+returns-in-Err c = list-told _ _ _ _ _ c.list_programmes.ensures (c.from-in-Err.ensures ∙ c.from.ensures ∙ sym (ap listed_code c.in-Err.is))
