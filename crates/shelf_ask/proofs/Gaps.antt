@@ -5,14 +5,14 @@
 --                         and all below it are
 --   lowest-one            there is one lowest missing number
 --   held-so, lacks-so      the tests say that a section is held, and that it is not
---   gap-complete, gap-incomplete, by_gap    whether a table is complete, by its lowest missing number
+--   gap_here    whether a table is complete, by its lowest missing number
 use mathlib.Core.Path.{◌≡◌, sym, ◌∙◌}
 use mathlib.Core.Bool.{Bool, true, false, not}
 use mathlib.Core.Logic.{◌↔◌}
 use Prim.Native.Nat.{ℕ, ◌+◌, ◌<◌, ◌≤◌}
 use native.Mathlib.Omega.{arith}
 use lib.Dec.{eqb, ltb}
-use borrow.Author.Tests.{eq-eqb, eqb-true, not-true, not-false, ltb-true, ltb-false}
+use borrow.Author.Tests.{eq-eqb, eqb-true, not-true, not-false, lt-ltb, le-ltb, ltb-true, ltb-false}
 use Rattle.base.proofs.Below.{every-all, every-each, lowest-le, lowest-holds, lowest-below}
 use Rattle.base.specs.Tables.{Decides}
 use Rattle.base.proofs.Cases.{by, unlike}
@@ -20,7 +20,9 @@ use Rattle.base.proofs.Tables.{same, not_so}
 use Rattle.shelf.specs.Record.{length_at, holds}
 use Rattle.shelf.specs.Record.{Place}
 use Rattle.shelf.proofs.Words.{Held}
+use Rattle.std.specs.Prelude.{if◌then◌else◌, Some, None}
 use Rattle.shelf_ask.specs.Ask.{complete, lowest_missing}
+use Rattle.shelf_ask.specs.Calls.{found_below}
 
 -- section n is not held
 abbrev pub Lacks : Place → ℕ → Type 0
@@ -66,19 +68,6 @@ module _ (place : Place) where
     λ e. complete-exactly.1 (λ n h. missing-below n (omega arith)),
   )
 
-  pub gap-complete : place.last < lowest_missing place → complete place ≡ true
-  gap-complete h = complete-gapless.1 (omega (arith, missing-most))
-
-  pub gap-incomplete : lowest_missing place ≤ place.last → complete place ≡ false
-  gap-incomplete h =
-      by (complete place) (λ t. absurd (let e : lowest_missing place ≡ place.last + 1 = complete-gapless.0 t in omega arith)) (λ f. f)
-
-  pub by_gap : complete place ≡ ltb place.last (lowest_missing place)
-  by_gap =
-      by (ltb place.last (lowest_missing place))
-      (λ t. gap-complete (ltb-true _ _ t) ∙ sym t)
-      (λ f. gap-incomplete (ltb-false _ _ f) ∙ sym f)
-
   -- the lowest missing number of a table that is not complete
   pub record Lowest (n : ℕ) : Type 0 where
     pub most : n ≤ place.last
@@ -95,6 +84,12 @@ module _ (place : Place) where
       let h : place.last + 1 ≤ lowest_missing place = ltb-false _ _ f in
       let q : lowest_missing place ≡ place.last + 1 = omega (arith, missing-most) in
       absurd (unlike (sym (complete-gapless.1 q) ∙ e)))
+
+  pub gap_here : found_below (place.last + 1) (lowest_missing place) ≡ (if complete place then None else Some (lowest_missing place))
+  gap_here =
+      by (complete place)
+      (λ t. rw (t, complete-gapless.0 t, le-ltb (place.last + 1) (place.last + 1) (omega arith)))
+      (λ f. let m = (missing-lacks f).most in rw (f, lt-ltb (lowest_missing place) (place.last + 1) (omega (arith, m))))
 
   pub lowest-one : (a b : ℕ) → Lowest a → Lowest b → a ≡ b
   lowest-one a b x y =

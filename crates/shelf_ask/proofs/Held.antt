@@ -4,9 +4,9 @@
 --   in-17, in-18, in-14, in_place_lem    the answer of `holding_of`, by what was tested
 --   held                             what is so of a table that is held in place p (`In`)
 --   copy-refused, copy-held          the answer of `copy_of`, by that of `holding_of`; so for `whole_of` and `missing_of`
-use Rattle.std.specs.Prelude.{if◌then◌else◌, Some, None, Result, Ok, Err}
+use Rattle.std.specs.Prelude.{if◌then◌else◌, Option, Some, None, is_some, is_none, Result, Ok, Err}
 use mathlib.Core.Path.{◌≡◌, refl, sym, ap, subst, ◌∙◌}
-use mathlib.Core.Bool.{true, false}
+use mathlib.Core.Bool.{Bool, true, false, not}
 use mathlib.Core.List.{List, [], ◌∷◌, ◌++◌}
 use mathlib.Core.Logic.{⊎_elim}
 use Prim.Native.Nat.{ℕ, ◌<◌, ◌≤◌}
@@ -15,7 +15,8 @@ use lib.Dec.{ltb, eqb}
 use lib.ListN.{length}
 use borrow.Author.Tests.{lt-ltb, le-ltb, le-leb, eq-eqb, ne_eqb, ltb-true, ltb-false}
 use Rattle.base.specs.Choice.{Row, ◌if◌, first}
-use Rattle.base.proofs.Cases.{by, same_or}
+use Rattle.base.proofs.Cases.{by, unlike, same_or}
+use Rattle.base.proofs.Tables.{refuses, passes}
 use Rattle.berth.specs.Berth.{places, sections, berth_size, store_size}
 use Rattle.berth.specs.Calls.{goes_in, copied_in}
 use Rattle.berth.proofs.Steps.{is-berth}
@@ -26,8 +27,7 @@ use Rattle.shelf.proofs.Find.{place-le, place-taken}
 use Rattle.shelf.proofs.Words.{sound-place}
 use Rattle.refusal.specs.declared.Refusal.{Refusal}
 use Rattle.refusal.specs.declared.Refusal.TheVariants.{TableNotHeld, OutputTooSmall, SectionNotHeld, StoreSize, ShelfSpoiled}
-use Rattle.shelf_ask.specs.Ask.{unlent_by, unlent_of, unasked_by, holding_of, uncopied, copy_from, asked, copy, Copy, copy_of, whole_of, missing_of, complete, lowest_missing}
-use Rattle.shelf_ask.proofs.Gaps.{gap-complete, gap-incomplete, by_gap}
+use Rattle.shelf_ask.specs.Ask.{unlent_by, unlent_of, unasked_by, holding_of, uncopied, copy_from, asked, copy, Copy, copy_of, whole_of, missing_of, unasked, complete, lowest_missing}
 
 -- no refusal is an answer
 pub never : {A : Type 0} {r : Refusal} {a : A} → ◌≡◌ {A = Result A Refusal} (Err r) (Ok a) → ⊥
@@ -45,6 +45,17 @@ module _ {A B : Type 0} (refused : Refusal → A) (more : List Row) (other : A) 
   pub past : (rs : List Row) (p q : B) → first Err rs (Ok q) ≡ Ok p → first refused (rs ++ more) other ≡ first refused more other
   past [] p q e = refl
   past (row ∷ rs) p q e = by row.when (λ t. absurd (never (rw t at e))) (λ f. rw f (past rs p q (rw f at e)))
+
+-- whether there is one
+none-here : (b : Bool) (n : ℕ) → is_none (if b then None else Some n) ≡ b
+none-here true n = refl
+none-here false n = refl
+
+pub none_is : (o : Option ℕ) (b : Bool) → is_some o ≡ not b → b ≡ is_none o
+none_is (Some n) true e = absurd (unlike e)
+none_is (Some n) false e = refl
+none_is None true e = refl
+none_is None false e = absurd (unlike (sym e))
 
 -- 17 and 18, as they are found
 module _ (shelf : Shelf) (size : ℕ) where
@@ -216,15 +227,16 @@ module _ (shelf : Shelf) (store : List ℕ) (key : Key) where
         shelf (length store) key p e
         ∙ ap (λ q. Ok (if complete (place_at shelf q) then None else Some (lowest_missing (place_at shelf q)))) at_place
 
-    -- by the first gap
-    pub whole-by-gap : {l n : ℕ} → l ≡ (place_at shelf p).last → n ≡ lowest_missing (place_at shelf p) → Ok (ltb l n) ≡ whole_of shelf store key
-    whole-by-gap e g = rw (e, g) (ap Ok (sym (by_gap (place_at shelf p))) ∙ sym whole-held)
+  pub whole-of-missing : {o : Option ℕ} → Ok o ≡ missing_of shelf store key → Ok (is_none o) ≡ whole_of shelf store key
+  unfolding missing_of whole_of
+  whole-of-missing {o} e =
+      let m = (if complete (asked shelf store key) then None else Some (lowest_missing (asked shelf store key))) in
+      let q : Ok o ≡ Ok m = e ∙ passes (unasked shelf store key) m o Err (Ok m) (sym e) in
+      let same : o ≡ m = cc in
+      ap (λ x. Ok (is_none x)) same
+      ∙ ap Ok (none-here (complete (asked shelf store key)) (lowest_missing (asked shelf store key)))
+      ∙ sym (passes (unasked shelf store key) m o Err (Ok (complete (asked shelf store key))) (sym e))
 
-    module _ (n : ℕ) (g : n ≡ lowest_missing (place_at shelf p)) where
-      module _ (h : n ≤ (place_at shelf p).last) where
-        pub missing-lowest : missing_of shelf store key ≡ Ok (Some n)
-        missing-lowest = missing-held ∙ rw (gap-incomplete (place_at shelf p) (rw (← g) h), g)
-
-      module _ (h : (place_at shelf p).last < n) where
-        pub missing-nothing : missing_of shelf store key ≡ Ok None
-        missing-nothing = missing-held ∙ rw (gap-complete (place_at shelf p) (rw (← g) h))
+  pub whole-of-refused : {r : Refusal} → Err r ≡ missing_of shelf store key → Err r ≡ whole_of shelf store key
+  unfolding missing_of whole_of
+  whole-of-refused e = sym (refuses (unasked shelf store key) _ (complete (asked shelf store key)) _ (sym e))

@@ -21,8 +21,10 @@ use Rattle.shelf.specs.Calls.{place_among, last_among, mask_among, length_among,
 use Rattle.shelf.proofs.Lists.{length-listed, listed_same}
 use Rattle.shelf.proofs.Numbers.{at_count, spoiled-count, taken_at, table_at, held_at, length-at, among-place, among-last, among-mask, among-length}
 use Rattle.shelf.proofs.Equal.{lowest-alike}
-use Rattle.shelf_ask.specs.Ask.{holding_of, lowest_missing}
-use Rattle.std.specs.Prelude.{Ok}
+use Rattle.shelf_ask.specs.Ask.{holding_of, complete, lowest_missing}
+use Rattle.shelf_ask.specs.Calls.{found_below, gap_among}
+use Rattle.shelf_ask.proofs.Gaps.{gap_here}
+use Rattle.std.specs.Prelude.{if◌then◌else◌, Option, Some, None, Ok}
 use Rattle.shelf_ask.proofs.Held.{In, held}
 
 -- the place of a key in a record that is not spoiled
@@ -53,23 +55,36 @@ module _ (words : List ℕ) (size : ℕ) (key : Key) (p : ℕ) (e : holding_of (
   pub last-low : {l : ℕ} → l ≡ last_among words p → l < 16
   last-low {l} q = rw (last-read q) is.last
 
-  pub gap-read :
-      {mask l g : ℕ}
+  lowest-read :
+      {mask l : ℕ}
       → mask ≡ mask_among words p
       → l ≡ last_among words p
-      → g ≡ lowest (l + 1) (λ n. not (bit mask n))
-      → g ≡ lowest_missing (place_at (shelf_at words) p)
+      → lowest (l + 1) (λ n. not (bit mask n)) ≡ lowest_missing (place_at (shelf_at words) p)
   unfolding lowest_missing
-  gap-read {mask} {l} m q h =
+  lowest-read {mask} {l} m q =
       let low : l < 16 = last-low q in
-      h
-      ∙ lowest-alike (λ n. not (bit mask n)) (λ n. not (holds (place_at (shelf_at words) p) n)) (l + 1)
+      lowest-alike (λ n. not (bit mask n)) (λ n. not (holds (place_at (shelf_at words) p) n)) (l + 1)
       (λ n k.
       ap not
       (ap (λ x. bit x n) (m ∙ among-mask words p read_count is.place)
       ∙ sym (held_at words p n (omega arith))
       ∙ ap (λ x. holds x n) (sym read_table)))
       ∙ ap (λ x. lowest (x + 1) (λ n. not (holds (place_at (shelf_at words) p) n))) (last-read q)
+
+  -- the first gap that was found is its lowest missing number
+  pub gap-read :
+      {mask l : ℕ}
+      {g : Option ℕ}
+      → mask ≡ mask_among words p
+      → l ≡ last_among words p
+      → g ≡ gap_among mask l
+      → g ≡ (if complete (place_at (shelf_at words) p) then None else Some (lowest_missing (place_at (shelf_at words) p)))
+  unfolding gap_among
+  gap-read {mask} {l} m q h =
+      h
+      ∙ ap (found_below (l + 1)) (lowest-read m q)
+      ∙ ap (λ x. found_below (x + 1) (lowest_missing (place_at (shelf_at words) p))) (last-read q)
+      ∙ gap_here (place_at (shelf_at words) p)
 
   sixteen : length (place_at (shelf_at words) p).lengths ≡ 16
   unfolding table_in lengths_in

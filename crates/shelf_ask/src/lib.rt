@@ -2,15 +2,13 @@
 // table is in a place. The record is the numbers that the host lends.
 #![tactic(auto)]
 
-ghost use Rattle.std.specs.Prelude.{◌≡◌, not, ◌+◌, ◌<◌};
-ghost use Rattle.base.specs.Below.{lowest};
-ghost use Rattle.base.specs.Bits.{bit};
+ghost use Rattle.std.specs.Prelude.{◌≡◌, ◌<◌};
 ghost use Rattle.berth.specs.Berth.{sections};
 ghost use Rattle.shelf.specs.Layout.{shelf_at};
 ghost use Rattle.shelf_ask.specs.Ask.{unlent_of, holding_of, copy, copy_of, whole_of, missing_of};
 ghost use Rattle.answers.specs.Answers.{out as out_of};
 ghost use Rattle.shelf_ask.specs.Tables.{taken_of};
-ghost use Rattle.shelf_ask.specs.Calls.{table_among};
+ghost use Rattle.shelf_ask.specs.Calls.{table_among, gap_among};
 ghost use Rattle.shelf_ask.specs.Answer.{whole_code, missing_code, whole_lent, complete_lent, missing_lent, copy_lent, table_lent};
 
 use berth::{PLACES, STORE};
@@ -43,19 +41,17 @@ pub fn held_in(words: &[u16], size: usize, key: Key) -> Result<usize, Refusal>
     Ok(p)
 }
 
-// The lowest number from 0 to the last whose bit is 0, or one more than the last.
-fn first_gap(mask: u16, last: usize) -> usize
+// The lowest number from 0 to the last whose bit is 0.
+fn first_gap(mask: u16, last: u16) -> Option<u8>
     requires { last < sections }
-    ensures { result ≡ lowest (last + 1) (λ n. not (bit mask n)) }
+    ensures { result ≡ gap_among mask last }
 {
-    let mut n: usize = 0;
-    while n <= last {
+    for n in 0..last + 1 {
         if (mask >> n) % 2 == 0 {
-            return n;
+            return Some(n as u8);
         }
-        n += 1;
     }
-    n
+    None
 }
 
 // Copies section n of the table with that key to the front of the output; what lies past its bytes stays as it was. The answer is how many
@@ -86,10 +82,8 @@ pub fn copy_section(
 pub fn complete(words: &[u16], store: &[u8], key: Key) -> Result<bool, Refusal>
     ensures { result ≡ whole_of (shelf_at words.now) store.now key }
 {
-    let p = held_in(words, store.len(), key)?;
-    let last = usize::from(shelf::last_of(words, p));
-    let gap = first_gap(shelf::mask_of(words, p), last);
-    Ok(last < gap)
+    let missing = lowest_missing(words, store, key)?;
+    Ok(missing.is_none())
 }
 
 // The lowest number of that table from 0 to its last that is not held, where there is one.
@@ -97,13 +91,9 @@ pub fn lowest_missing(words: &[u16], store: &[u8], key: Key) -> Result<Option<u8
     ensures { result ≡ missing_of (shelf_at words.now) store.now key }
 {
     let p = held_in(words, store.len(), key)?;
-    let last = usize::from(shelf::last_of(words, p));
+    let last = shelf::last_of(words, p);
     let gap = first_gap(shelf::mask_of(words, p), last);
-    if gap <= last {
-        Ok(Some(gap as u8))
-    } else {
-        Ok(None)
-    }
+    Ok(gap)
 }
 
 // The answers as numbers: the case from bit 8 up, a missing number from bit 16 up.
