@@ -3,11 +3,15 @@
 --   service-is, start_is                   the fields of the key
 --   four-fits, five-fits                   n bytes are below 256 ^ n
 --   in-short, in_field, part-number        the number in a field, and in a part of the bytes
---   two_made, three_made, four-made, five-made     as the code makes them
+--   below, in-below, made-on, room         n bytes are below 256 ^ n; one byte more
 use mathlib.Core.Path.{◌≡◌, refl, sym, ap, ◌∙◌}
 use mathlib.Core.List.{List}
-use Prim.Native.Nat.{ℕ, zero, suc, ◌+◌, ◌-◌, ◌*◌, ◌<◌, ◌≤◌, min}
+use Prim.Native.Nat.{ℕ, zero, suc, ◌+◌, ◌-◌, ◌*◌, ◌^◌, ◌<◌, ◌≤◌, min}
 use native.Mathlib.Omega.{arith}
+use native.Mathlib.Nat.{pow-suc, one-le-pow, pow-le-pow_right}
+use native.Mathlib.Numerals.{add-one}
+use lib.Dec.{ltb}
+use Rattle.base.proofs.Cases.{by}
 use lib.ListN.{length, take, drop, length-take, length-drop}
 use lib.Seq.{get_or-take, get_or-drop}
 use borrow.Author.Tests.{lt-ltb, le-ltb}
@@ -15,6 +19,12 @@ use Rattle.base.specs.Bytes.{byte}
 use Rattle.base.specs.Octets.{Octets}
 use Rattle.programme.specs.Field.{number, number_in, low}
 use Rattle.programme.specs.Table.{service_id, time_span_start}
+
+-- numbers in bytes fit so many
+pub below : (s : List ℕ) (at : ℕ) → Octets s → (n : ℕ) → number s at n < 256 ^ n
+unfolding number
+below s at b zero = omega arith
+below s at b (suc n) = let h : number s at n < 256 ^ n = below s at b n in rw (pow-suc 256 n) (omega (arith, b (at + n)))
 
 module _ (s : List ℕ) (at : ℕ) where
   pub two_is : number s at 2 ≡ byte s at * 256 + byte s (at + 1)
@@ -34,10 +44,10 @@ module _ (s : List ℕ) (at : ℕ) where
   five-is = omega arith
 
   pub four-fits : Octets s → low s at 4 32 ≡ number s at 4
-  four-fits b = rw (four_is, two_is) (omega (arith, b at, b (at + 1), b (at + 2), b (at + 3)))
+  four-fits b = omega (arith, below s at b 4)
 
   pub five-fits : Octets s → low s at 5 40 ≡ number s at 5
-  five-fits b = rw (five-is, four_is, two_is) (omega (arith, b at, b (at + 1), b (at + 2), b (at + 3), b (at + 4)))
+  five-fits b = omega (arith, below s at b 5)
 
 module _ (s : List ℕ) where
   pub service-is : number s 8 2 ≡ service_id s
@@ -55,19 +65,22 @@ module _ (n : ℕ) (f : List ℕ) where
   unfolding number_in
   in_field l = rw (le-ltb (length f) n l)
 
--- the numbers, as the code makes them
-module _ (f : List ℕ) where
-  pub two_made : 2 ≤ length f → {a b : ℕ} → a ≡ byte f 0 → b ≡ byte f 1 → a * 256 + b ≡ number_in 2 f
-  two_made l p q = rw (p, q) (sym (two_is f 0)) ∙ in_field 2 f l
+pub in-below : (n : ℕ) (f : List ℕ) → Octets f → number_in n f < 256 ^ n
+unfolding number_in
+in-below n f b = by (ltb (length f) n) (λ t. rw t (one-le-pow n 256 (omega arith))) (λ g. rw g (below f 0 b n))
 
-  pub three_made : 3 ≤ length f → {a b : ℕ} → a ≡ number_in 2 f → b ≡ byte f 2 → a * 256 + b ≡ number_in 3 f
-  three_made l p q = rw (p ∙ sym (in_field 2 f (omega arith)), q) (sym (three-is f 0)) ∙ in_field 3 f l
+-- one byte more
+pub made-on : (f : List ℕ) (n : ℕ) {a b : ℕ} → a ≡ number f 0 n → b ≡ byte f n → a * 256 + b ≡ number f 0 (n + 1)
+unfolding number
+made-on f n p q = let z : 0 + n ≡ n = omega arith in rw (p, q, add-one, z)
 
-  pub four-made : 4 ≤ length f → {a b c : ℕ} → a ≡ number_in 2 f → b ≡ byte f 2 → c ≡ byte f 3 → a * 65536 + b * 256 + c ≡ number_in 4 f
-  four-made l p q r = rw (p ∙ sym (in_field 2 f (omega arith)), q, r) (sym (four_is f 0)) ∙ in_field 4 f l
-
-  pub five-made : 5 ≤ length f → {a b : ℕ} → a ≡ number_in 4 f → b ≡ byte f 4 → a * 256 + b ≡ number_in 5 f
-  five-made l p q = rw (p ∙ sym (in_field 4 f (omega arith)), q) (sym (five-is f 0)) ∙ in_field 5 f l
+-- so many bytes before the eighth leave room for one more
+pub room : (f : List ℕ) → Octets f → (n : ℕ) → n < 8 → number f 0 n * 256 + 255 < 2 ^ 64
+room f b n l =
+    let h : number f 0 n < 256 ^ n = below f 0 b n in
+    let few : n ≤ 7 = omega arith in
+    let most : 256 ^ n ≤ 256 ^ 7 = pow-le-pow_right (omega arith) few in
+    omega arith
 
 -- a byte of a part
 byte-part : (s : List ℕ) (at m k : ℕ) → k < m → byte (take m (drop at s)) k ≡ byte s (at + k)

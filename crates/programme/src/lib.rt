@@ -54,44 +54,20 @@ pub struct Item {
     pub next: usize,
 }
 
-// The numbers in a field's first two, three, four and five bytes, high byte first; 0 where it has fewer.
-pub fn two(field: &[u8]) -> u16
-    ensures { result ≡ number_in 2 field.now }
+// The number in a field's first bytes, so many, high byte first; 0 where it has fewer.
+pub fn number<const N: usize>(field: &[u8]) -> u64
+    requires { N ≤ 8 }
+    ensures { result ≡ number_in N field.now }
 {
-    if field.len() < 2 {
+    if field.len() < N {
         return 0;
     }
-    u16::from(field[0]) * 256 + u16::from(field[1])
-}
-
-pub fn three(field: &[u8]) -> u32
-    ensures { result ≡ number_in 3 field.now }
-{
-    if field.len() < 3 {
-        return 0;
+    let mut number: u64 = 0;
+    for i in 0..N {
+        let high = number * 256;
+        number = high + u64::from(field[i]);
     }
-    u32::from(two(field)) * 256 + u32::from(field[2])
-}
-
-pub fn four(field: &[u8]) -> u32
-    ensures { result ≡ number_in 4 field.now }
-{
-    if field.len() < 4 {
-        return 0;
-    }
-    let high = u32::from(two(field)) * 65536;
-    let third = u32::from(field[2]) * 256;
-    high + third + u32::from(field[3])
-}
-
-pub fn five(field: &[u8]) -> u64
-    ensures { result ≡ number_in 5 field.now }
-{
-    if field.len() < 5 {
-        return 0;
-    }
-    let high = four(field) as u64 * 256;
-    high + u32::from(field[4]) as u64
+    number
 }
 
 // How many items a section has, or its first refusal. A step needs no more of the fields before the items.
@@ -113,9 +89,9 @@ pub fn read(payload: &[u8]) -> Result<Programme, Refusal>
     ensures { result ≡ read_of payload.now }
 {
     let items = count_items(payload)?;
-    let service = two(&payload[SERVICE..START]);
-    let start = four(&payload[START..MINUTES]);
-    let minutes = two(&payload[MINUTES..ITEMS]) % 2048;
+    let service = number::<2>(&payload[SERVICE..START]) as u16;
+    let start = number::<4>(&payload[START..MINUTES]) as u32;
+    let minutes = (number::<2>(&payload[MINUTES..ITEMS]) % 2048) as u16;
     Ok(Programme {
         service,
         start,

@@ -5,7 +5,7 @@
 ghost use Rattle.std.specs.Prelude.{Some, ◌≡◌, ◌+◌, ◌*◌, ◌/◌, ◌%◌, ◌<◌, ◌≤◌, min, eqb, length};
 ghost use Rattle.std.proofs.lemmas.List.Edits.{sets};
 ghost use Rattle.answers.specs.Answers.{out as out_of};
-ghost use Rattle.programme.specs.Field.{only, low};
+ghost use Rattle.programme.specs.Field.{only, number};
 ghost use Rattle.programme.specs.Reading.{read_of, step_of};
 ghost use Rattle.programme.specs.Count.{count_of};
 ghost use Rattle.programme_items.specs.Items.{item_back, walked, walk_of};
@@ -28,8 +28,12 @@ const EXPIRATION: u16 = 8;
 
 const CONTENT_SIZE: u16 = 4;
 
-// The bytes of all four fields.
-const ALL_FOUR: usize = 15;
+// The numbers that fit a field's bits: 20, 32 and 40. What stands above them is reserved.
+const SECONDS: u64 = 1048576;
+
+const EXPIRATIONS: u64 = 4294967296;
+
+const SIZES: u64 = 1099511627776;
 
 // How many numbers tell an item.
 pub const NUMBERS: usize = 10;
@@ -57,56 +61,43 @@ struct Taken {
     next: usize,
 }
 
-// Where fields end that flags include, from a place on, field by field; none where one of them passes the end.
-fn past_each(size: usize, from: usize, flags: u16) -> Option<usize>
-    requires { (from ≤ size) × (size ≤ 65535) }
-    ensures { result ≡ up_to size (from + included flags) }
+// Whether a flag is 1.
+fn is_set(flags: u16, flag: u16) -> bool
+    requires { 0 < flag }
+    ensures { result ≡ eqb (flags / flag % 2) 1 }
 {
-    let mut at = from;
-    if flags / PLAYBACK_LENGTH % 2 == 1 {
-        at += 3;
-        if size < at {
-            return None;
-        }
-    }
-    if flags / PLAYBACK_DELAY % 2 == 1 {
-        at += 3;
-        if size < at {
-            return None;
-        }
-    }
-    if flags / EXPIRATION % 2 == 1 {
-        at += 4;
-        if size < at {
-            return None;
-        }
-    }
-    if flags / CONTENT_SIZE % 2 == 1 {
-        at += 5;
-        if size < at {
-            return None;
-        }
-    }
-    Some(at)
+    flags / flag % 2 == 1
 }
 
-// The same, with a quick way where none of the four is there and where all are.
+// How many bytes a field has that a flag includes.
+fn bytes_of(flags: u16, flag: u16, bytes: usize) -> usize
+    requires { 0 < flag }
+    ensures { result ≡ only (eqb (flags / flag % 2) 1) bytes }
+{
+    if is_set(flags, flag) { bytes } else { 0 }
+}
+
+// How many bytes the four fields have that flags include.
+fn bytes_included(flags: u16) -> usize
+    ensures { (result ≡ included flags) × (result ≤ 15) }
+{
+    let playback_length = bytes_of(flags, PLAYBACK_LENGTH, 3);
+    let playback_delay = bytes_of(flags, PLAYBACK_DELAY, 3);
+    let expiration = bytes_of(flags, EXPIRATION, 4);
+    let content_size = bytes_of(flags, CONTENT_SIZE, 5);
+    playback_length + playback_delay + expiration + content_size
+}
+
+// Where fields end that flags include, from a place on; none where one of them passes the end.
 fn past_included(size: usize, from: usize, flags: u16) -> Option<usize>
     requires { (from ≤ size) × (size ≤ 65535) }
     ensures { result ≡ up_to size (from + included flags) }
 {
-    let there = flags / CONTENT_SIZE % 16;
-    if there == 0 {
-        return Some(from);
+    let end = from + bytes_included(flags);
+    if size < end {
+        return None;
     }
-    if there == 15 {
-        let end = from + ALL_FOUR;
-        if size < end {
-            return None;
-        }
-        return Some(end);
-    }
-    past_each(size, from, flags)
+    Some(end)
 }
 
 // Where the parts of the item at a place lie; none where one of its fields, or its loop, passes the end.
@@ -118,7 +109,7 @@ fn lies_at(bytes: &[u8], at: usize) -> Option<Parts>
     if size < at + FLAGS_END {
         return None;
     }
-    let flags = programme::two(&bytes[at + FLAGS..at + FLAGS_END]) / 64;
+    let flags = (programme::number::<2>(&bytes[at + FLAGS..at + FLAGS_END]) / 64) as u16;
     let named = past_included(size, at + FLAGS_END, flags)?;
     if size <= named {
         return None;
@@ -137,42 +128,18 @@ fn lies_at(bytes: &[u8], at: usize) -> Option<Parts>
     })
 }
 
-// The 20 bits behind four reserved ones, where a flag is 1.
-fn seconds(bytes: &[u8], at: usize, flags: u16, flag: u16) -> Taken
-    requires { (0 < flag) × (at + only (eqb (flags / flag % 2) 1) 3 ≤ length bytes.now) }
-    ensures value_value { result.value ≡ only (eqb (flags / flag % 2) 1) (low bytes.now at 3 20) }
-    ensures next_value { result.next ≡ at + only (eqb (flags / flag % 2) 1) 3 }
+// The value of a field of N bytes that a flag includes, with the place after it; 0 and the place itself where the flag is 0.
+fn optional<const N: usize>(bytes: &[u8], at: usize, flags: u16, flag: u16, values: u64) -> Taken
+    requires { (N ≤ 8) × (0 < flag) × (0 < values) × (at + only (eqb (flags / flag % 2) 1) N ≤ length bytes.now) }
+    ensures value_value { result.value ≡ only (eqb (flags / flag % 2) 1) (number bytes.now at N % values) }
+    ensures next_value { result.next ≡ at + only (eqb (flags / flag % 2) 1) N }
 {
-    if flags / flag % 2 == 1 {
-        let value = (programme::three(&bytes[at..at + 3]) % 1048576) as u64;
-        let next = at + 3;
-        return Taken { value, next };
+    if !is_set(flags, flag) {
+        return Taken { value: 0, next: at };
     }
-    Taken { value: 0, next: at }
-}
-
-// The expiration, and the content's size, where they are there.
-fn expiration(bytes: &[u8], at: usize, flags: u16) -> Taken
-    requires { at + only (eqb (flags / 8 % 2) 1) 4 ≤ length bytes.now }
-    ensures value_value { result.value ≡ only (eqb (flags / 8 % 2) 1) (low bytes.now at 4 32) }
-    ensures next_value { result.next ≡ at + only (eqb (flags / 8 % 2) 1) 4 }
-{
-    if flags / EXPIRATION % 2 == 1 {
-        let value = programme::four(&bytes[at..at + 4]) as u64;
-        let next = at + 4;
-        return Taken { value, next };
-    }
-    Taken { value: 0, next: at }
-}
-
-fn content_size(bytes: &[u8], at: usize, flags: u16) -> u64
-    requires { at + only (eqb (flags / 4 % 2) 1) 5 ≤ length bytes.now }
-    ensures { result ≡ only (eqb (flags / 4 % 2) 1) (low bytes.now at 5 40) }
-{
-    if flags / CONTENT_SIZE % 2 == 1 {
-        return programme::five(&bytes[at..at + 5]);
-    }
-    0
+    let next = at + N;
+    let value = programme::number::<N>(&bytes[at..next]) % values;
+    Taken { value, next }
 }
 
 // Puts the four fields that flags may include, from a place of the payload, at a place of the numbers.
@@ -188,13 +155,14 @@ fn put_included(bytes: &[u8], at: usize, flags: u16, fields: &mut [u64], to: usi
         fields[to + 3] = 0;
         return;
     }
-    let playback = seconds(bytes, at, flags, PLAYBACK_LENGTH);
+    let playback = optional::<3>(bytes, at, flags, PLAYBACK_LENGTH, SECONDS);
     fields[to] = playback.value;
-    let delay = seconds(bytes, playback.next, flags, PLAYBACK_DELAY);
+    let delay = optional::<3>(bytes, playback.next, flags, PLAYBACK_DELAY, SECONDS);
     fields[to + 1] = delay.value;
-    let expires = expiration(bytes, delay.next, flags);
+    let expires = optional::<4>(bytes, delay.next, flags, EXPIRATION, EXPIRATIONS);
     fields[to + 2] = expires.value;
-    fields[to + 3] = content_size(bytes, expires.next, flags);
+    let size = optional::<5>(bytes, expires.next, flags, CONTENT_SIZE, SIZES);
+    fields[to + 3] = size.value;
 }
 
 // Puts the numbers of the item at a place, whose parts lie so, at a place of the numbers.
@@ -204,11 +172,11 @@ fn put_item(bytes: &[u8], at: usize, parts: Parts, fields: &mut [u64], to: usize
     ensures { fields.new ≡ sets fields.old to (numbers_to bytes.now at parts.next) }
 {
     let counted = parts.counted;
-    fields[to] = programme::four(&bytes[at..at + 4]) as u64;
-    fields[to + 1] = parts.flags as u64;
+    fields[to] = programme::number::<4>(&bytes[at..at + 4]);
+    fields[to + 1] = u64::from(parts.flags);
     put_included(bytes, at + FLAGS_END, parts.flags, fields, to + 2);
     fields[to + 6] = (parts.named + 1) as u64;
-    fields[to + 7] = bytes[counted] as u64;
+    fields[to + 7] = u64::from(bytes[counted]);
     fields[to + 8] = (counted + 1) as u64;
     fields[to + 9] = parts.next as u64;
 }
@@ -226,18 +194,14 @@ fn tell_items(bytes: &[u8], at: usize, most: usize, fields: &mut [u64]) -> usize
         return 0;
     }
     let mut place = at;
-    let mut left = most;
-    let mut to: usize = 0;
-    while left > 0 {
+    for i in 0..most {
         let Some(parts) = lies_at(bytes, place) else {
-            return to;
+            return NUMBERS * i;
         };
-        put_item(bytes, place, parts, fields, to);
+        put_item(bytes, place, parts, fields, NUMBERS * i);
         place = parts.next;
-        to += NUMBERS;
-        left -= 1;
     }
-    to
+    NUMBERS * most
 }
 
 // How many items are left from a number on; none where the list has no item of that number.

@@ -15,7 +15,9 @@ put_included-requires c = let t = (parts-there _ _ _ c.requires.parts_value) in
     (rw e (omega (arith, l)), simp length-set (omega (arith, c.requires.bytes_len_bound.1)))
 
 pub returns : goal.returns
-returns c = let a = c.args in
-    item-made (parts-there _ _ _ c.requires.parts_value) a.fields.now a.to ((let at = c.args.at in
-    let t = (parts-there _ _ _ c.requires.parts_value) in
-    let m : at + 4 - at ≡ 4 = omega arith in c.four.ensures ∙ part-number _ _ _ 4 m (omega (arith, t.fits)))) c.put_included.ensures
+returns c =
+    let a = c.args in
+    let t = parts-there _ _ _ c.requires.parts_value in
+    let m : a.at + 4 - a.at ≡ 4 = omega arith in
+    rw c.from-2.ensures
+    (item-made t a.fields.now a.to (c.number.ensures ∙ part-number _ _ _ 4 m (omega (arith, t.fits))) (rw c.from.ensures at c.put_included.ensures))
