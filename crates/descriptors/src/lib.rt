@@ -116,10 +116,8 @@ fn is_mark(bytes: &[u8], start: usize) -> bool
     let small = MARK;
     let capitals = MARK_IN_CAPITALS;
     let mut same = true;
-    let mut i = 0;
-    while i < MARK_LENGTH {
-        same = same & is_either(bytes[start + i], small[i], capitals[i]);
-        i += 1;
+    for i in 0..MARK_LENGTH {
+        same &= is_either(bytes[start + i], small[i], capitals[i]);
     }
     same
 }

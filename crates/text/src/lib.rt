@@ -42,10 +42,8 @@ pub fn word(out: &mut [u8], at: usize, w: &[u8]) -> usize
     ensures { Wrote w.now out.old at out.new result }
 {
     let mut end = at;
-    let mut i = 0;
-    while i < w.len() {
-        end = put(out, end, w[i]);
-        i += 1;
+    for b in w {
+        end = put(out, end, *b);
     }
     end
 }
@@ -67,11 +65,9 @@ pub fn number(out: &mut [u8], at: usize, n: u64) -> usize
 {
     let mut end = at;
     let mut power = HIGHEST;
-    let mut left = POWERS;
-    while left > 0 {
+    for i in 0..POWERS {
         end = place(out, end, n, power);
-        power = power / 10;
-        left -= 1;
+        power /= 10;
     }
     put(out, end, 48 + (n % 10) as u8)
 }
@@ -142,10 +138,8 @@ pub fn escaped(out: &mut [u8], at: usize, name: &[u8]) -> usize
     ensures { Wrote (escapedName name.now) out.old at out.new result }
 {
     let mut end = at;
-    let mut i = 0;
-    while i < name.len() {
-        end = shown(out, end, name[i]);
-        i += 1;
+    for b in name {
+        end = shown(out, end, *b);
     }
     end
 }

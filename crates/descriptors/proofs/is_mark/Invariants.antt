@@ -1,6 +1,6 @@
 -- `descriptors::is_mark` meets its contract: what the loop has gathered is what holds of every place passed. Assumes nothing.
 use mathlib.Core.Path.{◌≡◌}
-use Prim.Native.Nat.{◌+◌, ◌-◌, ◌≤◌}
+use Prim.Native.Nat.{◌+◌, ◌≤◌}
 use Rattle.base.specs.Bytes.{byte}
 use Rattle.base.specs.Below.{every}
 use Rattle.descriptors.specs.Letter.{matches}
@@ -10,6 +10,3 @@ use Rattle.descriptors.proofs.is_mark.Given as goal
 
 abbrev pub invariant-loop-i : goal.invariant-loop-i
 invariant-loop-i l = (l.i ≤ 24) × InCapitals l.capitals × (l.same ≡ every l.i (λ k. matches (byte l.bytes (l.start + k)) (byte mark k)))
-
-abbrev pub decreases-loop-i : goal.decreases-loop-i
-decreases-loop-i l = 24 - l.i

@@ -3,9 +3,9 @@ use borrow.Author.Rules.{rules}
 use Rattle.text.proofs.Names.{name-step, name-end}
 use Rattle.text.proofs.escaped.Goals as goal
 
-pub loop-i-preserved : goal.loop-i-preserved
-loop-i-preserved c =
-    (name-step c.args.name.now c.loop-i.i (search rules) c.loop-i.invariant.0 c.shown-end.ensures, search rules)
+pub loop-b-preserved : goal.loop-b-preserved
+loop-b-preserved c =
+    (name-step c.args.name.now c.loop-b.b-index (search rules) c.loop-b.invariant.0 c.shown-end.ensures, search rules)
 
 pub returns : goal.returns
-returns c = name-end c.args.name.now c.loop-i.i (search rules) c.loop-i.invariant.0
+returns c = name-end c.args.name.now c.loop-b.b-index (search rules) c.loop-b.invariant.0
