@@ -1,7 +1,7 @@
 // The lines of the text for staff: of a section of a programme list and of its items. Each is written as the crate text writes.
 #![tactic(auto)]
 
-ghost use Rattle.std.specs.Prelude.{[], ◌++◌, if◌then◌else◌};
+ghost use Rattle.std.specs.Prelude.{[], ◌++◌, ◌≡◌, ◌<◌, ◌/◌, ◌%◌, if◌then◌else◌};
 ghost use Rattle.file_listing.specs.Words.{newline};
 ghost use Rattle.file_listing.specs.Listing.{added_words, head_line};
 ghost use Rattle.text.specs.Words.{decimal};
@@ -24,9 +24,9 @@ fn added_words(out: &mut [u8], at: usize, key: Key) -> usize
         out,
         at,
         b" service ",
-        key.service as u64,
+        u64::from(key.service),
         b" start ",
-        key.start as u64,
+        u64::from(key.start),
     )
 }
 
@@ -38,18 +38,18 @@ pub fn head_line(out: &mut [u8], at: usize, h: Header) -> usize
         out,
         at,
         b"table ",
-        key.table as u64,
+        u64::from(key.table),
         b" key ",
-        key.extension as u64,
+        u64::from(key.extension),
     );
     let added = added_words(out, told, key);
     text::pair_line(
         out,
         added,
         b" version ",
-        h.version as u64,
+        u64::from(h.version),
         b" last ",
-        h.last as u64,
+        u64::from(h.last),
     )
 }
 
@@ -57,7 +57,7 @@ pub fn head_line(out: &mut [u8], at: usize, h: Header) -> usize
 pub fn refused_at(out: &mut [u8], at: usize, section: u8, refusal: Refusal, place: usize) -> usize
     ensures { Wrote (refused_at section refusal place) out.old at out.new result }
 {
-    let told = text::field(out, at, b"section ", section as u64);
+    let told = text::field(out, at, b"section ", u64::from(section));
     text::pair_line(
         out,
         told,
@@ -71,29 +71,44 @@ pub fn refused_at(out: &mut [u8], at: usize, section: u8, refusal: Refusal, plac
 pub fn programme_line(out: &mut [u8], at: usize, section: u8, p: Programme) -> usize
     ensures { Wrote (programme_line section p) out.old at out.new result }
 {
-    let told = text::field(out, at, b"section ", section as u64);
+    let told = text::field(out, at, b"section ", u64::from(section));
     let start = text::pair(
         out,
         told,
         b" service ",
-        p.service as u64,
+        u64::from(p.service),
         b" start ",
-        p.start as u64,
+        u64::from(p.start),
     );
     text::pair_line(
         out,
         start,
         b" minutes ",
-        p.minutes as u64,
+        u64::from(p.minutes),
         b" items ",
-        p.items as u64,
+        u64::from(p.items),
     )
 }
 
 fn item_line(out: &mut [u8], at: usize, k: u8, linkage: u32) -> usize
     ensures { Wrote (item_line k linkage) out.old at out.new result }
 {
-    text::pair_line(out, at, b"item ", k as u64, b" linkage ", linkage as u64)
+    text::pair_line(
+        out,
+        at,
+        b"item ",
+        u64::from(k),
+        b" linkage ",
+        u64::from(linkage),
+    )
+}
+
+// A flag among ten bits, by the number that its bit stands for.
+fn flag(flags: u16, bit: u16) -> u64
+    requires { 0 < bit }
+    ensures { result ≡ flags / bit % 2 }
+{
+    u64::from(flags / bit % 2)
 }
 
 fn flags_line(out: &mut [u8], at: usize, flags: u16) -> usize
@@ -103,25 +118,25 @@ fn flags_line(out: &mut [u8], at: usize, flags: u16) -> usize
         out,
         at,
         b"updates ",
-        (flags / 512 % 2) as u64,
+        flag(flags, 512),
         b" fragment ",
-        (flags / 256 % 2) as u64,
+        flag(flags, 256),
     );
     let master = text::pair(
         out,
         fragment,
         b" protected ",
-        (flags / 128 % 2) as u64,
+        flag(flags, 128),
         b" master ",
-        (flags / 64 % 2) as u64,
+        flag(flags, 64),
     );
     text::pair_line(
         out,
         master,
         b" internet ",
-        (flags / 2 % 2) as u64,
+        flag(flags, 2),
         b" broadcast ",
-        (flags % 2) as u64,
+        flag(flags, 1),
     )
 }
 
@@ -143,25 +158,25 @@ fn optional_lines(out: &mut [u8], at: usize, i: Item) -> usize
     let playback = line_where(
         out,
         at,
-        flags / 32 % 2 == 1,
+        flag(flags, 32) == 1,
         b"playback ",
-        i.playback as u64,
+        u64::from(i.playback),
     );
     let delay = line_where(
         out,
         playback,
-        flags / 16 % 2 == 1,
+        flag(flags, 16) == 1,
         b"delay ",
-        i.delay as u64,
+        u64::from(i.delay),
     );
     let expires = line_where(
         out,
         delay,
-        flags / 8 % 2 == 1,
+        flag(flags, 8) == 1,
         b"expires ",
-        i.expires as u64,
+        u64::from(i.expires),
     );
-    line_where(out, expires, flags / 4 % 2 == 1, b"size ", i.size)
+    line_where(out, expires, flag(flags, 4) == 1, b"size ", i.size)
 }
 
 fn name_line(out: &mut [u8], at: usize, name: &[u8]) -> usize
@@ -180,7 +195,7 @@ fn descriptors_line(out: &mut [u8], at: usize, l: Loop) -> usize
         out,
         at,
         b"descriptors ",
-        l.count as u64,
+        u64::from(l.count),
         b" bytes ",
         l.length as u64,
     )
@@ -193,7 +208,7 @@ pub fn list_line(out: &mut [u8], at: usize, l: Loop) -> usize
         out,
         at,
         b"list descriptors ",
-        l.count as u64,
+        u64::from(l.count),
         b" bytes ",
         l.length as u64,
     )

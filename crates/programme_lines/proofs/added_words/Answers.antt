@@ -27,4 +27,4 @@ pub returns-then-key-ne-NRT_IT : goal.returns-then-key-ne-NRT_IT
 returns-then-key-ne-NRT_IT c = not-added _ c.if-key-ne-NRT_IT.true
 
 pub returns : goal.returns
-returns c = are-added _ c.if-key-ne-NRT_IT.false (search rules) (search rules) c.pair.ensures
+returns c = are-added _ c.if-key-ne-NRT_IT.false (search rules) (search rules) (rw (c.from.ensures, c.from-2.ensures) at c.pair.ensures)

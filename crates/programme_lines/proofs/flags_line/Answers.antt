@@ -11,6 +11,6 @@ pub returns : goal.returns
 unfolding flags_line
 returns c = let flags = c.args.flags in
     let lowest : flags / 1 ≡ flags = omega arith in
-    rw lowest
-    (then-two (field "updates " (flags / 512 % 2)) (field " fragment " (flags / 256 % 2)) c.pair-fragment.ensures
-    (then-two (field " protected " (flags / 128 % 2)) (field " master " (flags / 64 % 2)) c.pair-master.ensures c.pair_line.ensures))
+    (then-two (field "updates " (flags / 512 % 2)) (field " fragment " (flags / 256 % 2)) (rw (c.flag.ensures, c.flag-2.ensures) at c.pair-fragment.ensures)
+    (then-two (field " protected " (flags / 128 % 2)) (field " master " (flags / 64 % 2)) (rw (c.flag-3.ensures, c.flag-4.ensures) at c.pair-master.ensures)
+    (rw (c.flag-5.ensures, c.flag-6.ensures) at c.pair_line.ensures)))

@@ -15,5 +15,5 @@ returns c = let h = c.args.h in
       ← same-decimal h.version (omega arith),
       ← same-decimal h.last (omega arith),
     )
-    (then-two (field "table " h.key.table) (field " key " h.key.extension) c.pair-told.ensures
-    (then c.added_words-added.ensures c.pair_line.ensures))
+    (then-two (field "table " h.key.table) (field " key " h.key.extension) (rw (c.from.ensures, c.from-2.ensures) at c.pair-told.ensures)
+    (then c.added_words-added.ensures (rw (c.from-3.ensures, c.from-4.ensures) at c.pair_line.ensures)))

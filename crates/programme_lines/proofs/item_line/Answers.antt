@@ -4,4 +4,4 @@ use Rattle.programme_lines.proofs.item_line.Goals as goal
 
 pub returns : goal.returns
 unfolding item_line
-returns c = c.pair_line.ensures
+returns c = rw (c.from.ensures, c.from-2.ensures) at c.pair_line.ensures

@@ -4,4 +4,4 @@ use Rattle.programme_lines.proofs.list_line.Goals as goal
 
 pub returns : goal.returns
 unfolding list_line
-returns c = c.pair_line.ensures
+returns c = rw c.from.ensures at c.pair_line.ensures

@@ -6,5 +6,7 @@ use Rattle.programme_lines.proofs.programme_line.Goals as goal
 
 pub returns : goal.returns
 unfolding programme_line
-returns c = let p = c.args.p in
-    then c.field-told.ensures (then-two (field " service " p.service) (field " start " p.start) c.pair-start.ensures c.pair_line.ensures)
+returns c =
+    let p = c.args.p in
+    then (rw c.from.ensures at c.field-told.ensures)
+    (then-two (field " service " p.service) (field " start " p.start) (rw (c.from-2.ensures, c.from-3.ensures) at c.pair-start.ensures) (rw (c.from-4.ensures, c.from-5.ensures) at c.pair_line.ensures))
