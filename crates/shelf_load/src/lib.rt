@@ -4,7 +4,8 @@
 ghost use Rattle.std.specs.Prelude.{◌≡◌, ◌<◌, length};
 ghost use Rattle.berth.specs.Berth.{places, sections, store_size};
 ghost use Rattle.shelf.specs.Layout.{count};
-ghost use Rattle.shelf_load.specs.Steps.{Within, lies_in, each_stored, table_on};
+ghost use Rattle.shelf_load.specs.Steps.{Within, table_on};
+ghost use Rattle.shelf_load.specs.Load.{stored_below};
 ghost use Rattle.shelf_load.specs.On.{leaving, held_below, load_on};
 ghost use Rattle.answers.specs.Answers.{lent};
 ghost use Rattle.shelf_load.specs.Answer.{load_lent};
@@ -13,58 +14,32 @@ use berth::{PLACES, SECTIONS, STORE};
 use file::Table;
 use refusal::Refusal;
 
-// Whether there is a section of that size which lies, from its start on, in a file of a length.
-fn lies(total: usize, start: usize, size: usize) -> bool
-    ensures { result ≡ lies_in total start size }
+// Puts each section of a file's table into its berth of place p.
+fn store_each(store: &mut [u8], p: usize, file: &[u8], table: Table)
+    requires store_len { (length store.old ≡ store_size) × (p < places) }
+    requires within { Within file.now table.starts table.lengths table.header.last }
+    ensures { store.new ≡ stored_below sections file.now table.starts table.lengths store.old p }
 {
-    if size == 0 {
-        return false;
-    }
-    if total < start {
-        return false;
-    }
-    size <= total - start
-}
-
-// Puts each section of a file that has a number below the count into its berth of place p. What does not lie in the file is not
-// put, and nothing is where the count is above 16.
-fn store_each(
-    store: &mut [u8],
-    p: usize,
-    file: &[u8],
-    starts: [usize; 16],
-    lengths: [u16; 16],
-    count: usize,
-)
-    ensures { store.new ≡ each_stored store.old p file.now starts lengths count }
-{
-    if SECTIONS < count {
-        return;
-    }
-    let mut n: usize = 0;
-    while n < count {
-        let size = usize::from(lengths[n]);
-        let start = starts[n];
-        if lies(file.len(), start, size) {
+    for n in 0..usize::from(table.header.last) + 1 {
+        let size = usize::from(table.lengths[n]);
+        if size != 0 {
+            let start = table.starts[n];
             let end = start + size;
             berth::put(store, p, n, &file[start..end]);
         }
-        n += 1;
     }
 }
 
 // Says in the numbers which sections of place p are held, those that have a length.
-fn hold_each(words: &mut [u16], p: usize, lengths: [u16; 16])
+fn hold_each(words: &mut [u16], p: usize, lengths: [u16; SECTIONS])
     requires { (length words.old ≡ count) × (p < places) }
     ensures { words.new ≡ held_below sections words.old p lengths }
 {
-    let mut n: usize = 0;
-    while n < SECTIONS {
+    for n in 0..SECTIONS {
         let size = lengths[n];
         if size != 0 {
             shelf_write::put_held(words, p, n, size);
         }
-        n += 1;
     }
 }
 
@@ -84,13 +59,10 @@ fn load_table(words: &mut [u16], store: &mut [u8], file: &[u8], table: Table) ->
     if p == PLACES {
         return Err(Refusal::NoFreePlace);
     }
-    let starts = table.starts;
-    let lengths = table.lengths;
-    let sections = usize::from(header.last) + 1;
     // The numbers come first, as with an offer.
     shelf_write::put_head(words, p, key, header.version, header.last);
-    hold_each(words, p, lengths);
-    store_each(store, p, file, starts, lengths, sections);
+    hold_each(words, p, table.lengths);
+    store_each(store, p, file, table);
     Ok(())
 }
 

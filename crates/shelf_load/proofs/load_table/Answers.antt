@@ -1,9 +1,7 @@
 -- `shelf_load::load_table` meets its promise. That the key is held nowhere is found among what is known, whatever its test is called.
 use native.Mathlib.Omega.{arith}
-use mathlib.Core.Path.{refl, ap, ◌∙◌}
-use Prim.Native.Nat.{◌+◌, ◌<◌}
-use Rattle.shelf_load.specs.Steps.{each_stored}
-use Rattle.shelf_load.proofs.Laws.{all-stored}
+use mathlib.Core.Path.{refl}
+use Prim.Native.Nat.{◌<◌}
 use Rattle.shelf_load.proofs.Answers.{table-13, table-9, table_done}
 use borrow.Author.Rules.{rules}
 use Rattle.shelf_load.proofs.load_table.Goals as goal
@@ -18,6 +16,4 @@ pub returns : goal.returns
 returns c = let a = c.args in
     let free : c.free_of-p.result < 4 = omega (arith, c.free_of-p.ensures.1, c.if-p-eq-PLACES.false) in
     table_done _ _ _ c.requires.words_len.0 _ _ _ refl c.place_of.ensures.0 (search rules) _ c.free_of-p.ensures.0 c.if-p-eq-PLACES.false free
-    (c.store_each.ensures
-    ∙ ap (λ k. each_stored a.store.now c.free_of-p.result a.file.now a.table.starts a.table.lengths (k + 1)) c.from-sections.ensures
-    ∙ all-stored _ _ _ _ _ c.args.table.header.last c.requires.within c.requires.words_len.1 free) c.put_head.ensures c.hold_each.ensures
+    c.store_each.ensures c.put_head.ensures c.hold_each.ensures

@@ -1,46 +1,55 @@
--- `shelf_load::store_each` meets its promise: after each turn those of the sections passed that lie in the file are stored.
-use mathlib.Core.Path.{ap, ◌∙◌}
+-- `shelf_load::store_each` meets its promise: after each turn the sections passed are stored. Each lies in the file.
+use mathlib.Core.Path.{◌≡◌, ap, ◌∙◌}
+use Prim.Native.Nat.{◌+◌, ◌<◌, ◌≤◌}
 use native.Mathlib.Omega.{arith}
 use lib.ListN.{length}
 use borrow.Author.Rules.{rules}
-use Rattle.shelf_load.proofs.Laws.{ends, placed-none, placed_one, placed-skipped, placed-over, placed_end}
-use Rattle.base.proofs.Tests.{told}
+use Rattle.berth.specs.Berth.{sections}
+use Rattle.shelf_load.proofs.Laws.{lies, last-low, stored-none, stored_one, stored-skipped, all-stored}
 use Rattle.shelf_load.proofs.store_each.Goals as goal
-use Rattle.shelf_load.proofs.store_each.Goals.{then-lies, else-lies}
-
-pub returns-then-count-gt-SECTIONS : goal.returns-then-count-gt-SECTIONS
-returns-then-count-gt-SECTIONS c = placed-over _ _ _ _ _ _ c.if-count-gt-SECTIONS.true
+use Rattle.shelf_load.proofs.store_each.Goals.{then-size-ne0, else-size-ne0}
 
 pub loop-n-init : goal.loop-n-init
-loop-n-init c = (search rules, search rules, search rules, search rules, search rules, placed-none _ _ _ _ _)
+loop-n-init c = (search rules, search rules, stored-none _ _ _ _ _ _ c.requires.within (search rules) (search rules))
+
+pub bounds-table-n : goal.bounds-table-n
+bounds-table-n c = omega (arith, c.loop-n-test.true, c.from-n-end.ensures, last-low _ _ _ _ c.requires.within)
 
 pub overflow_add-end : goal.overflow_add-end
-overflow_add-end c = let l = ends _ _ _ (told c.lies.ensures c.if-lies.true) in omega arith
+overflow_add-end c =
+    let l = (lies _ _ _ _ c.requires.within c.loop-n.n _ c.from-size.ensures c.if-size-ne0.true).inside in
+    omega arith
 
 pub slice_bounds-put-end : goal.slice_bounds-put-end
-slice_bounds-put-end c = let l = ends _ _ _ (told c.lies.ensures c.if-lies.true) in omega arith
+slice_bounds-put-end c =
+    let l = (lies _ _ _ _ c.requires.within c.loop-n.n _ c.from-size.ensures c.if-size-ne0.true).inside in
+    omega arith
 
 pub loop-n-preserved : goal.loop-n-preserved
 loop-n-preserved c =
     let at = c.loop-n in
-    elim c.if-lies.branch [
-      | then-lies w ↦ (
-        search rules,
-        search rules,
-        ap length w.store-is ∙ w.put.auto.store ∙ at.invariant.2,
-        at.invariant.3,
-        at.invariant.4,
-        w.store-is ∙ w.put.ensures ∙ placed_one _ _ _ _ _ _ _ _ c.from-size.ensures (told c.lies.ensures w.if-lies.true) at.invariant.5,
+    let pre = c.requires in
+    let low : at.n < sections = omega (arith, c.loop-n-test.true, c.from-n-end.ensures, last-low _ _ _ _ pre.within) in
+    let next : at.n + 1 ≤ c.args.table.header.last + 1 = omega (arith, c.loop-n-test.true, c.from-n-end.ensures) in
+    elim c.if-size-ne0.branch [
+      | then-size-ne0 w ↦ (
+        next,
+        ap length w.store-is ∙ w.put.auto.store ∙ at.invariant.1,
+        w.store-is
+            ∙ w.put.ensures
+            ∙ stored_one _ _ _ _ _ _ pre.within pre.store_len.0 pre.store_len.1 at.store at.n _ c.from-size.ensures at.invariant.2 low w.if-size-ne0.true,
       )
-      | else-lies w ↦ (
-        search rules,
-        search rules,
-        ap length w.store-is ∙ at.invariant.2,
-        at.invariant.3,
-        at.invariant.4,
-        w.store-is ∙ placed-skipped _ _ _ _ _ _ _ _ c.from-size.ensures (told c.lies.ensures w.if-lies.false) at.invariant.5,
+      | else-size-ne0 w ↦ (
+        next,
+        ap length w.store-is ∙ at.invariant.1,
+        w.store-is
+            ∙ stored-skipped _ _ _ _ _ _ pre.within pre.store_len.0 pre.store_len.1 at.store at.n _ c.from-size.ensures at.invariant.2 w.if-size-ne0.false,
       )
     ]
 
 pub returns : goal.returns
-returns c = placed_end _ _ _ _ _ _ _ _ (search rules) (omega arith) c.loop-n.invariant.5
+returns c =
+    let at = c.loop-n in
+    let pre = c.requires in
+    let end : at.n ≡ c.args.table.header.last + 1 = omega (arith, c.loop-n-test.false, c.from-n-end.ensures, at.invariant.0) in
+    all-stored _ _ _ _ _ _ pre.within pre.store_len.0 pre.store_len.1 at.store at.n end at.invariant.2
