@@ -31,7 +31,7 @@ module _ (h : History) where
   reply-after q = next-answer (ask q)
 
   pub reply-refusal : (q : Question) → refusal_in (reply_after h q).code ≡ reply_no (reply layer q)
-  reply-refusal q = ap (λ a. refusal_in a.code) (reply-after q) ∙ reply-number (reply layer q) (reply-range q)
+  reply-refusal q = ap (λ a. refusal_in a.code) (reply-after q) ∙ reply-number (reply layer q)
 
   -- a question after one more call
   module _ (c : Call) (b : OfBytes (c ∷ [])) where
