@@ -5,6 +5,8 @@ use mathlib.Core.List.{List}
 use mathlib.Core.Logic.Iff
 use mathlib.Core.Logic.{◌↔◌}
 use Prim.Native.Nat.{ℕ}
+use Rattle.refusal.specs.Refusal as refusal
+use Rattle.refusal.specs.declared.Refusal.{Refusal}
 use Rattle.base.specs.Tables.{None}
 use Rattle.shelf.specs.Record.{Shelf}
 use Rattle.file_number.specs.Number.{Bytes}
@@ -14,7 +16,7 @@ use Rattle.shelf_load.proofs.Faults.{FileFault}
 use Rattle.shelf_load.proofs.ExactlyWhen.{early, number, refused-file}
 
 module _ (shelf : Shelf) (store file : List ℕ) (b : Bytes file) where
-  pub load-fault : (n : ℕ) → FileFault n → (number shelf store file ≡ n) ↔ (None (early shelf store file) × Fault file n)
-  load-fault n f =
-      Iff.trans (refused-file shelf store file n f)
-      (λ w. (w.0, (refused-exactly file b n).0 w.1), λ w. (w.0, (refused-exactly file b n).1 w.1))
+  pub load-fault : (r : Refusal) → FileFault (refusal.number r) → (number shelf store file ≡ refusal.number r) ↔ (None (early shelf store file) × Fault file r)
+  load-fault r f =
+      Iff.trans (refused-file shelf store file r f)
+      (λ w. (w.0, (refused-exactly file b r).0 w.1), λ w. (w.0, (refused-exactly file b r).1 w.1))

@@ -1,5 +1,6 @@
 -- Over any history every table is as it was left.
 --   file-own       the sections of an accepted file are its table's
+--   file-sections  and they are those that its reading finds
 --   left-kept      what is kept of a table whose sections are its own is as it was left
 --   left_step      one call keeps it so
 --   left-all       it is so after every history
@@ -12,22 +13,23 @@ use native.Mathlib.Omega.{arith}
 use lib.Dec.{eqb}
 use lib.ListN.{get_or}
 use borrow.Author.Tests.{eqb-true, eqb-false, not-true}
+use Rattle.std.specs.Prelude.{Result, Ok, Err}
+use Rattle.refusal.specs.declared.Refusal.{Refusal}
 use Rattle.base.proofs.Cases.{by, unlike, and_left, and_right}
 use Rattle.section.specs.Section.{read_of, header_of, version, section_number, last_section_number}
-use Rattle.section.specs.declared.Header.{Header}
-use Rattle.section.specs.declared.Reading.{Reading}
 use Rattle.berth.specs.Berth.{sections, places, standing}
 use Rattle.shelf.specs.Record.{place_at, holds, place_of}
 use Rattle.key.specs.Key.{same_key}
 use Rattle.key.specs.declared.Key.{Key}
 use Rattle.shelf_offer.specs.Offer.{After}
 use Rattle.shelf.specs.Record.{key_of}
-use Rattle.file.specs.Scan.{scan_of}
-use Rattle.file.specs.declared.Scan.{Scan}
+use Rattle.file.specs.Layout.{chosen}
+use Rattle.file.specs.Scan.{scan_of, found_in, sections_in, table_in}
+use Rattle.file.specs.declared.Table as read
 use Rattle.file.proofs.Found.{sound-header}
-use Rattle.file.proofs.Held.{Lies, held}
+use Rattle.file.proofs.Held.{Lies}
 use Rattle.shelf_laws.specs.State.{State, offer_to, load_on, release_from, after_offer, after_load, after_release}
-use Rattle.shelf_laws.specs.File.{length_in, carries, section_in}
+use Rattle.shelf_laws.specs.File.{starts_in, lengths_in, length_in, carries, section_in}
 use Rattle.shelf_laws.specs.Named.{key_in}
 use Rattle.shelf_laws.specs.Answers.{begins, joins, accepted, is_done, frees}
 use Rattle.shelf_laws.specs.Log.{table_has, loads}
@@ -37,7 +39,7 @@ use Rattle.shelf_laws.proofs.Kept.{Good, Table, Kept, kept-itself, Alike, alike-
 use Rattle.shelf_laws.proofs.Offering.{Goes, goes}
 use Rattle.shelf_laws.proofs.Offered.{offer-good, offer-apart, offer-begins, offer-joins, joins-held, accepted-heard}
 use Rattle.shelf_laws.proofs.HandedOut.{joins-else}
-use Rattle.shelf_laws.proofs.Loaded.{load-good, load_apart, load-begins, carried_table}
+use Rattle.shelf_laws.proofs.Loaded.{holding, load-good, load_apart, load-begins, carried_table}
 use Rattle.shelf_laws.proofs.Released.{release-good, release-apart, release-done}
 use Rattle.shelf_laws.proofs.Histories.{fresh-unheld, start-holds}
 use Rattle.file_round.specs.Round.{bytes_at, IsSection, AsLeft}
@@ -61,27 +63,31 @@ left-alike s t key g a left i =
     left-kept t key (alike-kept s t key a g (kept-itself s (place_of s.shelf key) g key refl j)) (left j) i
 
 -- a payload is a section of its table
-own-payload : (payload : List ℕ) (n : ℕ) → read_of payload ≡ Reading.Sound (header_of payload) → eqb n (section_number payload) ≡ true
+own-payload : (payload : List ℕ) (n : ℕ) → read_of payload ≡ Ok (header_of payload) → eqb n (section_number payload) ≡ true
     → IsSection (key_in payload) (version payload) (last_section_number payload) n payload
 own-payload payload n r e = record { sound = r; key = refl; version = refl; last = refl; number = sym (eqb-true _ _ e) }
 
 -- the sections of an accepted file are its table's
-pub file-own : (file : List ℕ) (h : Header) → (scan_of file).answer ≡ Scan.Table h → (n : ℕ) → carries file n ≡ true
-    → IsSection (key_of h) h.version h.last n (section_in file n)
-file-own file h e n c =
+pub file-own : (file : List ℕ) (table : read.Table) → scan_of file ≡ Ok table → (n : ℕ) → carries file n ≡ true
+    → IsSection (key_of table.header) table.header.version table.header.last n (section_in file n)
+file-own file table e n c =
     ⊎_elim
     (λ z. absurd (eqb-false _ _ (not-true (eqb (length_in file n) 0) c) z))
-    (λ (w : Lies file h n (get_or (scan_of file).starts n 0) (length_in file n)).
+    (λ (w : Lies file table.header n (get_or (starts_in (scan_of file)) n 0) (length_in file n)).
     let is : w.header ≡ header_of (section_in file n) = sound-header (section_in file n) w.header w.sound in
-    let shares = same_parts h w.header w.shares in
+    let shares = same_parts table.header w.header w.shares in
     record {
-      sound = w.sound ∙ ap Reading.Sound is;
+      sound = w.sound ∙ ap Ok is;
       key = ap key_of (sym is) ∙ sym shares.key;
       version = ap (λ x. x.version) (sym is) ∙ sym shares.version;
       last = ap (λ x. x.last) (sym is) ∙ sym shares.last;
       number = ap (λ x. x.number) (sym is) ∙ w.number;
     })
-    ((held file h e).each n)
+    ((holding file table e).each n)
+
+pub file-sections : (file : List ℕ) (table : read.Table) → scan_of file ≡ Ok table → chosen sections (carries file) (section_in file) ≡ table_in file
+unfolding found_in
+file-sections file table e = ap (λ scan. found_in file (starts_in scan) (lengths_in scan)) e ∙ sym (ap (sections_in file) e)
 
 module _ (s : State) (g : Good s) (left : (key : Key) → AsLeft s key) where
   module _ (payload : List ℕ) where
@@ -122,10 +128,11 @@ module _ (s : State) (g : Good s) (left : (key : Key) → AsLeft s key) where
         (λ f. left-alike s (after_offer (offer_to s payload)) key g (offer-apart s payload g key f) (left key))
 
   module _ (file : List ℕ) where
-    carried-own : (key : Key) (scan : Scan) → (scan_of file).answer ≡ scan → table_has key scan ≡ true → Own key (carried_table s file g scan)
-    carried-own key (Scan.Refused m) e t n l c = absurd (unlike (sym t))
-    carried-own key (Scan.Table h) e t n l c =
-        subst (λ k. IsSection k h.version h.last n (section_in file n)) (same_key_lem (key_of h) key t) (file-own file h e n c)
+    carried-own : (key : Key) (scan : Result read.Table Refusal) → scan_of file ≡ scan → table_has key scan ≡ true → Own key (carried_table s file g scan)
+    carried-own key (Err r) e t n l c = absurd (unlike (sym t))
+    carried-own key (Ok table) e t n l c =
+        subst (λ k. IsSection k table.header.version table.header.last n (section_in file n)) (same_key_lem (key_of table.header) key t)
+        (file-own file table e n c)
 
     loaded-left : (key : Key) → AsLeft (after_load (load_on s file)) key
     loaded-left key =
@@ -133,7 +140,7 @@ module _ (s : State) (g : Good s) (left : (key : Key) → AsLeft s key) where
         by (loads key file && is_done (load_on s file).said)
         (λ t.
         left-kept (after_load (load_on s file)) key (load-begins s file g key t)
-        (carried-own key (scan_of file).answer refl (and_left (loads key file) done t)))
+        (carried-own key (scan_of file) refl (and_left (loads key file) done t)))
         (λ f. left-alike s (after_load (load_on s file)) key g (load_apart s file g key f) (left key))
 
   released-left : (gone key : Key) → AsLeft (after_release (release_from s gone)) key

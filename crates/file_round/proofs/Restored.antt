@@ -9,6 +9,7 @@ use lib.Dec.{eqb, ltb}
 use lib.ListN.{length, get_or-eq_default}
 use lib.Seq.{ext_get_or}
 use borrow.Author.Tests.{eq-eqb, ne_eqb, eqb-true, eqb-false, ltb-true, ltb-false, not-true, not-false}
+use Rattle.std.specs.Prelude.{Ok}
 use Rattle.base.specs.Below.{some}
 use Rattle.base.proofs.Below.{some-which, some-found}
 use Rattle.base.proofs.Cases.{by, unlike}
@@ -20,25 +21,25 @@ use Rattle.key.specs.declared.Key.{Key}
 use Rattle.shelf.specs.Record.{Place}
 use Rattle.shelf.proofs.Words.{sound-place}
 use Rattle.shelf.specs.Record.{key_of}
-use Rattle.file.specs.Layout.{chosen, SoundTable}
-use Rattle.file.specs.Scan.{scan_of, found_in, table_in}
-use Rattle.file.specs.declared.Scan.{Scan}
+use Rattle.file.specs.Layout.{file_of, chosen, SoundTable}
+use Rattle.file.specs.Scan.{scan_of, table_in}
+use Rattle.file.specs.declared.Table as read
+use Rattle.file.proofs.Heading.{headed}
 use Rattle.file_laws.proofs.Accepts.{in-one-way}
 use Rattle.file_laws.proofs.Files.{sound-accepted}
 use Rattle.shelf_load.specs.Load.{After, loaded_place, stored_below, table_of, load_of}
-use Rattle.shelf_load.specs.declared.Loaded.{Loaded}
 use Rattle.shelf_laws.specs.State.{State, load_on, after_load}
-use Rattle.shelf_laws.specs.File.{length_in, carries, section_in}
+use Rattle.shelf_laws.specs.File.{starts_in, lengths_in, length_in, carries, section_in}
 use Rattle.shelf_laws.proofs.Places.{its_key, is-taken, at_same, held_at}
 use Rattle.key.proofs.Keys.{key-itself}
-use Rattle.shelf_laws.proofs.Kept.{Good, Table, Kept, kept-itself}
+use Rattle.shelf_laws.proofs.Kept.{Good, Kept, kept-itself}
 use Rattle.shelf_laws.proofs.Loaded.{Carried, carried, load-begins, carried_table}
 use Rattle.file_round.specs.Round.{bytes_at, AsLeft, Restored}
 use Rattle.file_round.proofs.Picked.{matched, picked-match}
 use Rattle.file_round.proofs.Sections.{sections-sound}
 use Rattle.file_round.proofs.Saved.{file_from}
 use Rattle.shelf_laws.proofs.Asked.{file-held}
-use Rattle.file_round.proofs.Left.{file-own}
+use Rattle.file_round.proofs.Left.{file-own, file-sections}
 
 place_same : (a b : Place) → a.taken ≡ b.taken → a.key ≡ b.key → a.version ≡ b.version → a.last ≡ b.last → a.lengths ≡ b.lengths → a ≡ b
 place_same a b t k v l n =
@@ -84,21 +85,27 @@ module _ (s : State) (g : Good s) (key : Key) (left : AsLeft s key) (i : place_o
   sound : SoundTable (chosen sections (holds place) (bytes_at s at))
   sound = sections-sound key place.version place.last (holds place) (bytes_at s at) (left i) one.0 one.1 one.2
 
-  accepted : (h : Header) × ((scan_of file).answer ≡ Scan.Table h)
-  accepted = rw (file-held s key) (sound-accepted (chosen sections (holds place) (bytes_at s at)) sound)
+  accepted : (table : read.Table) × (scan_of file ≡ Ok table)
+  accepted =
+      let ss = chosen sections (holds place) (bytes_at s at) in
+      let a = sound-accepted ss sound in
+      let found = headed (scan_of (file_of ss)) a.0 a.1 in
+      rw (file-held s key) (found.table, found.is)
 
   abbrev header : Header
-  header = accepted.0
+  header = accepted.0.header
 
   same-sections : chosen sections (carries file) (section_in file) ≡ chosen sections (holds place) (bytes_at s at)
-  unfolding found_in
-  same-sections = ap table_in (file-held s key) ∙ in-one-way (chosen sections (holds place) (bytes_at s at)) sound
+  same-sections =
+      file-sections file accepted.0 accepted.1
+      ∙ ap table_in (file-held s key)
+      ∙ in-one-way (chosen sections (holds place) (bytes_at s at)) sound
 
   abbrev own : List ℕ → ℕ
   own bytes = (header_of bytes).number
 
   in-file : (n : ℕ) → n < sections → carries file n ≡ true → own (section_in file n) ≡ n
-  in-file n _ c = (file-own file header accepted.1 n c).number
+  in-file n _ c = (file-own file accepted.0 accepted.1 n c).number
 
   in_place_lem : (n : ℕ) → n < sections → holds place n ≡ true → own (bytes_at s at n) ≡ n
   in_place_lem n l h = (left i n l h).number
@@ -115,7 +122,7 @@ module _ (s : State) (g : Good s) (key : Key) (left : AsLeft s key) (i : place_o
   key-same =
       let n = one.0 in
       let c = same_numbers n one.1 ∙ one.2 in
-      sym (file-own file header accepted.1 n c).key
+      sym (file-own file accepted.0 accepted.1 n c).key
       ∙ ap (λ b. key_of (header_of b)) (same_bytes n one.1 one.2)
       ∙ (left i n one.1 one.2).key
 
@@ -123,7 +130,7 @@ module _ (s : State) (g : Good s) (key : Key) (left : AsLeft s key) (i : place_o
   same_version =
       let n = one.0 in
       let c = same_numbers n one.1 ∙ one.2 in
-      sym (file-own file header accepted.1 n c).version
+      sym (file-own file accepted.0 accepted.1 n c).version
       ∙ ap (λ b. (header_of b).version) (same_bytes n one.1 one.2)
       ∙ (left i n one.1 one.2).version
 
@@ -131,12 +138,12 @@ module _ (s : State) (g : Good s) (key : Key) (left : AsLeft s key) (i : place_o
   same-last =
       let n = one.0 in
       let c = same_numbers n one.1 ∙ one.2 in
-      sym (file-own file header accepted.1 n c).last
+      sym (file-own file accepted.0 accepted.1 n c).last
       ∙ ap (λ b. (header_of b).last) (same_bytes n one.1 one.2)
       ∙ (left i n one.1 one.2).last
 
   in-full : Carried file header
-  in-full = carried file header accepted.1
+  in-full = carried file accepted.0 accepted.1
 
   same_length : (n : ℕ) → n < sections → length_in file n ≡ length_at place n
   same_length n l =
@@ -148,15 +155,15 @@ module _ (s : State) (g : Good s) (key : Key) (left : AsLeft s key) (i : place_o
       (λ h.
       eqb-true (length_in file n) 0 (not-false _ (same_numbers n l ∙ h)) ∙ sym (eqb-true (length_at place n) 0 (not-false _ h)))
 
-  same-lengths : (scan_of file).lengths ≡ place.lengths
+  same-lengths : lengths_in (scan_of file) ≡ place.lengths
   same-lengths =
-      let a : length (scan_of file).lengths ≡ sections = in-full.sixteen in
+      let a : length (lengths_in (scan_of file)) ≡ sections = in-full.sixteen in
       let b : length place.lengths ≡ sections = g.formed.sixteen at i in
-      ext_get_or 0 (scan_of file).lengths place.lengths (a ∙ sym b) (λ n l. same_length n (omega arith))
+      ext_get_or 0 (lengths_in (scan_of file)) place.lengths (a ∙ sym b) (λ n l. same_length n (omega arith))
 
-  same_place : loaded_place header (scan_of file).lengths ≡ place
+  same_place : loaded_place header (lengths_in (scan_of file)) ≡ place
   same_place =
-      place_same (loaded_place header (scan_of file).lengths) place (sym taken)
+      place_same (loaded_place header (lengths_in (scan_of file))) place (sym taken)
       (key-same ∙ sym (its_key place key (held_at s.shelf key i))) same_version same-last same-lengths
 
   -- loaded on a shelf with room and without that key
@@ -166,9 +173,9 @@ module _ (s : State) (g : Good s) (key : Key) (left : AsLeft s key) (i : place_o
 
     loads-it : load_on t file
         ≡ record {
-          said = Loaded.Done;
-          shelf = with_place t.shelf (free_of t.shelf) (loaded_place header (scan_of file).lengths);
-          store = stored_below sections file (scan_of file).starts (scan_of file).lengths t.store (free_of t.shelf);
+          said = Ok tt;
+          shelf = with_place t.shelf (free_of t.shelf) (loaded_place header (lengths_in (scan_of file)));
+          store = stored_below sections file (starts_in (scan_of file)) (lengths_in (scan_of file)) t.store (free_of t.shelf);
         }
     unfolding load_of table_of
     loads-it =
@@ -178,16 +185,16 @@ module _ (s : State) (g : Good s) (key : Key) (left : AsLeft s key) (i : place_o
           ne_eqb (free_of t.shelf) places (λ e. omega arith),
         ))
 
-    pub loaded : (load_on t file).said ≡ Loaded.Done
+    pub loaded : (load_on t file).said ≡ Ok tt
     loaded = ap (λ (r : After). r.said) loads-it
 
-    kept : Kept next key (free_of t.shelf) (carried_table t file good (scan_of file).answer)
+    kept : Kept next key (free_of t.shelf) (carried_table t file good (scan_of file))
     kept = load-begins t file good key (rw (accepted.1, loaded, key-same, key-itself key))
 
     there : place_at next.shelf (free_of t.shelf) ≡ place
     there =
         ap (λ (r : After). place_at r.shelf (free_of t.shelf)) loads-it
-        ∙ at_same t.shelf good.formed (free_of t.shelf) room (loaded_place header (scan_of file).lengths)
+        ∙ at_same t.shelf good.formed (free_of t.shelf) room (loaded_place header (lengths_in (scan_of file)))
         ∙ same_place
 
     bytes-there : (n : ℕ) → bytes_at next (free_of t.shelf) n ≡ bytes_at s at n

@@ -3,7 +3,7 @@
 --   restores           what was saved from a store as it was left, loaded on a shelf with room and without that key, restores the table
 --   restores-always    .. so it is after any two histories, of a table that the one holds and the other does not, unless it is full
 --   answers-alike      a restored table answers every question as the one that was saved
-use Rattle.std.specs.Prelude.{if◌then◌else◌}
+use Rattle.std.specs.Prelude.{if◌then◌else◌, Ok, Err, Some, None}
 use mathlib.Core.Path.{◌≡◌, refl, sym, ap, subst, fun_ext, ◌∙◌}
 use mathlib.Core.List.{List, ◌++◌}
 use Prim.Native.Nat.{ℕ, ◌<◌, ◌≤◌}
@@ -16,14 +16,9 @@ use Rattle.shelf.specs.Record.{place_at, length_at, holds, place_of, free_of}
 use Rattle.key.specs.declared.Key.{Key}
 use Rattle.shelf.specs.Record.{Place}
 use Rattle.shelf_ask.specs.Ask.{holding_of, uncopied, copy, Copy, complete, lowest_missing}
-use Rattle.shelf_ask.specs.declared.Copied.{Copied}
-use Rattle.shelf_ask.specs.declared.Holding.{Holding}
-use Rattle.shelf_ask.specs.declared.Whole.{Whole}
-use Rattle.shelf_ask.specs.declared.Missing.{Missing}
 use Rattle.shelf_ask.proofs.Held.{in_place_lem, copy-held, whole-held, missing-held}
 use Rattle.file.specs.Layout.{file_of, chosen}
 use Rattle.shelf_save.specs.Save.{Save, refuse, unsaved, written, saved_file, save_of}
-use Rattle.shelf_save.specs.declared.Saved.{Saved}
 use Rattle.shelf_laws.specs.State.{State, save_out, copy_out, whole_in, missing_in}
 use Rattle.shelf_laws.specs.History.{Question, copied, wholly, lacking, saved, about, reply, after_all}
 use Rattle.shelf_laws.proofs.Places.{free-le}
@@ -41,7 +36,7 @@ use Rattle.file_round.proofs.Restored.{loaded, restored}
 pub saved-again : SavedAgain
 saved-again h = Again.saved-again (after_all h) (holds-all h).good
 
-pub restores : (s : State) → Good s → (key : Key) → AsLeft s key → (out : List ℕ) (n : ℕ) → (save_out s key out).said ≡ Saved.Bytes n
+pub restores : (s : State) → Good s → (key : Key) → AsLeft s key → (out : List ℕ) (n : ℕ) → (save_out s key out).said ≡ Ok n
     → (t : State) → Good t → place_of t.shelf key ≡ places → free_of t.shelf < places
     → Restores s key t (take n (save_out s key out).out)
 restores s g key left out n e t good without room =
@@ -70,16 +65,16 @@ asking-itself (Question.save k out) key e = ap (λ x. Question.save x out) (sym 
 
 -- what one may ask of it
 module _ (s t : State) (key : Key) (gs : Good s) (gt : Good t) (held : place_of s.shelf key < places) (r : Restored s t key) where
-  in-s : holding_of s.shelf (length s.store) key ≡ Holding.In (place_of s.shelf key)
+  in-s : holding_of s.shelf (length s.store) key ≡ Ok (place_of s.shelf key)
   in-s = in_place_lem s.shelf (length s.store) key gs.lent gs.unspoiled (place_of s.shelf key) refl (λ e. omega arith)
 
-  in-t : holding_of t.shelf (length t.store) key ≡ Holding.In (place_of t.shelf key)
+  in-t : holding_of t.shelf (length t.store) key ≡ Ok (place_of t.shelf key)
   in-t = in_place_lem t.shelf (length t.store) key gt.lent gt.unspoiled (place_of t.shelf key) refl (λ e. let i = r.held in omega arith)
 
   -- by the place and the bytes alone
   abbrev copied_by : Place → List ℕ → ℕ → List ℕ → Copy
   copied_by place bytes n out =
-      first (λ m. copy (Copied.Refused m) out) (uncopied place n out) (copy (Copied.Bytes (length_at place n)) (bytes ++ drop (length_at place n) out))
+      first (λ e. copy (Err e) out) (uncopied place n out) (copy (Ok (length_at place n)) (bytes ++ drop (length_at place n) out))
 
   restored-copies : (n : ℕ) (out : List ℕ) → copy_out t key n out ≡ copy_out s key n out
   restored-copies n out =
@@ -91,13 +86,13 @@ module _ (s t : State) (key : Key) (gs : Good s) (gt : Good t) (held : place_of 
   restored-whole : whole_in t key ≡ whole_in s key
   restored-whole =
       whole-held t.shelf t.store key (place_of t.shelf key) in-t
-      ∙ ap (λ p. if complete p then Whole.Complete else Whole.Incomplete) r.table
+      ∙ ap (λ p. Ok (complete p)) r.table
       ∙ sym (whole-held s.shelf s.store key (place_of s.shelf key) in-s)
 
   restored-missing : missing_in t key ≡ missing_in s key
   restored-missing =
       missing-held t.shelf t.store key (place_of t.shelf key) in-t
-      ∙ ap (λ p. if complete p then Missing.Nothing else Missing.Number (lowest_missing p)) r.table
+      ∙ ap (λ p. Ok (if complete p then None else Some (lowest_missing p))) r.table
       ∙ sym (missing-held s.shelf s.store key (place_of s.shelf key) in-s)
 
   restored-file : saved_file t.shelf t.store key ≡ saved_file s.shelf s.store key

@@ -9,13 +9,14 @@ use lib.Dec.{eqb, ltb}
 use lib.ListN.{length, take}
 use lib.Seq.{take-append_seam}
 use borrow.Author.Tests.{eq-eqb, ne_eqb, eqb-false, le-ltb}
+use Rattle.std.specs.Prelude.{Result, Ok, Err}
+use Rattle.refusal.specs.declared.Refusal.{Refusal}
 use Rattle.base.proofs.Cases.{by}
 use Rattle.berth.specs.Berth.{places, store_size}
 use Rattle.shelf.specs.Record.{place_of}
 use Rattle.key.specs.declared.Key.{Key}
 use Rattle.shelf.proofs.Find.{place-le}
 use Rattle.shelf_save.specs.Save.{written, saved_file, save_of}
-use Rattle.shelf_save.specs.declared.Saved.{Saved}
 use Rattle.shelf_laws.specs.State.{State, save_out}
 use Rattle.shelf_laws.proofs.Kept.{Good}
 
@@ -40,10 +41,10 @@ module _ (s : State) (key : Key) where
       pub held : place_of s.shelf key < places
       pub file : take n (save_out s key out).out ≡ file_from
 
-    apart : {m n : ℕ} {A : Type 0} → Saved.Refused m ≡ Saved.Bytes n → A
-    apart e = absurd (let z : ◌≡◌ {A = ℕ} 0 1 = cc in omega arith)
+    apart : {r : Refusal} {n : ℕ} {A : Type 0} → ◌≡◌ {A = Result ℕ Refusal} (Err r) (Ok n) → A
+    apart e = absurd cc
 
-    pub saved-bytes : (n : ℕ) → (save_out s key out).said ≡ Saved.Bytes n → Wrote n
+    pub saved-bytes : (n : ℕ) → (save_out s key out).said ≡ Ok n → Wrote n
     unfolding save_of
     saved-bytes n =
         rw (eq-eqb (length s.store) store_size g.lent, g.unspoiled)

@@ -1,7 +1,7 @@
 -- The held sections of a table as it was left are a sound table.
 --   same_parts       sections that share key, version and last number
 --   sections-sound   so are they
-use mathlib.Core.Path.{◌≡◌, refl, sym, ap, subst, ◌∙◌}
+use mathlib.Core.Path.{◌≡◌, refl, sym, subst, ◌∙◌}
 use mathlib.Core.Bool.{Bool, true}
 use mathlib.Core.List.Memᴰ
 use mathlib.Core.List.{List, [], ◌∷◌, ◌++◌, append-nil, Memᴰ}
@@ -10,10 +10,10 @@ use native.Mathlib.Omega.{arith}
 use lib.Dec.{eqb}
 use lib.ListN.{length}
 use borrow.Author.Tests.{eq-eqb, eqb-true}
+use Rattle.std.specs.Prelude.{Ok}
 use Rattle.base.proofs.Cases.{by, and_left, and_right}
 use Rattle.section.specs.Section.{read_of, header_of}
 use Rattle.section.specs.declared.Header.{Header}
-use Rattle.section.specs.declared.Reading.{Reading}
 use Rattle.berth.specs.Berth.{sections}
 use Rattle.key.specs.declared.Key.{Key}
 use Rattle.key.specs.Key.{same_key}
@@ -64,7 +64,7 @@ below_last n s [] e b = (omega arith, tt)
 below_last n s (x ∷ ss) e b = (let l = b.0 in omega arith, below_last n s ss e b.1)
 
 -- one section more, above all others
-rising-last : (first : Header) (n lowest : ℕ) (s : List ℕ) (ss : List (List ℕ)) → read_of s ≡ Reading.Sound (header_of s) → same_table first (header_of s) ≡ true
+rising-last : (first : Header) (n lowest : ℕ) (s : List ℕ) (ss : List (List ℕ)) → read_of s ≡ Ok (header_of s) → same_table first (header_of s) ≡ true
     → (header_of s).number ≡ n → lowest ≤ n → Below n ss → Rising first lowest ss → Rising first lowest (ss ++ (s ∷ []))
 rising-last first n lowest s [] r t e l b i = (r, t, omega arith, tt)
 rising-last first n lowest s (x ∷ ss) r t e l b i =
