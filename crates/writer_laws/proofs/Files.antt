@@ -3,20 +3,20 @@
 --   accepted          the file's reading gives the table with the label, and its last number
 --   holds-sections    and finds the sections, each once and in order
 --   lists-complete    its list has a line for each section, and says that the table is complete
-use mathlib.Core.Path.{◌≡◌, refl, sym, ap, subst, ◌∙◌}
+use mathlib.Core.Path.{◌≡◌, refl, ap, ◌∙◌}
 use mathlib.Core.Bool.{true}
 use mathlib.Core.List.{List, [], ◌∷◌, ◌++◌}
 use Prim.Native.Nat.{ℕ, zero, suc, ◌+◌, ◌≤◌}
 use native.Mathlib.Omega.{arith}
 use lib.ListN.{length}
 use borrow.Author.Tests.{eq-eqb}
+use Rattle.std.specs.Prelude.{Ok}
 use Rattle.key.specs.Key.{nrt_it}
 use Rattle.key.proofs.Keys.{key-itself}
 use Rattle.section.specs.Section.{header_of}
 use Rattle.section.specs.declared.Header.{Header}
 use Rattle.file.specs.Layout.{file_of, same_table, SoundTable}
-use Rattle.file.specs.Scan.{scan_of, table_in}
-use Rattle.file.specs.declared.Scan.{Scan}
+use Rattle.file.specs.Scan.{scan_of, heading, table_in}
 use Rattle.file_laws.proofs.Whole.{sections_to, Numbered, sound-all, accepted-all, holds-all, lists-all}
 use Rattle.file_listing.specs.Words.{lines}
 use Rattle.file_listing.specs.Listing.{head_line, section_line, complete_line, text_of}
@@ -66,8 +66,8 @@ module _ (label : Label) (body : List ℕ) where
     sound-sections : SoundTable (sections_of label body)
     sound-sections = rw (all-to (last + 1)) (sound-all (written label body) last each)
 
-    file-accepted : (scan_of (feed_file label body)).answer ≡ Scan.Table (header_at 0)
-    file-accepted = rw whole (accepted-all (written label body) last each ∙ ap Scan.Table (header_is 0 (omega arith)))
+    file-accepted : heading (scan_of (feed_file label body)) ≡ Ok (header_at 0)
+    file-accepted = rw whole (accepted-all (written label body) last each ∙ ap Ok (header_is 0 (omega arith)))
 
     file-holds : table_in (feed_file label body) ≡ sections_of label body
     file-holds = rw (whole, all-to (last + 1)) (holds-all (written label body) last each)

@@ -9,9 +9,9 @@ use mathlib.Core.List.{List}
 use Prim.Native.Nat.{ℕ, ◌≤◌}
 use native.Mathlib.Omega.{arith}
 use lib.ListN.{length, drop}
+use Rattle.std.specs.Prelude.{Ok}
 use Rattle.section.specs.Section.{read_of, header_of, version, section_number, last_section_number}
 use Rattle.section.specs.declared.Header.{Header}
-use Rattle.section.specs.declared.Reading.TheVariants.{Sound}
 use Rattle.section.proofs.Laws.{sound-facts}
 use Rattle.shelf.specs.Record as Record
 use Rattle.shelf_laws.specs.Reception.{SectionOf}
@@ -26,14 +26,14 @@ module _ (label : Label) (body : List ℕ) (other : ¬ (label.table ≡ nrt_it))
   abbrev header : Header
   header = found label k (last_of (length body)) (body_at body k)
 
-  reads : read_of (written label body k) ≡ Sound header
+  reads : read_of (written label body k) ≡ Ok header
   reads = reads_back label body k other fits five known
 
   pub its-header : header_of (written label body k) ≡ header
   its-header = sym (sound-facts (written label body k) header reads).header
 
   pub is-section : SectionOf (label_key label) (written label body k)
-  is-section = record { sound = reads ∙ ap Sound (sym its-header); its_key = ap Record.key_of its-header }
+  is-section = record { sound = reads ∙ ap Ok (sym its-header); its_key = ap Record.key_of its-header }
 
   pub its-number : section_number (written label body k) ≡ k
   its-number = ap (λ (h : Header). h.number) its-header

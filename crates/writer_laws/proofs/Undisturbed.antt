@@ -7,20 +7,23 @@ use Prim.Native.Nat.{ℕ, ◌<◌, ◌≤◌}
 use native.Mathlib.Omega.{arith}
 use lib.ListN.{length}
 use borrow.Author.Tests.{eq-eqb}
+use Rattle.std.specs.Prelude.{Ok, Err}
+use Rattle.refusal.specs.Refusal.{number, number_of}
+use Rattle.refusal.specs.declared.Refusal.{Refusal}
+use Rattle.refusal.specs.declared.Refusal.TheVariants.{NoFreePlace}
+use Rattle.refusal.proofs.Numbers.{once}
 use Rattle.base.specs.Below.{lowest}
 use Rattle.base.proofs.Cases.{unlike}
 use Rattle.section.specs.Section.{read_of, header_of, section_number}
-use Rattle.section.specs.declared.Reading.TheVariants.{Sound, Refused}
 use Rattle.berth.specs.Berth.{places}
 use Rattle.shelf.specs.Record.{fresh, place_of, free_of}
 use Rattle.key.specs.declared.Key.{Key}
 use Rattle.shelf_offer.specs.Offer as Offer
-use Rattle.shelf_offer.specs.declared.Offered.{Offered}
 use Rattle.shelf_laws.specs.State.{State}
 use Rattle.shelf_laws.specs.Named.{key_in}
 use Rattle.shelf_laws.specs.History.{Call, Entry, entry, step, logged, start, log_of, Each}
 use Rattle.shelf_laws.specs.Reception.{Undisturbed}
-use Rattle.shelf_laws.proofs.Offering.{Refusal, Goes, goes}
+use Rattle.shelf_laws.proofs.Offering.{Reason, Goes, goes}
 use Rattle.shelf_laws.proofs.Histories.{Holds, step-holds, start-holds, fresh-unheld}
 use Rattle.shelf_laws.proofs.Reception.{section-is, heard, Fed, fed-step}
 use Rattle.writer.specs.Writer.{longest_body, last_of, written}
@@ -38,24 +41,24 @@ unfolding free_of lowest fresh
 fresh-room key _ e = let z : ◌≡◌ {A = ℕ} 0 4 = e in omega arith
 
 -- a sound section that has room is not refused 9
-module _ (s : State) (payload : List ℕ) (sound : read_of payload ≡ Sound (header_of payload)) (room : Room s (key_in payload)) where
-  read-9 : read_of payload ≡ Refused 9 → ⊥
-  read-9 e = let z : ◌≡◌ {A = ℕ} 0 1 = cc in omega arith
+module _ (s : State) (payload : List ℕ) (sound : read_of payload ≡ Ok (header_of payload)) (room : Room s (key_in payload)) where
+  read-9 : read_of payload ≡ Err NoFreePlace → ⊥
+  read-9 e = cc
 
-  not_full : (n : ℕ) → Refusal s payload n → n ≡ 9 → ⊥
-  not_full _ (Refusal.17-store _) e = omega arith
-  not_full _ (Refusal.18-spoiled _ _) e = omega arith
-  not_full _ (Refusal.unsound n _ _ r) e = read-9 (r ∙ ap Refused e)
-  not_full _ (Refusal.9-full _ unheld full) e = room unheld full
-  not_full _ (Refusal.10-last _ _ _ _) e = omega arith
-  not_full _ (Refusal.10-differs _ _ _ _ _ _) e = omega arith
+  not_full : (r : Refusal) → Reason s payload r → number r ≡ 9 → ⊥
+  not_full _ (Reason.17-store _) e = omega arith
+  not_full _ (Reason.18-spoiled _ _) e = omega arith
+  not_full _ (Reason.unsound r _ _ q) e = read-9 (q ∙ ap Err (once r NoFreePlace e))
+  not_full _ (Reason.9-full _ unheld full) e = room unheld full
+  not_full _ (Reason.10-last _ _ _ _) e = omega arith
+  not_full _ (Reason.10-differs _ _ _ _ _ _) e = omega arith
 
-  not-9 : {r : Offer.After} → Goes s payload r → r.said ≡ Offered.Refused 9 → ⊥
-  not-9 (Goes.refuses n y) e = not_full n y (ap Offer.number_of e)
-  not-9 (Goes.began _ _ _) e = let z : ◌≡◌ {A = ℕ} 0 9 = ap Offer.number_of e in omega arith
-  not-9 (Goes.began_again _ _ _) e = let z : ◌≡◌ {A = ℕ} 0 9 = ap Offer.number_of e in omega arith
-  not-9 (Goes.added _ _ _ _ _) e = let z : ◌≡◌ {A = ℕ} 0 9 = ap Offer.number_of e in omega arith
-  not-9 (Goes.repeats _ _ _ _ _ _) e = let z : ◌≡◌ {A = ℕ} 0 9 = ap Offer.number_of e in omega arith
+  not-9 : {r : Offer.After} → Goes s payload r → r.said ≡ Err NoFreePlace → ⊥
+  not-9 (Goes.refuses r y) e = not_full r y (ap number_of e)
+  not-9 (Goes.began _ _ _) e = let z : ◌≡◌ {A = ℕ} 0 9 = ap number_of e in omega arith
+  not-9 (Goes.began_again _ _ _) e = let z : ◌≡◌ {A = ℕ} 0 9 = ap number_of e in omega arith
+  not-9 (Goes.added _ _ _ _ _) e = let z : ◌≡◌ {A = ℕ} 0 9 = ap number_of e in omega arith
+  not-9 (Goes.repeats _ _ _ _ _ _) e = let z : ◌≡◌ {A = ℕ} 0 9 = ap number_of e in omega arith
 
 module _ (label : Label) (body : List ℕ) (other : ¬ (label.table ≡ nrt_it)) (five : label.version ≤ 31) (fits : length body ≤ longest_body) where
   abbrev key : Key

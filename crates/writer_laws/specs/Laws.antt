@@ -1,14 +1,11 @@
 -- Document 02, request 1: "Offered to a fresh shelf in any order, the sections make a complete table whose joined bodies are the
 -- given body." The words, proved in proofs/AnyOrder; and of the file of the sections, in proofs/Files.
-use Rattle.std.specs.Prelude.{ℕ, ◌+◌, ◌≤◌, ◌≡◌, List, ◌++◌, length, drop}
+use Rattle.std.specs.Prelude.{ℕ, ◌+◌, ◌≤◌, ◌≡◌, true, List, ◌++◌, length, drop, Ok}
 use Rattle.key.specs.Key.{nrt_it}
 use Rattle.section.specs.declared.Header.{Header}
 use Rattle.shelf_ask.specs.Ask.{copy}
-use Rattle.shelf_ask.specs.declared.Copied.{Copied}
-use Rattle.shelf_ask.specs.declared.Whole.{Whole}
 use Rattle.file.specs.Layout.{SoundTable}
-use Rattle.file.specs.Scan.{scan_of, table_in}
-use Rattle.file.specs.declared.Scan.{Scan}
+use Rattle.file.specs.Scan.{scan_of, heading, table_in}
 use Rattle.file_listing.specs.Words.{lines}
 use Rattle.file_listing.specs.Listing.{head_line, section_line, complete_line, text_of}
 use Rattle.shelf_laws.specs.History.{Call, log_of, copy_after, whole_after, Each}
@@ -22,7 +19,7 @@ use Rattle.writer_laws.specs.Offers.{label_key, offers_of, AnyOrder, bodies_afte
 -- After a history h:
 -- the table is called complete
 abbrev pub CompleteIn : Label → List Call → Type 0
-CompleteIn label h = whole_after h (label_key label) ≡ Whole.Complete
+CompleteIn label h = whole_after h (label_key label) ≡ Ok true
 
 -- each section is handed out as it was written
 abbrev pub HandedIn : Label → List ℕ → List Call → Type 0
@@ -32,7 +29,7 @@ HandedIn label body h =
     → (out : List ℕ)
     → length (written label body k) ≤ length out
     → copy_after h (label_key label) k out
-    ≡ copy (Copied.Bytes (length (written label body k))) (written label body k ++ drop (length (written label body k)) out)
+    ≡ copy (Ok (length (written label body k))) (written label body k ++ drop (length (written label body k)) out)
 
 -- the joined bodies of the sections that are handed out are the given body
 abbrev pub JoinedIn : Label → List ℕ → List Call → Type 0
@@ -93,7 +90,7 @@ first_header label body = found label 0 (last_of (length body)) (body_at body 0)
 
 -- the file's reading gives the table with the label and the last number
 abbrev pub FileAccepted : Type 0
-FileAccepted = Written (λ label body. (scan_of (feed_file label body)).answer ≡ Scan.Table (first_header label body))
+FileAccepted = Written (λ label body. heading (scan_of (feed_file label body)) ≡ Ok (first_header label body))
 
 -- and finds the sections, each once and in order
 abbrev pub FileHolds : Type 0

@@ -1,10 +1,10 @@
 -- Document 02, request 1: offered to a fresh shelf in any order, the sections make a complete table whose joined bodies are
 -- the given body. The histories that this speaks of, and the joined bodies. `Call` and `copy_after` are those of demand 3.
-use Rattle.std.specs.Prelude.{ℕ, zero, suc, ◌≤◌, take, drop}
+use Rattle.std.specs.Prelude.{ℕ, zero, suc, ◌≤◌, take, drop, Result, Ok, Err}
 use mathlib.Core.List.{List, [], ◌∷◌, ◌++◌, Memᴰ}
+use Rattle.refusal.specs.declared.Refusal.{Refusal}
 use Rattle.key.specs.declared.Key.{Key}
 use Rattle.shelf_ask.specs.Ask.{Copy}
-use Rattle.shelf_ask.specs.declared.Copied.{Copied}
 use Rattle.shelf_laws.specs.History.{Call, copy_after}
 use Rattle.writer.specs.Writer.{written}
 pub use Rattle.writer.specs.Theorems.{label_key}
@@ -22,9 +22,9 @@ pub record AnyOrder (last : ℕ) (ks : List ℕ) : Type 0 where
 
 -- the body of a section that is handed out, past the header's eight bytes; none where the copy is refused, which the laws
 -- rule out by themselves (`hands_out`)
-abbrev pub body_in : Copied → List ℕ → List ℕ
-body_in (Copied.Bytes n) out = drop 8 (take n out)
-body_in (Copied.Refused n) out = []
+abbrev pub body_in : Result ℕ Refusal → List ℕ → List ℕ
+body_in (Ok n) out = drop 8 (take n out)
+body_in (Err r) out = []
 
 abbrev pub body_of : Copy → List ℕ
 body_of c = body_in c.said c.out
