@@ -1,7 +1,7 @@
 -- How many bytes a table takes in its file, as the code adds them up.
 --   spelt-1-size, spelt-2-size, spelt-3-size   a number takes one group, two or three
 --   no_size, some_size, no-count, some-count   one section
---   none-counted, one-counted, all-counted     the sections of a place, turn by turn
+--   none-counted, one-counted, skip-counted, all-counted     the sections of a place, turn by turn; so none-sized ..
 use mathlib.Core.Path.{◌≡◌, refl, sym, ap, ◌∙◌}
 use mathlib.Core.List.{List}
 use Prim.Native.Nat.{ℕ, ◌+◌, ◌<◌, ◌≤◌}
@@ -64,6 +64,12 @@ module _ (lengths : List ℕ) where
 
   pub one-counted : {count more : ℕ} (k : ℕ) → count ≡ count_below k lengths → more ≡ count_of (get_or lengths k 0) → count + more ≡ count_below (k + 1) lengths
   one-counted k e f = rw (e, f) (sym (next-count k))
+
+  pub skip-sized : {bytes : ℕ} (k : ℕ) → bytes ≡ size_below k lengths → get_or lengths k 0 ≡ 0 → bytes ≡ size_below (k + 1) lengths
+  skip-sized {bytes} k e z = let a : bytes ≡ bytes + 0 = omega arith in a ∙ one-sized k e (no_size _ z)
+
+  pub skip-counted : {count : ℕ} (k : ℕ) → count ≡ count_below k lengths → get_or lengths k 0 ≡ 0 → count ≡ count_below (k + 1) lengths
+  skip-counted {count} k e z = let a : count ≡ count + 0 = omega arith in a ∙ one-counted k e (no-count _ z)
 
   pub all-sized : {bytes : ℕ} (k : ℕ) → k ≡ sections → bytes ≡ size_below k lengths → bytes ≡ size_below sections lengths
   all-sized k e q = q ∙ ap (λ n. size_below n lengths) e

@@ -6,7 +6,7 @@ ghost use Rattle.berth.specs.Berth.{berth_size, places, sections, store_size, la
 ghost use Rattle.shelf.specs.Layout.{shelf_at};
 ghost use Rattle.file_number.specs.Number.{spelt};
 ghost use Rattle.file.specs.Layout.{listed};
-ghost use Rattle.shelf_save.specs.Sizes.{held_of, size_of, count_of, size_below, count_below, Berthed};
+ghost use Rattle.shelf_save.specs.Sizes.{held_of, size_of, size_below, count_below, Berthed};
 ghost use Rattle.shelf_save.specs.Save.{held_below, place_saved, save, save_of};
 ghost use Rattle.answers.specs.Answers.{out as out_of};
 ghost use Rattle.shelf_save.specs.Answer.{save_lent};
@@ -16,10 +16,10 @@ use key::Key;
 use refusal::Refusal;
 
 // How many sections are held, and how many bytes they take in a file, each with its length.
-#[derive(Drop)]
+#[derive(Clone, Copy)]
 struct Sizes {
-    pub count: u16,
-    pub bytes: usize,
+    count: u16,
+    bytes: usize,
 }
 
 // From these on a number takes two groups, and three.
@@ -32,46 +32,27 @@ fn number_size(n: u16) -> usize
     ensures { (result ≡ length (spelt n)) × (result ≤ 3) }
 {
     if n < TWO_GROUPS {
-        return 1;
+        1
+    } else if n < THREE_GROUPS {
+        2
+    } else {
+        3
     }
-    if n < THREE_GROUPS {
-        return 2;
-    }
-    3
 }
 
-// How many bytes a section takes, with its length.
-fn section_size(size: u16) -> usize
-    ensures { (result ≡ size_of size) × (result ≤ 65538) }
-{
-    if size == 0 {
-        return 0;
-    }
-    number_size(size) + usize::from(size)
-}
-
-fn section_count(size: u16) -> u16
-    ensures { (result ≡ count_of size) × (result ≤ 1) }
-{
-    if size == 0 {
-        return 0;
-    }
-    1
-}
-
-// What sections with these lengths come to.
+// What sections with these lengths come to; a length of 0 is no section.
 fn sizes_of(lengths: [u16; 16]) -> Sizes
     ensures count_value { (result.count ≡ count_below sections lengths) × (result.bytes ≡ size_below sections lengths) }
     ensures count_le_sections { (result.count ≤ sections) × (result.bytes ≤ 65538 * sections) }
 {
     let mut count: u16 = 0;
     let mut bytes: usize = 0;
-    let mut n: usize = 0;
-    while n < SECTIONS {
+    for n in 0..SECTIONS {
         let size = lengths[n];
-        count += section_count(size);
-        bytes += section_size(size);
-        n += 1;
+        if size != 0 {
+            count += 1;
+            bytes += number_size(size) + usize::from(size);
+        }
     }
     Sizes { count, bytes }
 }
@@ -110,11 +91,8 @@ fn write_sections(store: &[u8], p: usize, lengths: [u16; 16], out: &mut [u8], fr
     ensures { out.new ≡ laid out.old from (listed (held_below sections lengths store.now p)) }
 {
     let mut at = from;
-    let mut n: usize = 0;
-    while n < SECTIONS {
-        let size = lengths[n];
-        at = write_held(store, p, n, size, out, at);
-        n += 1;
+    for n in 0..SECTIONS {
+        at = write_held(store, p, n, lengths[n], out, at);
     }
 }
 

@@ -10,5 +10,5 @@ returns-then-n-lt-TWO_GROUPS c = (spelt-1-size _ (search rules), omega arith)
 pub returns-then-n-lt-THREE_GROUPS : goal.returns-then-n-lt-THREE_GROUPS
 returns-then-n-lt-THREE_GROUPS c = (spelt-2-size _ (search rules) (search rules), omega arith)
 
-pub returns : goal.returns
-returns c = (spelt-3-size _ (search rules) (search rules), omega arith)
+pub returns-else-n-lt-THREE_GROUPS : goal.returns-else-n-lt-THREE_GROUPS
+returns-else-n-lt-THREE_GROUPS c = (spelt-3-size _ (search rules) (search rules), omega arith)

@@ -1,6 +1,6 @@
 -- `shelf_save::sizes_of` meets its promise: after each turn the sections passed are counted and added up.
 use mathlib.Core.Path.{◌≡◌}
-use Prim.Native.Nat.{◌≤◌, ◌*◌, ◌-◌}
+use Prim.Native.Nat.{◌≤◌, ◌*◌}
 use lib.ListN.{length}
 use Rattle.berth.specs.Berth.{sections}
 use Rattle.shelf_save.specs.Sizes.{size_below, count_below}
@@ -13,6 +13,3 @@ invariant-loop-n l = (l.n ≤ sections)
     × (l.bytes ≤ 65538 * l.n)
     × (l.count ≡ count_below l.n l.lengths)
     × (l.bytes ≡ size_below l.n l.lengths)
-
-abbrev pub decreases-loop-n : goal.decreases-loop-n
-decreases-loop-n l = sections - l.n

@@ -1,6 +1,6 @@
 -- `shelf_save::write_sections` meets its promise: after each turn the held sections passed are listed.
 use mathlib.Core.Path.{◌≡◌}
-use Prim.Native.Nat.{◌+◌, ◌≤◌, ◌-◌}
+use Prim.Native.Nat.{◌+◌, ◌≤◌}
 use lib.ListN.{length}
 use Rattle.berth.specs.Berth.{sections, laid}
 use Rattle.file.specs.Layout.{listed}
@@ -14,6 +14,3 @@ invariant-loop-n l = (l.n ≤ sections)
     × (length l.out ≡ length l.initial.out)
     × (l.at ≡ l.from + size_below l.n l.lengths)
     × (l.out ≡ laid l.initial.out l.from (listed (held_below l.n l.lengths l.store l.p)))
-
-abbrev pub decreases-loop-n : goal.decreases-loop-n
-decreases-loop-n l = sections - l.n
