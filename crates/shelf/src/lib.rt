@@ -109,7 +109,7 @@ fn has_list(words: &[u16; WORDS], p: usize, key: Key, number: u32) -> bool
     start == exchanged(key.start)
 }
 
-// The place of a list's key.
+// The place of a list's key, or 4. Here and below a place that is not there is 4 and no None, as in the definitions that the theorems speak of.
 fn place_of_list(words: &[u16; WORDS], key: Key, number: u32) -> usize
     requires { (key.table ≡ nrt_it) × (number ≡ number_for key) }
     ensures { (result ≡ place_of (shelf_in words.now) key) × (result ≤ places) }

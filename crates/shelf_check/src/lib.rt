@@ -89,7 +89,7 @@ fn shifted(mask: u16, last: u16) -> u32
     (mask as u32) >> (last as u32 % 32)
 }
 
-// Over 1 where in place p a number above last is held.
+// Over 1 where in place p a number above last is held. Here and below p is one of four literals: a type of its own for it would be taken apart at each index.
 fn above(words: &[u16; WORDS], p: usize) -> u32
     requires { p < places }
     ensures { result ≡ from_last words.now p }

@@ -13,9 +13,6 @@ word_at-idlength-requires c = (head-sound _ c.requires.0.head).sized
 pub id_of-id-requires : goal.id_of-id-requires
 id_of-id-requires c = λ e. (head-sound _ c.requires.0.head).allowed (sym c.word_at-idlength.ensures ∙ e)
 
-pub target_of-target-requires : goal.target_of-target-requires
-target_of-target-requires c = rw c.requires.1 c.requires.0.target
-
 pub word_at-requires : goal.word_at-requires
 word_at-requires c = rw c.requires.1 (user-sound _ _ c.requires.0.user).sized
 
