@@ -5,17 +5,20 @@ use mathlib.Core.List.{List, [], ◌∷◌, ◌++◌, Memᴰ}
 use Prim.Native.Nat.{ℕ, zero, suc, ◌+◌, ◌*◌, ◌/◌, ◌%◌, ◌<◌, ◌≤◌}
 use native.Mathlib.Omega.{arith}
 use lib.ListN.{length, take, drop, length-take}
+use Rattle.std.specs.Prelude.{Result, Ok, Err}
+use Rattle.refusal.specs.Refusal.{number}
+use Rattle.refusal.specs.declared.Refusal.{Refusal}
+use Rattle.refusal.proofs.Numbers.{in_byte}
 use Rattle.base.specs.Octets.{Octets}
 use Rattle.base.specs.Bytes.{part}
 use Rattle.base.proofs.Bytes.{octets-part}
 use Rattle.key.specs.declared.Key.{Key}
 use Rattle.shelf_ask.specs.Ask.{Copy}
-use Rattle.shelf_ask.specs.declared.Copied.{Copied}
 use Rattle.answers.specs.Answers.{size_in}
 use Rattle.shelf_laws.specs.State.{copy_out, whole_in}
 use Rattle.shelf_laws.specs.History.{OfBytes, copy, after_all}
 use Rattle.shelf_laws.proofs.Octets.{octets-cons}
-use Rattle.shelf_laws.proofs.Ranges.{CopyRange}
+use Rattle.shelf_laws.proofs.Ranges.{SizeRange}
 use Rattle.writer.specs.Writer.{longest_body, last_of, body_at, section_of, written}
 use Rattle.writer.specs.declared.Label.{Label}
 use Rattle.writer.specs.Answer.{write_out, section_lent}
@@ -87,14 +90,14 @@ can-be-offered label body other five fits ks any b l sizes = (
 )
 
 -- a body that is handed out, in numbers
-body_same : (c : Copy) → CopyRange c.said → body_of (ask-answer.copy_out c) ≡ layer.body_of c
+body_same : (c : Copy) → SizeRange c.said → body_of (ask-answer.copy_out c) ≡ layer.body_of c
 body_same c r = go c.said r
   where
-    go : (a : Copied) → CopyRange a → drop 8 (take (size_in (copied_code a)) c.out) ≡ layer.body_in a c.out
-    go (Copied.Bytes n) r = ap (λ m. drop 8 (take m c.out)) (size_in_lem n r)
-    go (Copied.Refused n) r =
-        let b : n ≤ 46 = r.1 in
-        let z : size_in n ≡ 0 = omega arith in
+    go : (a : Result ℕ Refusal) → SizeRange a → drop 8 (take (size_in (copied_code a)) c.out) ≡ layer.body_in a c.out
+    go (Ok n) r = ap (λ m. drop 8 (take m c.out)) (size_in_lem n r)
+    go (Err x) r =
+        let b : number x < 256 = (in_byte x).1 in
+        let z : size_in (number x) ≡ 0 = omega arith in
         ap (λ m. drop 8 (take m c.out)) z
 
 pub complete-table : CompleteTable

@@ -4,14 +4,16 @@ use mathlib.Core.Path.{◌≡◌, refl, sym, ap, subst, ◌∙◌}
 use mathlib.Core.Bool.{false}
 use mathlib.Core.List.{List}
 use mathlib.Core.Logic.{◌↔◌}
-use Prim.Native.Nat.{ℕ, ◌≤◌}
+use Prim.Native.Nat.{ℕ, ◌<◌}
 use native.Mathlib.Omega.{arith}
 use lib.ListN.{take}
+use Rattle.std.specs.Prelude.{Result, Ok, Err}
+use Rattle.refusal.specs.Refusal.{number}
+use Rattle.refusal.specs.declared.Refusal.{Refusal}
+use Rattle.refusal.proofs.Numbers.{in_byte}
 use Rattle.key.specs.declared.Key.{Key}
 use Rattle.shelf.specs.Record.{key_of}
-use Rattle.shelf_load.specs.declared.Loaded.{Loaded}
 use Rattle.shelf_save.specs.Save.{Save}
-use Rattle.shelf_save.specs.declared.Saved.{Saved}
 use Rattle.base.specs.Octets.{Octets}
 use Rattle.file.specs.Scan.{scan_of}
 use Rattle.answers.specs.Answers.{refusal_in, size_in}
@@ -20,7 +22,7 @@ use Rattle.shelf_laws.specs.History.{after_all, log_of, save, load}
 use Rattle.shelf_laws.specs.Log.{held_by, Full}
 use Rattle.shelf_laws.specs.Loads.{FileSays}
 use Rattle.shelf_laws.proofs.Loads as loads
-use Rattle.shelf_laws.proofs.Ranges.{SaveRange, range}
+use Rattle.shelf_laws.proofs.Ranges.{SizeRange}
 use Rattle.shelf_laws.proofs.Histories.{holds-all}
 use Rattle.shelf_laws.proofs.Loaded.{load-good}
 use Rattle.file_round.specs.Round.{Restores}
@@ -31,9 +33,10 @@ use Rattle.file_round.proofs.Round as round
 use Rattle.shelf_save.specs.Answer as save-answer
 use Rattle.shelf_save.specs.Answer.{saved_code}
 use Rattle.shelf_load.specs.Answer.{loaded_code, loaded_in}
+use Rattle.shelf_load.proofs.Told.{loaded-back}
 use Rattle.shelf_histories.specs.Numbers.{replied}
 use Rattle.shelf_histories.specs.History.{History, log_after, save_after, load_after}
-use Rattle.shelf_histories.proofs.Back.{size_in_lem, loaded-told}
+use Rattle.shelf_histories.proofs.Back.{size_in_lem}
 use Rattle.shelf_histories.proofs.After.{reply-range, reply-after, next-answer, next-reply}
 use Rattle.demands.specs.Files.{file_in, LoadedExactly, RestoresAlways, SavedAgain}
 use Rattle.demands.proofs.Shelf.{same_log}
@@ -41,20 +44,20 @@ use Rattle.demands.proofs.Shelf.{same_log}
 -- what a save that was not refused wrote, in numbers
 pub record Written (c : Save) : Type 0 where
   pub size : ℕ
-  pub said : c.said ≡ Saved.Bytes size
+  pub said : c.said ≡ Ok size
   pub file : file_in (save-answer.save_out c) ≡ take size c.out
 
-written : (c : Save) → SaveRange c.said → refusal_in (saved_code c.said) ≡ 0 → Written c
+written : (c : Save) → SizeRange c.said → refusal_in (saved_code c.said) ≡ 0 → Written c
 written c r e = go c.said refl r e
   where
-    go : (a : Saved) → c.said ≡ a → SaveRange a → refusal_in (saved_code a) ≡ 0 → Written c
-    go (Saved.Bytes n) q r e =
+    go : (a : Result ℕ Refusal) → c.said ≡ a → SizeRange a → refusal_in (saved_code a) ≡ 0 → Written c
+    go (Ok n) q r e =
         record {
           size = n;
           said = q;
           file = ap (λ a. take (size_in (saved_code a)) c.out) q ∙ ap (λ m. take m c.out) (size_in_lem n r);
         }
-    go (Saved.Refused n) q r e = let a : 1 ≤ n = r.0 in let b : n ≤ 46 = r.1 in absurd (omega arith)
+    go (Err x) q r e = let a : 0 < number x = (in_byte x).0 in let b : number x < 256 = (in_byte x).1 in absurd (omega arith)
 
 -- the number of a load, by the layer's answer
 pub load_code : (h : History) (file : List ℕ) → (load_after h file).code ≡ loaded_code (load_on (after_all h.calls) file).said
@@ -64,12 +67,12 @@ load_code h file = ap (λ a. a.code) (next-answer h (load file))
 pub load_told : (h : History) (file : List ℕ) → loaded_in (load_after h file).code ≡ (load_on (after_all h.calls) file).said
 load_told h file =
     let t = after_all h.calls in
-    ap loaded_in (load_code h file) ∙ loaded-told (load_on t file).said (range t (holds-all h.calls).good (load file))
+    ap loaded_in (load_code h file) ∙ loaded-back (load_on t file).said
 
 pub loaded-exactly : LoadedExactly
 loaded-exactly h file a =
-    subst (λ log. (loaded_in (load_after h file).code ≡ a) ↔ FileSays (scan_of file).answer log a) (sym (same_log h))
-    (subst (λ said. (said ≡ a) ↔ FileSays (scan_of file).answer (log_of h.calls) a) (sym (load_told h file)) (loads.loaded-exactly h.calls file a))
+    subst (λ log. (loaded_in (load_after h file).code ≡ a) ↔ FileSays (scan_of file) log a) (sym (same_log h))
+    (subst (λ said. (said ≡ a) ↔ FileSays (scan_of file) (log_of h.calls) a) (sym (load_told h file)) (loads.loaded-exactly h.calls file a))
 
 module _ (first second : History) (key : Key) (output : List ℕ) (e : refusal_in (save_after first key output).code ≡ 0) where
   abbrev file : List ℕ
@@ -114,9 +117,9 @@ restores-always first second key output e unheld not_full =
     )
 
 pub saved-again : SavedAgain
-saved-again h file octets header table e output room =
+saved-again h file octets header found e output room =
     let t = after_all h.calls in
-    let said : (load_on (after_all h.calls) file).said ≡ Loaded.Done =
+    let said : (load_on (after_all h.calls) file).said ≡ Ok tt =
     sym (load_told h file) ∙ ap loaded_in e in
     next-reply h (load file) (octets, tt) (save (key_of header) output)
-    ∙ ap save-answer.save_out (round.saved-again h.calls file octets header table said output room)
+    ∙ ap save-answer.save_out (round.saved-again h.calls file octets header found said output room)

@@ -1,16 +1,19 @@
 -- The buyer's third condition, proved of the functions that a host calls: the layer's laws, told of lent numbers.
 --   held-exactly, complete-exactly, lamp-exactly, more-reception, asked-exactly, released-exactly, never-17-18, handed_out
-use Rattle.std.specs.Prelude.{if◌then◌else◌}
+use Rattle.std.specs.Prelude.{if◌then◌else◌, Result, Ok, Err}
 use mathlib.Core.Path.{◌≡◌, refl, sym, ap, subst, ◌∙◌}
 use mathlib.Core.Bool.{Bool, true, false}
 use mathlib.Core.Logic.{◌↔◌}
 use mathlib.Core.List.{List, [], ◌∷◌}
-use Prim.Native.Nat.{ℕ, ◌≤◌}
+use Prim.Native.Nat.{ℕ, ◌<◌, ◌≤◌}
 use native.Mathlib.Omega.{arith}
+use Rattle.refusal.specs.Refusal.{number}
+use Rattle.refusal.specs.declared.Refusal.{Refusal}
+use Rattle.refusal.specs.declared.Refusal.TheVariants.{TableNotHeld}
+use Rattle.refusal.proofs.Numbers.{in_byte}
 use Rattle.section.specs.Section.{section_number}
 use Rattle.key.specs.declared.Key.{Key}
 use Rattle.shelf_offer.specs.declared.Offered.{Offered}
-use Rattle.shelf_ask.specs.declared.Whole.{Whole}
 use Rattle.answers.specs.Answers.{refusal_in}
 use Rattle.shelf_laws.specs.State.{offer_to, whole_in}
 use Rattle.shelf_laws.specs.Answers.{accepted}
@@ -24,35 +27,31 @@ use Rattle.shelf_laws.proofs.Complete as complete-table
 use Rattle.shelf_laws.proofs.Reception as reception
 use Rattle.shelf_laws.proofs.HandedOut as handed
 use Rattle.shelf_laws.proofs.Questions as questions
-use Rattle.shelf_laws.proofs.Ranges.{OfferRange, Range, range, ranges-all}
+use Rattle.shelf_laws.proofs.Ranges.{Range, ranges-all}
 use Rattle.shelf_laws.proofs.Never.{entry-late}
 use Rattle.shelf_laws.proofs.Histories.{holds-all}
 use Rattle.shelf_offer.specs.Answer.{offered_code}
-use Rattle.shelf_release.specs.declared.Released.{Released}
 use Rattle.shelf_release.specs.Answer.{released_code}
 use Rattle.shelf_ask.specs.Answer.{whole_code, whole_back, is_complete, whole_lent, complete_lent, copy_out}
-use Rattle.shelf_ask.proofs.Told.{complete-plainly}
+use Rattle.shelf_ask.proofs.Told.{complete-plainly, whole_back_lem}
 use Rattle.shelf_histories.specs.Numbers.{replied, answered, in_numbers}
 use Rattle.shelf_histories.specs.History.{History, left_after, log_after, whole_after, EachLine}
-use Rattle.shelf_histories.proofs.Back.{whole-told, entry-number}
+use Rattle.shelf_histories.proofs.Back.{entry-number}
 use Rattle.shelf_histories.proofs.OneHistory.{one-history}
-use Rattle.shelf_histories.proofs.After.{reply-range, reply-after, reply-refusal, next-answer, next-reply}
+use Rattle.shelf_histories.proofs.After.{reply-after, reply-refusal, next-answer, next-reply}
 use Rattle.demands.specs.Shelf.{complete, lamp_after, HeldExactly, CompleteExactly, LampExactly, MoreReception, AskedExactly, ReleasedExactly, Never17Nor18, HandedOut}
 
 -- an offer that is not refused is accepted
-accepted-by : (a : Offered) → OfferRange a → refusal_in (offered_code a) ≡ 0 → accepted a ≡ true
-accepted-by Offered.Began r e = refl
-accepted-by Offered.BeganAgain r e = refl
-accepted-by Offered.Added r e = refl
-accepted-by Offered.Repeat r e = refl
-accepted-by (Offered.Refused n) r e = let a : 1 ≤ n = r.0 in let b : n ≤ 46 = r.1 in absurd (omega arith)
+accepted-by : (a : Result Offered Refusal) → refusal_in (offered_code a) ≡ 0 → accepted a ≡ true
+accepted-by (Ok what) e = refl
+accepted-by (Err r) e = let a : 0 < number r = (in_byte r).0 in let b : number r < 256 = (in_byte r).1 in absurd (omega arith)
 
 each_number : (log : List Entry) → Each Range log
     → EachLine (λ l. (refusal_in l.answer.code ≡ 17 → ⊥) × (refusal_in l.answer.code ≡ 18 → ⊥)) (in_numbers log)
 each_number [] r = tt
 each_number (e ∷ log) r =
     let b = entry-late e r.0 in
-    let n : refusal_in (answered e).code ≡ number_in e = entry-number e r.0 in
+    let n : refusal_in (answered e).code ≡ number_in e = entry-number e in
     ((λ z. b.0 (sym n ∙ z), λ z. b.1 (sym n ∙ z)), each_number log r.1)
 
 pub same_log : (h : History) → log_after h ≡ log_of h.calls
@@ -68,11 +67,11 @@ held-exactly h q =
 whole-after : (h : History) (key : Key) → whole_after h key ≡ whole_code (whole_in (after_all h.calls) key)
 whole-after h key = ap (λ a. a.code) (reply-after h (whole key))
 
-complete-by : (h : History) (key : Key) → whole_after h key ≡ complete → whole_in (after_all h.calls) key ≡ Whole.Complete
+complete-by : (h : History) (key : Key) → whole_after h key ≡ complete → whole_in (after_all h.calls) key ≡ Ok true
 complete-by h key e =
-    sym (whole-told (whole_in (after_all h.calls) key) (reply-range h (whole key))) ∙ ap whole_back (sym (whole-after h key) ∙ e)
+    sym (whole_back_lem (whole_in (after_all h.calls) key)) ∙ ap whole_back (sym (whole-after h key) ∙ e)
 
-pub by-complete : (h : History) (key : Key) → whole_in (after_all h.calls) key ≡ Whole.Complete → whole_after h key ≡ complete
+pub by-complete : (h : History) (key : Key) → whole_in (after_all h.calls) key ≡ Ok true → whole_after h key ≡ complete
 by-complete h key e = whole-after h key ∙ ap whole_code e
 
 pub complete-exactly : CompleteExactly
@@ -122,7 +121,7 @@ pub asked-exactly : AskedExactly
 asked-exactly h q = reply-after h q ∙ ap replied (questions.asked-exactly h.calls q ∙ ap (λ log. reply_by log q) (sym (same_log h)))
 
 -- its number
-release-code : (held : Bool) → released_code (if held then Released.Done else Released.Refused 14) ≡ (if held then 0 else 14)
+release-code : (held : Bool) → released_code (if held then Ok tt else Err TableNotHeld) ≡ (if held then 0 else 14)
 release-code true = refl
 release-code false = refl
 
@@ -144,6 +143,6 @@ handed_out h payload octets e output room =
     let good = (holds-all h.calls).good in
     let said = ap (λ a. a.code) (next-answer h (offer payload)) in
     let yes : accepted (offer_to (after_all h.calls) payload).said ≡ true =
-    accepted-by (offer_to (after_all h.calls) payload).said (range s good (offer payload)) (sym (ap refusal_in said) ∙ e) in
+    accepted-by (offer_to (after_all h.calls) payload).said (sym (ap refusal_in said) ∙ e) in
     next-reply h (offer payload) (octets, tt) (copy (key_in payload) (section_number payload) output)
     ∙ ap copy_out (handed.handed_out s good.formed payload yes output room)

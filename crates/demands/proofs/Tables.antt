@@ -7,6 +7,8 @@ use mathlib.Core.Logic.{◌⊎◌, ⊎_elim, inl, inr}
 use Prim.Native.Nat.{ℕ, ◌≤◌}
 use native.Mathlib.Omega.{arith}
 use lib.ListN.{length, drop}
+use Rattle.std.specs.Prelude.{Result, Ok, Err}
+use Rattle.refusal.specs.declared.Refusal.{Refusal}
 use Rattle.base.specs.Octets.{Octets}
 use Rattle.answers.specs.Answers.{told, out, puts}
 use Rattle.answers.proofs.Puts.{puts-refused, puts-values, puts-accepted}
@@ -16,10 +18,9 @@ use Rattle.shelf.specs.Layout.{shelf_at}
 use Rattle.shelf.proofs.Lists.{length-listed}
 use Rattle.shelf_ask.specs.Answer.{table_lent}
 use Rattle.shelf_ask.proofs.Tables.{whole-told}
-use Rattle.shelf_load.specs.declared.Loaded.{Loaded}
 use Rattle.shelf_load.specs.Answer.{loaded_in, loaded_code}
 use Rattle.file.specs.Scan.{scan_of}
-use Rattle.file.specs.declared.Scan.{Scan}
+use Rattle.file.specs.declared.Table.{Table}
 use Rattle.file_table.specs.Answer.{file_told, file_table_lent, told_by}
 use Rattle.shelf_laws.specs.State.{State, load_on}
 use Rattle.shelf_laws.specs.History.{step, after_all, log_of, load}
@@ -81,7 +82,7 @@ module _ (h : History) (file : List ℕ) (octets : Octets file) (e : (load_after
   abbrev s : State
   s = after_all h.calls
 
-  done : (load_on s file).said ≡ Loaded.Done
+  done : (load_on s file).said ≡ Ok tt
   done = sym (answered-load h file) ∙ ap loaded_in e
 
   same-free : free_of (shelf_at (left_after h).words) ≡ free_of s.shelf
@@ -117,11 +118,11 @@ load_told h file octets e = (
 
 pub load-untold : LoadUntold
 unfolding file_told
-load-untold h file d = go (scan_of file).answer refl
+load-untold h file d = go (scan_of file) refl
   where
-    go : (scan : Scan) → (scan_of file).answer ≡ scan → (load_after h file).code ≡ (file_told file).number
-    go (Scan.Table header) q = absurd (d (ap (λ x. (told_by (scan_of file).lengths x).number) q))
-    go (Scan.Refused n) q =
-        let says = subst (λ scan. FileSays scan (log_after h) (Loaded.Refused n)) (sym q) refl in
-        let said : (load_on (after_all h.calls) file).said ≡ Loaded.Refused n = sym (answered-load h file) ∙ (loaded-exactly h file (Loaded.Refused n)).1 says in
-        load_code h file ∙ ap loaded_code said ∙ sym (ap (λ x. (told_by (scan_of file).lengths x).number) q)
+    go : (scan : Result Table Refusal) → scan_of file ≡ scan → (load_after h file).code ≡ (file_told file).number
+    go (Ok table) q = absurd (d (ap (λ x. (told_by x).number) q))
+    go (Err r) q =
+        let says = subst (λ scan. FileSays scan (log_after h) (Err r)) (sym q) refl in
+        let said : (load_on (after_all h.calls) file).said ≡ Err r = sym (answered-load h file) ∙ (loaded-exactly h file (Err r)).1 says in
+        load_code h file ∙ ap loaded_code said ∙ sym (ap (λ x. (told_by x).number) q)

@@ -1,16 +1,15 @@
 -- Document 01, "The shelf file", of the functions that a host calls: what a load is answered, what was saved restores the table, and
 -- saving what was loaded gives the same bytes. What a save writes is told in specs/Shelf, AskedExactly. The theorems are in proofs/Files.
-use Rattle.std.specs.Prelude.{ℕ, ◌≤◌, ◌≡◌, false, List, ◌↔◌, length, take}
+use Rattle.std.specs.Prelude.{ℕ, ◌≤◌, ◌≡◌, false, List, ◌↔◌, length, take, Result, Ok}
+use Rattle.refusal.specs.declared.Refusal.{Refusal}
 use Rattle.base.specs.Octets.{Octets}
 use Rattle.section.specs.declared.Header.{Header}
 use Rattle.answers.specs.Answers.{Out, refusal_in, size_in, filled}
 use Rattle.key.specs.declared.Key.{Key}
 use Rattle.shelf.specs.Record.{key_of}
-use Rattle.shelf_load.specs.declared.Loaded.{Loaded}
 use Rattle.shelf_load.specs.Answer.{loaded_in}
 use Rattle.shelf_save.specs.Answer.{save_lent}
-use Rattle.file.specs.Scan.{scan_of}
-use Rattle.file.specs.declared.Scan.{Scan}
+use Rattle.file.specs.Scan.{scan_of, heading}
 use Rattle.shelf_laws.specs.History.{Question, about}
 use Rattle.shelf_laws.specs.Log.{held_by, Full}
 use Rattle.shelf_laws.specs.Loads.{FileSays}
@@ -24,7 +23,7 @@ file_in saved = take (size_in saved.code) saved.out
 -- table is held; 9 where it is not and four others are; and else it is loaded
 abbrev pub LoadedExactly : Type 0
 LoadedExactly =
-    (h : History) (file : List ℕ) (a : Loaded) → (loaded_in (load_after h file).code ≡ a) ↔ FileSays (scan_of file).answer (log_after h) a
+    (h : History) (file : List ℕ) (a : Result (Unit {0}) Refusal) → (loaded_in (load_after h file).code ≡ a) ↔ FileSays (scan_of file) (log_after h) a
 
 -- A table is saved after one history, and the file is loaded after another that does not hold that table: it is loaded, unless the
 -- shelf is full, and then every question about the table is answered as before.
@@ -43,7 +42,7 @@ SavedAgain =
     (h : History) (file : List ℕ)
     → Octets file
     → (header : Header)
-    → (scan_of file).answer ≡ Scan.Table header
+    → heading (scan_of file) ≡ Ok header
     → (load_after h file).code ≡ 0
     → (output : List ℕ)
     → length file ≤ length output

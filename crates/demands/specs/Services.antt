@@ -1,7 +1,7 @@
 -- Document 02, request 4, of the functions that a host calls: two programme lists of different services no longer drive each other off the shelf,
 -- each seen as a new version of the other: the second begins a table of its own, and the first stays. The theorems are in proofs/Services. When any offer
 -- is answered so, and what a question is answered, is told exactly in specs/Offers and specs/Shelf (BeganExactly, BeganAgainExactly, AskedExactly).
-use Rattle.std.specs.Prelude.{ℕ, ◌≡◌, false, ◌⊎◌, List, [], ◌∷◌, ◌++◌}
+use Rattle.std.specs.Prelude.{ℕ, ◌≡◌, false, ◌⊎◌, List, [], ◌∷◌, ◌++◌, Ok}
 use Rattle.key.specs.Key.{nrt_it}
 use Rattle.section.specs.Section.{table_id, service_id, time_span_start, key_in}
 use Rattle.shelf_offer.specs.declared.Offered.{Offered}
@@ -50,4 +50,4 @@ ServiceBegins =
     → SectionOf (key_in one) one
     → held_by (key_in one) (log_after first) ≡ false
     → ¬ (Full (log_after second))
-    → (offer_after second one).code ≡ offered_code Offered.Began
+    → (offer_after second one).code ≡ offered_code (Ok Offered.Began)

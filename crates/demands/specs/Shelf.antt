@@ -13,12 +13,11 @@
 -- A `History` is any list of calls, refused ones too, after a beginning on whatever was lent, each call lent what the last one left
 -- (shelf_histories, specs/History). `log_after` is the log that its numbers tell; `held_by`, `since` and `last_since` (shelf_laws,
 -- specs/Log) read that log alone, and never the record. `Undisturbed` and `SectionOf` are in shelf_laws, specs/Reception.
-use Rattle.std.specs.Prelude.{ℕ, ◌≤◌, ◌≡◌, Bool, true, ◌↔◌, List, length, if◌then◌else◌}
+use Rattle.std.specs.Prelude.{ℕ, ◌≤◌, ◌≡◌, Bool, true, ◌↔◌, List, length, if◌then◌else◌, Ok}
 use Rattle.base.specs.Octets.{Octets}
 use Rattle.section.specs.Section.{section_number}
 use Rattle.answers.specs.Answers.{refusal_in, filled}
 use Rattle.key.specs.declared.Key.{Key}
-use Rattle.shelf_ask.specs.declared.Whole.{Whole}
 use Rattle.shelf_ask.specs.Answer.{whole_code, complete_lent, copy_lent}
 use Rattle.shelf_laws.specs.History.{Question, about, Each}
 use Rattle.shelf_laws.specs.Named.{key_in}
@@ -30,7 +29,7 @@ use Rattle.shelf_histories.specs.History.{History, left_after, log_after, lines_
 
 -- the number that calls a table complete
 abbrev pub complete : ℕ
-complete = whole_code Whole.Complete
+complete = whole_code (Ok true)
 
 -- a table is held, which is to say that a question about it is not answered 14, exactly when it began and was not released since
 abbrev pub HeldExactly : Type 0
