@@ -167,7 +167,8 @@ impl Clock {
             Err(Refusal::ClockAbove)
         } else {
             let apps = apps_in(self.words[STATES]);
-            Ok(apps[usize::from(application)].state)
+            let app = apps[usize::from(application)];
+            Ok(app.state)
         }
     }
 }

@@ -9,10 +9,10 @@ use lib.Dec.{eqb}
 use borrow.Author.Tests.{eqb-true, eqb-false}
 use Rattle.base.proofs.Cases.{by}
 use Rattle.clock_rule.specs.declared.Action.{Action}
-use Rattle.clock_rule.specs.Numbers.{row_of}
+use Rattle.clock_rule.specs.Numbers.{row_of, action_no}
 use Rattle.clock_activation.specs.declared.Held.{Held}
 use Rattle.clock_activation.specs.Code.{Narrow}
-use Rattle.clock_activation.specs.Places.{action_no, bit_of, held_in, mark_of}
+use Rattle.clock_activation.specs.Places.{bit_of, held_in, mark_of}
 
 row_back : (n : ℕ) → n < 4 → row_of (action_no n) ≡ n
 row_back n h =

@@ -1,12 +1,7 @@
 -- What a place holds, in two words: the time; event + 2 ^ 16 application + 2 ^ 24 action + 2 ^ 26 applied.
 use Rattle.std.specs.Prelude.{ℕ, ◌+◌, ◌*◌, ◌/◌, ◌%◌, ◌^◌, Bool, eqb, if◌then◌else◌}
-use Rattle.clock_rule.specs.declared.Action.{Action}
-use Rattle.clock_rule.specs.Numbers.{row_of}
+use Rattle.clock_rule.specs.Numbers.{row_of, action_no}
 use Rattle.clock_activation.specs.declared.Held.{Held}
-
--- actions have their numbers in document 01's order
-abbrev pub action_no : ℕ → Action
-action_no n = if eqb n 0 then Action.Prep else (if eqb n 1 then Action.Exec else (if eqb n 2 then Action.Susp else Action.Kill))
 
 -- what two words hold
 unfoldable pub held_in : ℕ → ℕ → Held

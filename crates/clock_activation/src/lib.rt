@@ -2,16 +2,17 @@
 
 #![tactic(auto)]
 
-ghost use Rattle.std.specs.Prelude.{◌≡◌, ◌-◌, ◌<◌, min};
+ghost use Rattle.std.specs.Prelude.{◌≡◌, min};
 ghost use Rattle.clock_activation.specs.Limits.{most_held};
 ghost use Rattle.clock_activation.specs.Activation.{past};
 ghost use Rattle.clock_activation.specs.Code.{Coded};
-ghost use Rattle.clock_activation.specs.Places.{action_no, held_in, bit_of, mark_of};
+ghost use Rattle.clock_activation.specs.Places.{held_in, mark_of};
 
-use clock_rule::{Action, action_number};
+use clock_rule::Action;
 
 // The most activations held, waiting and remembered together.
 pub const HELD: usize = 32;
+
 // How many milliseconds before the clock an applied activation is remembered.
 pub const MEMORY: u32 = 60_000;
 
@@ -23,7 +24,7 @@ const BIT_24: u32 = 16777216;
 const BIT_26: u32 = 67108864;
 
 // An action on an application at a media time in milliseconds.
-#[derive(Clone, Copy)]
+#[derive(Clone, Copy, Debug, PartialEq, Eq)]
 pub struct Activation {
     pub application: u8,
     pub event: u16,
@@ -32,7 +33,7 @@ pub struct Activation {
 }
 
 // An activation that is held: it was applied, or it waits.
-#[derive(Clone, Copy)]
+#[derive(Clone, Copy, Debug, PartialEq, Eq)]
 pub struct Held {
     pub activation: Activation,
     pub applied: bool,
@@ -42,80 +43,53 @@ pub struct Held {
 pub fn within(count: u32) -> usize
     ensures { result ≡ min count most_held }
 {
-    let n = count as usize;
-    if n < HELD { n } else { HELD }
+    (count as usize).min(HELD)
 }
 
 // A number for an activation: that of one alike is the same, and that of a later one is higher.
+#[tactic(auto, unfolding(crate::specs::Code::code_of))]
 pub fn code(a: Activation) -> u64
     ensures { Coded a result }
 {
-    let time = a.time as u64;
-    let application = a.application as u64;
-    let event = a.event as u64;
+    let time = u64::from(a.time);
+    let application = u64::from(a.application);
+    let event = u64::from(a.event);
     (time * 256 + application) * 65_536 + event
 }
 
-// By how much a time is before the clock, 0 where it is not.
-fn age(now: u32, time: u32) -> u32
-    ensures { result ≡ now - time }
-{
-    if time < now { now - time } else { 0 }
-}
-
 // Whether a time is more than the memory before the clock.
+#[tactic(auto, unfolding(crate::specs::Activation::past))]
 pub fn is_past(now: u32, time: u32) -> bool
     ensures { result ≡ past now time }
 {
-    MEMORY < age(now, time)
+    MEMORY < now.saturating_sub(time)
 }
 
-// The action with a number; those above 2 are one.
-pub fn action_of(number: u32) -> Action
-    ensures { result ≡ action_no number }
-{
-    match number {
-        0 => Action::Prep,
-        1 => Action::Exec,
-        2 => Action::Susp,
-        _ => Action::Kill,
-    }
-}
-
-fn bit(b: bool) -> u32
-    ensures { (result ≡ bit_of b) × (result < 2) }
-{
-    if b { 1 } else { 0 }
-}
-
-// What is held by the two words of a place.
+// What is held by the two words of a place. Every number of two bits is an action's.
+#[tactic(auto, unfolding(crate::specs::Places::held_in))]
 pub fn held_of(time: u32, word: u32) -> Held
     ensures { result ≡ held_in time word }
 {
-    let application = (word / BIT_16 % 256) as u8;
-    let event = (word % BIT_16) as u16;
-    let action = action_of(word / BIT_24 % 4);
-    let activation = Activation {
-        application,
-        event,
-        action,
-        time,
-    };
     Held {
-        activation,
+        activation: Activation {
+            application: (word / BIT_16 % 256) as u8,
+            event: (word % BIT_16) as u16,
+            action: Action::try_from((word / BIT_24 % 4) as u8).unwrap_or(Action::Kill),
+            time,
+        },
         applied: word / BIT_26 % 2 == 1,
     }
 }
 
 // The second word of a place; the first is the time.
+#[tactic(auto, unfolding(crate::specs::Places::mark_of))]
 pub fn mark(h: Held) -> u32
     ensures { result ≡ mark_of h }
 {
     let a = h.activation;
-    let action = a.action;
-    let event = a.event as u32;
-    let application = a.application as u32 * BIT_16;
-    let row = action_number(action) * BIT_24;
-    let applied = bit(h.applied) * BIT_26;
+    let event = u32::from(a.event);
+    let application = u32::from(a.application) * BIT_16;
+    let row = u32::from(a.action) * BIT_24;
+    let applied = u32::from(h.applied) * BIT_26;
     event + application + row + applied
 }

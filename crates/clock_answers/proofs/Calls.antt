@@ -1,5 +1,6 @@
 -- Each way out of a call on a clock that is lent in words: what leads to it, and what the call then is.
 --   as-record, not-record, is-record, no-record        whether the words are a record
+--   is-action, no-action                               whether a number is an action's
 --   kept                                               a refused call leaves the record that was lent
 --   fresh-35, fresh-put                                of a fresh clock
 --   offer-255, offer-35, offer-answered                of an offer
@@ -9,17 +10,17 @@ use mathlib.Core.Path.{◌≡◌, sym, ap}
 use mathlib.Core.List.{List, [], ◌∷◌}
 use Prim.Native.Nat.{ℕ, ◌<◌, ◌≤◌}
 use native.Mathlib.Omega.{arith}
-use lib.Dec.{eqb}
+use lib.Dec.{ltb, eqb}
 use lib.ListN.{length}
-use borrow.Author.Tests.{lt-ltb, le-ltb, eq-eqb, ne_eqb, eqb-true, eqb-false}
-use Rattle.std.specs.Prelude.{Result, Ok, Err}
+use borrow.Author.Tests.{lt-ltb, le-ltb, eq-eqb, ne_eqb, eqb-true, eqb-false, ltb-true, ltb-false}
+use Rattle.std.specs.Prelude.{Result, Ok, Err, if◌then◌else◌}
 use Rattle.refusal.specs.declared.Refusal.{Refusal}
 use Rattle.refusal.specs.declared.Refusal.TheVariants.{ClockSpoiled, NoSuchAction}
 use Rattle.base.specs.Choice.{◌if◌}
 use Rattle.base.proofs.Cases.{by}
 use Rattle.base.proofs.Tables.{among}
 use Rattle.clock_rule.specs.declared.Action.{Action}
-use Rattle.clock_activation.specs.Places.{action_no}
+use Rattle.clock_rule.specs.Numbers.{action_no}
 use Rattle.clock_record.specs.Book.{Book, fresh}
 use Rattle.clock_record.specs.Words.{book_in, words_of}
 use Rattle.clock_record.proofs.Waiting.{due-fewer}
@@ -86,6 +87,14 @@ pub move-told : (c : Clock) (to : ℕ) (h : Handed ℕ) → h ≡ move_to c to
     → (h.answer ≡ (move_in (book_of c) to).answer) × (h.clock ≡ left_by c (move_in (book_of c) to))
 unfolding move_to
 move-told c to h e = (ap (λ x. x.answer) e, ap (λ x. x.clock) e)
+
+-- whether a number is an action's
+module _ (n : ℕ) where
+  pub is-action : {x : Action} → Ok x ≡ (if ltb 3 n then Err NoSuchAction else Ok (action_no n)) → (n ≤ 3) × (x ≡ action_no n)
+  is-action e = by (ltb 3 n) (λ t. absurd (ok-err (rw t at e))) (λ t. (ltb-false _ _ t, ok-same (rw t at e)))
+
+  pub no-action : {r : Refusal} → Err r ≡ (if ltb 3 n then Err NoSuchAction else Ok (action_no n)) → (3 < n) × (r ≡ NoSuchAction)
+  no-action e = by (ltb 3 n) (λ t. (ltb-true _ _ t, err_same (rw t at e))) (λ t. absurd (ok-err (sym (rw t at e))))
 
 -- a refused one leaves the record that was lent
 pub kept : {A : Type 0} (c : Clock) (x : Result A Refusal) (b : Book) (r : Refusal) → x ≡ Err r → left_with c x b ≡ c

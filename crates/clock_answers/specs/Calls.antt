@@ -8,7 +8,7 @@ use Rattle.answers.specs.Answers.{done}
 use Rattle.clock_rule.specs.declared.State.{State}
 use Rattle.clock_activation.specs.declared.Activation.{Activation}
 use Rattle.clock_activation.specs.Limits.{most_held}
-use Rattle.clock_activation.specs.Places.{action_no}
+use Rattle.clock_rule.specs.Numbers.{action_no}
 use Rattle.clock_record.specs.Book.{fresh}
 use Rattle.clock_record.specs.Words.{record_size, book_in, words_of}
 use Rattle.clock.specs.declared.Clock.{Clock}

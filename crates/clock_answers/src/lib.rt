@@ -8,12 +8,10 @@ ghost use Rattle.clock.specs.Codes.{heard_code, moved_code, time_code, state_cod
 ghost use Rattle.clock_answers.specs.Calls.{FewIn, record_in, fresh_on, offer_on, move_on, time_on, state_on, fresh_call, offer_call, move_call, time_call, state_call};
 
 use clock::{Clock, Heard};
-use clock_activation::{Activation, action_of};
+use clock_activation::Activation;
 use clock_record::SIZE;
-use clock_rule::{State, state_number};
+use clock_rule::{Action, State};
 use refusal::Refusal;
-
-const LAST_ACTION: u8 = 3;
 
 // What became of an activation, from bit 8 of the answer.
 const APPLIED: u16 = 256;
@@ -60,14 +58,12 @@ fn offer(
     ensures value { result ≡ (offer_on words.old application event action time).answer }
     ensures words_after { words.new ≡ (offer_on words.old application event action time).words }
 {
-    if LAST_ACTION < action {
-        return Err(Refusal::NoSuchAction);
-    }
+    let action = Action::try_from(action)?;
     let clock = record_in(words)?;
     let next = clock.offer(Activation {
         application,
         event,
-        action: action_of(u32::from(action)),
+        action,
         time,
     });
     let heard = next.answer?;
@@ -155,7 +151,7 @@ fn state_code(asked: Result<State, Refusal>) -> u16
     ensures { result ≡ state_code asked }
 {
     match asked {
-        Ok(state) => state_number(state) as u16 * BIT_8,
+        Ok(state) => state as u16 * BIT_8,
         Err(refusal) => refusal as u16,
     }
 }

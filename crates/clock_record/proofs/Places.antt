@@ -1,24 +1,20 @@
 -- Laws on a scan of the places.
 --   wrong-by               what makes one wrong, in one expression
---   look-step, look-end    a scan of the first n places that looks at all
-use mathlib.Core.Path.{◌≡◌, sym, ap, ◌∙◌}
-use mathlib.Core.Bool.{Bool, not, ◌&&◌, ◌||◌}
-use Prim.Native.Nat.{ℕ, ◌+◌, ◌<◌, ◌≤◌}
+--   place_at_lem           what a place holds
+use mathlib.Core.Path.{◌≡◌}
+use mathlib.Core.Bool.{not, ◌&&◌, ◌||◌}
+use Prim.Native.Nat.{ℕ, ◌<◌}
 use mathlib.Core.List.{List}
-use native.Mathlib.Omega.{arith}
 use lib.Dec.{leb}
-use lib.ListN.{take, drop, get_or}
+use lib.ListN.{get_or}
 use borrow.Author.Tests.{lt-ltb, le-ltb, leb-true, leb-false}
 use Rattle.base.proofs.Cases.{by}
 use Rattle.clock_rule.specs.Rule.{above}
 use Rattle.clock_activation.specs.declared.Held.{Held}
 use Rattle.clock_activation.specs.Activation.{past, nobody}
-use Rattle.clock_record.specs.Lists.{any_of}
 use Rattle.clock_record.specs.Held.{wrong}
-use Rattle.clock_record.proofs.Scan.{gather-step, gather-end}
 use Rattle.clock_record.specs.Words.{in_place, helds_in}
 use Rattle.clock_states.proofs.UpTo.{up_at}
-use Rattle.clock_record.proofs.Back.{places}
 
 pub wrong-by : (now : ℕ) (h : Held)
     → wrong now h
@@ -38,14 +34,3 @@ module _ (w : List ℕ) where
   pub place_at_lem : (i : ℕ) → i < 32 → get_or (helds_in w) i nobody ≡ in_place w i
   unfolding helds_in
   place_at_lem i h = up_at 32 (in_place w) i nobody h
-
-  module _ (n : ℕ) (few : n ≤ 32) (p : Held → Bool) (found : Bool) (i : ℕ) where
-    pub look-step : i < n
-        → (found || p (in_place w i)) || any_of p (drop (i + 1) (take n (helds_in w))) ≡ found || any_of p (drop i (take n (helds_in w)))
-    look-step h =
-        let z = places w in
-        ap (λ (x : Held). (found || p x) || any_of p (drop (i + 1) (take n (helds_in w)))) (sym (place_at_lem i (omega arith)))
-        ∙ gather-step (helds_in w) n (omega arith) p nobody found i h
-
-    pub look-end : n ≤ i → found ≡ found || any_of p (drop i (take n (helds_in w)))
-    look-end h = let z = places w in gather-end (helds_in w) n (omega arith) p nobody found i h

@@ -2,7 +2,9 @@
 --   from-here     what is left to scan begins with the next one
 --   from_end      at the end nothing is left
 --   gather-step, gather-end              a scan for one that passes, looking at all
---   same-found, same_more, same_end      a scan for two equal numbers
+--   scan-step, scan-end                  the same of a whole list
+--   same-found, same_more                a scan for two equal numbers
+--   same-none, one-part, four-parts      what a pattern leaves of a list
 --   two-of-four, four-found, four-more   the same, four at a time
 --   numbered-none, numbered_more         the numbers of the held
 --   two-alike-same                       two are equal exactly where two of the held are alike
@@ -10,7 +12,7 @@
 use mathlib.Core.Path.{◌≡◌, refl, sym, ap, ◌∙◌}
 use mathlib.Core.List.{List, [], ◌∷◌, map}
 use mathlib.Core.Bool.{Bool, true, false, ◌||◌}
-use Prim.Native.Nat.{ℕ, ◌+◌, ◌<◌, ◌≤◌, min}
+use Prim.Native.Nat.{ℕ, suc, ◌+◌, ◌-◌, ◌<◌, ◌≤◌, min}
 use lib.Dec.{ltb, eqb}
 use borrow.Author.Tests.{ltb-true, ltb-false}
 use Rattle.base.proofs.Cases.{by}
@@ -62,19 +64,45 @@ module _ {A : Type 0} (l : List A) (n : ℕ) (fits : n ≤ length l) (p : A → 
   unfolding any_of
   gather-end h = rw (from_end l n fits i h) (sym (or-false found))
 
-module _ (l : List ℕ) (n : ℕ) (fits : n ≤ length l) (i : ℕ) where
-  pub same-found : i < n → any_of (eqb (get_or l i 0)) (drop (i + 1) (take n l)) ≡ true → two_same (drop i (take n l)) ≡ true
-  unfolding two_same
-  same-found h t = rw (from-here l n fits i 0 h, t)
+-- the same of a whole list
+module _ {A : Type 0} (l : List A) (p : A → Bool) (d : A) (found : Bool) (i : ℕ) where
+  pub scan-step : i < length l → (found || p (get_or l i d)) || any_of p (drop (i + 1) l) ≡ found || any_of p (drop i l)
+  unfolding any_of
+  scan-step h = rw (add-one, drop-cons l i d h) (sym (or-join found (p (get_or l i d)) (any_of p (drop (suc i) l))))
 
-  pub same_more : i < n → any_of (eqb (get_or l i 0)) (drop (i + 1) (take n l)) ≡ false
-      → two_same (drop i (take n l)) ≡ two_same (drop (i + 1) (take n l))
-  unfolding two_same
-  same_more h t = rw (from-here l n fits i 0 h, t)
+  pub scan-end : length l ≤ i → found ≡ found || any_of p (drop i l)
+  unfolding any_of
+  scan-end h = rw (drop_of_length-le l {i = i} h) (sym (or-false found))
 
-  pub same_end : n ≤ i → two_same (drop i (take n l)) ≡ false
+-- two numbers of a list are equal: one, and what follows it
+module _ (x : ℕ) (l : List ℕ) where
+  pub same-found : any_of (eqb x) l ≡ true → two_same (x ∷ l) ≡ true
   unfolding two_same
-  same_end h = rw (from_end l n fits i h)
+  same-found t = rw t
+
+  pub same_more : any_of (eqb x) l ≡ false → two_same (x ∷ l) ≡ two_same l
+  unfolding two_same
+  same_more t = rw t
+
+-- none is left
+pub same-none : (l : List ℕ) → length l < 1 → two_same l ≡ false
+unfolding two_same
+same-none [] h = refl
+same-none (x ∷ l) h = absurd (omega arith)
+
+-- the first of a list and what follows, as a pattern takes them
+pub one-part : (l : List ℕ) → 1 ≤ length l → l ≡ get_or l 0 0 ∷ take (length l - 1) (drop 1 l)
+one-part [] h = absurd (omega arith)
+one-part (x ∷ l) h = ap (◌∷◌ x) (sym (take_all (suc (length l) - 1) l (omega arith)))
+
+pub four-parts : (l : List ℕ) → 4 ≤ length l
+    → l ≡ get_or l 0 0 ∷ get_or l 1 0 ∷ get_or l 2 0 ∷ get_or l 3 0 ∷ take (length l - 4) (drop 4 l)
+four-parts [] h = absurd (omega arith)
+four-parts (a ∷ []) h = absurd (omega arith)
+four-parts (a ∷ b ∷ []) h = absurd (omega arith)
+four-parts (a ∷ b ∷ c ∷ []) h = absurd (omega arith)
+four-parts (a ∷ b ∷ c ∷ d ∷ l) h =
+    ap (λ (t : List ℕ). a ∷ b ∷ c ∷ d ∷ t) (sym (take_all (suc (suc (suc (suc (length l)))) - 4) l (omega arith)))
 
 -- two of four are equal, by the six pairs
 six : (p q r s t u : Bool)
@@ -138,41 +166,12 @@ four-rows a b c d l =
     rw (any-four a b c d l)
     (rows (eqb a b) (eqb a c) (eqb a d) (eqb b c) (eqb b d) (eqb c d) (any_of (eqb a) l) (any_of (eqb b) l) (any_of (eqb c) l) (any_of (eqb d) l) (two_same l))
 
-module _ (l : List ℕ) (n : ℕ) (fits : n ≤ length l) (i : ℕ) (room : i + 4 ≤ n) where
-  four-here : drop i (take n l) ≡ get_or l i 0 ∷ get_or l (i + 1) 0 ∷ get_or l (i + 2) 0 ∷ get_or l (i + 3) 0 ∷ drop (i + 4) (take n l)
-  four-here =
-      let one : i + 1 + 1 ≡ i + 2 = omega arith in
-      let two : i + 2 + 1 ≡ i + 3 = omega arith in
-      let three : i + 3 + 1 ≡ i + 4 = omega arith in
-      from-here l n fits i 0 (omega arith)
-      ∙ ap (λ (t : List ℕ). get_or l i 0 ∷ t)
-      (from-here l n fits (i + 1) 0 (omega arith)
-      ∙ ap (λ (k : ℕ). get_or l (i + 1) 0 ∷ drop k (take n l)) one
-      ∙ ap (λ (t : List ℕ). get_or l (i + 1) 0 ∷ t)
-      (from-here l n fits (i + 2) 0 (omega arith)
-      ∙ ap (λ (k : ℕ). get_or l (i + 2) 0 ∷ drop k (take n l)) two
-      ∙ ap (λ (t : List ℕ). get_or l (i + 2) 0 ∷ t)
-      (from-here l n fits (i + 3) 0 (omega arith) ∙ ap (λ (k : ℕ). get_or l (i + 3) 0 ∷ drop k (take n l)) three)))
+module _ (a b c d : ℕ) (l : List ℕ) where
+  pub four-found : two_same (a ∷ b ∷ c ∷ d ∷ []) || any_of (one_of a b c d) l ≡ true → two_same (a ∷ b ∷ c ∷ d ∷ l) ≡ true
+  four-found t = four-rows a b c d l ∙ or-join (two_same (a ∷ b ∷ c ∷ d ∷ [])) (any_of (one_of a b c d) l) (two_same l) ∙ rw t
 
-  abbrev four : List ℕ
-  four = get_or l i 0 ∷ get_or l (i + 1) 0 ∷ get_or l (i + 2) 0 ∷ get_or l (i + 3) 0 ∷ []
-
-  abbrev follow : Bool
-  follow = any_of (one_of (get_or l i 0) (get_or l (i + 1) 0) (get_or l (i + 2) 0) (get_or l (i + 3) 0)) (drop (i + 4) (take n l))
-
-  pub four-found : two_same four || follow ≡ true → two_same (drop i (take n l)) ≡ true
-  four-found t =
-      ap two_same four-here
-      ∙ four-rows (get_or l i 0) (get_or l (i + 1) 0) (get_or l (i + 2) 0) (get_or l (i + 3) 0) (drop (i + 4) (take n l))
-      ∙ or-join (two_same four) follow (two_same (drop (i + 4) (take n l)))
-      ∙ rw t
-
-  pub four-more : two_same four || follow ≡ false → two_same (drop i (take n l)) ≡ two_same (drop (i + 4) (take n l))
-  four-more t =
-      ap two_same four-here
-      ∙ four-rows (get_or l i 0) (get_or l (i + 1) 0) (get_or l (i + 2) 0) (get_or l (i + 3) 0) (drop (i + 4) (take n l))
-      ∙ or-join (two_same four) follow (two_same (drop (i + 4) (take n l)))
-      ∙ rw t
+  pub four-more : two_same (a ∷ b ∷ c ∷ d ∷ []) || any_of (one_of a b c d) l ≡ false → two_same (a ∷ b ∷ c ∷ d ∷ l) ≡ two_same l
+  four-more t = four-rows a b c d l ∙ or-join (two_same (a ∷ b ∷ c ∷ d ∷ [])) (any_of (one_of a b c d) l) (two_same l) ∙ rw t
 
 -- the numbers of the held, one more at a time
 pub numbered-none : Numbered [] []

@@ -3,8 +3,9 @@
 
 #![tactic(auto)]
 
-ghost use Rattle.std.specs.Prelude.{◌≡◌, [], ◌∷◌, ◌≤◌, min, eqb, length, take, drop};
+ghost use Rattle.std.specs.Prelude.{◌≡◌, [], ◌∷◌, ◌<◌, ◌≤◌, eqb, take, get_or};
 ghost use Rattle.clock_activation.specs.Limits.{most_held};
+ghost use Rattle.clock_activation.specs.Activation.{nobody};
 ghost use Rattle.clock_record.specs.Lists.{any_of};
 ghost use Rattle.clock_record.specs.Held.{is_one, is_held, two_alike, wrong};
 ghost use Rattle.clock_record.specs.Book.{spoiled};
@@ -41,17 +42,22 @@ fn is_wrong(now: u32, h: Held) -> bool
     above | (!applied & come) | (applied & (!come | past))
 }
 
+// What a place holds.
+pub fn held_at(i: usize, words: &[u32; SIZE]) -> Held
+    requires { i < most_held }
+    ensures { result ≡ get_or (helds_in words.now) i nobody }
+{
+    held_of(words[TIMES + 2 * i], words[MARKS + 2 * i])
+}
+
 // Whether one of the first n places cannot stand in a record at that time.
 fn any_wrong(current: u32, n: usize, words: &[u32; SIZE]) -> bool
     requires { n ≤ most_held }
     ensures { result ≡ any_of (wrong current) (take n (helds_in words.now)) }
 {
     let mut found = false;
-    let mut i: usize = 0;
-    while i < n {
-        let h = held_of(words[TIMES + 2 * i], words[MARKS + 2 * i]);
-        found = found | is_wrong(current, h);
-        i += 1;
+    for i in 0..n {
+        found |= is_wrong(current, held_at(i, words));
     }
     found
 }
@@ -70,11 +76,8 @@ fn is_among(a: Activation, n: usize, words: &[u32; SIZE]) -> bool
     ensures { result ≡ is_held a (take n (helds_in words.now)) }
 {
     let mut found = false;
-    let mut i: usize = 0;
-    while i < n {
-        let h = held_of(words[TIMES + 2 * i], words[MARKS + 2 * i]);
-        found = found | is_one(a, h);
-        i += 1;
+    for i in 0..n {
+        found |= is_one(a, held_at(i, words));
     }
     found
 }
@@ -88,44 +91,34 @@ pub fn is_held(a: Activation, words: &[u32; SIZE]) -> bool
 }
 
 // Writes the number of what each of the first n places holds.
-fn write_codes(n: usize, words: &[u32; SIZE], codes: &mut [u64])
-    requires { (n ≤ most_held) × (n ≤ length codes.old) }
+fn write_codes(n: usize, words: &[u32; SIZE], codes: &mut [u64; HELD])
+    requires { n ≤ most_held }
     ensures { Numbered (take n (helds_in words.now)) (take n codes.new) }
 {
-    let mut i: usize = 0;
-    while i < n {
-        let h = held_of(words[TIMES + 2 * i], words[MARKS + 2 * i]);
-        let a = h.activation;
-        codes[i] = code(a);
-        i += 1;
+    for i in 0..n {
+        codes[i] = code(held_at(i, words).activation);
     }
 }
 
-// Whether a number stands among the first n, from a place on. It looks at all, so that several are compared at a time.
-fn is_in(x: u64, from: usize, n: usize, codes: &[u64]) -> bool
-    requires { n ≤ length codes.now }
-    ensures { result ≡ any_of (eqb x) (drop from (take n codes.now)) }
+// Whether a number stands among others. It looks at all, so that several are compared at a time.
+fn is_in(x: u64, codes: &[u64]) -> bool
+    ensures { result ≡ any_of (eqb x) codes.now }
 {
     let mut found = false;
-    let mut i = from;
-    while i < n {
-        found = found | (x == codes[i]);
-        i += 1;
+    for y in codes {
+        found |= x == *y;
     }
     found
 }
 
-// Whether one of four numbers stands among the first n, from a place on: each of those is read once for the four.
-fn four_in(a: u64, b: u64, c: u64, d: u64, from: usize, n: usize, codes: &[u64]) -> bool
-    requires { n ≤ length codes.now }
-    ensures { result ≡ any_of (one_of a b c d) (drop from (take n codes.now)) }
+// Whether one of four numbers stands among others: each of those is read once for the four.
+fn four_in(a: u64, b: u64, c: u64, d: u64, codes: &[u64]) -> bool
+    ensures { result ≡ any_of (one_of a b c d) codes.now }
 {
     let mut found = false;
-    let mut i = from;
-    while i < n {
-        let x = codes[i];
-        found = found | ((a == x) | (b == x) | (c == x) | (d == x));
-        i += 1;
+    for y in codes {
+        let x = *y;
+        found |= (a == x) | (b == x) | (c == x) | (d == x);
     }
     found
 }
@@ -137,45 +130,24 @@ fn two_of_four(a: u64, b: u64, c: u64, d: u64) -> bool
     (a == b) | (a == c) | (a == d) | (b == c) | (b == d) | (c == d)
 }
 
-// Whether two of the first n numbers are equal, from a place on.
-fn two_from(from: usize, n: usize, codes: &[u64]) -> bool
-    requires { n ≤ length codes.now }
-    ensures { result ≡ two_same (drop from (take n codes.now)) }
+// Whether two numbers are equal: four are compared with all that follow, while there are four.
+fn two_same(codes: &[u64]) -> bool
+    ensures { result ≡ two_same codes.now }
 {
-    let mut i = from;
-    while i < n {
-        let x = codes[i];
-        i += 1;
-        if is_in(x, i, n, codes) {
+    let mut rest = codes;
+    while let [a, b, c, d, after @ ..] = rest {
+        if two_of_four(*a, *b, *c, *d) | four_in(*a, *b, *c, *d, after) {
             return true;
         }
+        rest = after;
+    }
+    while let [x, after @ ..] = rest {
+        if is_in(*x, after) {
+            return true;
+        }
+        rest = after;
     }
     false
-}
-
-fn lesser(a: usize, b: usize) -> usize
-    ensures { result ≡ min a b }
-{
-    if a < b { a } else { b }
-}
-
-// Whether two of the first n numbers are equal: four are compared with all that follow, while there are four.
-fn two_same(n: usize, codes: &[u64]) -> bool
-    ensures { result ≡ two_same (take n codes.now) }
-{
-    let end = lesser(n, codes.len());
-    let mut i: usize = 0;
-    while 4 <= end - i {
-        let a = codes[i];
-        let b = codes[i + 1];
-        let c = codes[i + 2];
-        let d = codes[i + 3];
-        i += 4;
-        if two_of_four(a, b, c, d) | four_in(a, b, c, d, i, end, codes) {
-            return true;
-        }
-    }
-    two_from(i, end, codes)
 }
 
 // Whether two of the first n places hold one activation.
@@ -185,7 +157,7 @@ fn two_alike(n: usize, words: &[u32; SIZE]) -> bool
 {
     let mut codes = [0u64; HELD];
     write_codes(n, words, &mut codes);
-    two_same(n, &codes)
+    two_same(&codes[..n])
 }
 
 // Whether a record is spoiled.

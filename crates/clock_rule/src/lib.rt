@@ -2,76 +2,70 @@
 
 #![tactic(auto)]
 
-ghost use Rattle.std.specs.Prelude.{◌≡◌, ◌<◌};
+ghost use Rattle.std.specs.Prelude.{◌≡◌};
 ghost use Rattle.clock_rule.specs.Rule.{acted, above, applied};
-ghost use Rattle.clock_rule.specs.Numbers.{row_of, column_of};
+ghost use Rattle.clock_rule.specs.Numbers.{Row, Column, Decoded};
+
+use refusal::Refusal;
 
 // How many applications there are.
 pub const APPLICATIONS: usize = 8;
 
-#[derive(Clone, Copy)]
+// The states and the actions have their numbers in document 01's order.
+#[derive(Clone, Copy, Debug, PartialEq, Eq)]
 pub enum State {
-    Released,
-    Ready,
-    Active,
-    Suspended,
+    Released = 0,
+    Ready = 1,
+    Active = 2,
+    Suspended = 3,
 }
 
-#[derive(Clone, Copy)]
+#[derive(Clone, Copy, Debug, PartialEq, Eq)]
 pub enum Action {
-    Prep,
-    Exec,
-    Susp,
-    Kill,
+    Prep = 0,
+    Exec = 1,
+    Susp = 2,
+    Kill = 3,
 }
 
 // An application.
-#[derive(Clone, Copy)]
+#[derive(Clone, Copy, Debug, PartialEq, Eq)]
 pub struct App {
     pub state: State,
 }
 
-// The number of an action: its row in the rule.
-pub fn action_number(action: Action) -> u32
-    ensures { (result ≡ row_of action) × (result < 4) }
-{
-    match action {
-        Action::Prep => 0,
-        Action::Exec => 1,
-        Action::Susp => 2,
-        Action::Kill => 3,
-    }
-}
-
 // The number of a state: its column in the rule.
-pub fn state_number(state: State) -> u32
-    ensures { (result ≡ column_of state) × (result < 4) }
-{
-    match state {
-        State::Released => 0,
-        State::Ready => 1,
-        State::Active => 2,
-        State::Suspended => 3,
+impl From<State> for u32 {
+    ghost from_gives = { Column };
+
+    fn from(state: State) -> u32 {
+        state as u32
     }
 }
 
-// The state that prep leaves an application in.
-fn prepared(state: State) -> State
-    ensures { result ≡ acted Action.Prep state }
-{
-    match state {
-        State::Released => State::Ready,
-        _ => state,
+// The number of an action: its row in the rule.
+impl From<Action> for u32 {
+    ghost from_gives = { Row };
+
+    fn from(action: Action) -> u32 {
+        action as u32
     }
 }
 
-// The state that susp leaves an application in.
-fn suspended(state: State) -> State
-    ensures { result ≡ acted Action.Susp state }
-{
-    match state {
-        State::Active => State::Suspended,
-        _ => state,
+// The action with a number.
+impl TryFrom<u8> for Action {
+    type Error = Refusal;
+
+    ghost try_from_gives = { Decoded };
+
+    fn try_from(number: u8) -> Result<Action, Refusal> {
+        match number {
+            0 => Ok(Action::Prep),
+            1 => Ok(Action::Exec),
+            2 => Ok(Action::Susp),
+            3 => Ok(Action::Kill),
+            _ => Err(Refusal::NoSuchAction),
+        }
     }
 }
 
@@ -79,19 +73,12 @@ fn suspended(state: State) -> State
 fn act(action: Action, state: State) -> State
     ensures { result ≡ acted action state }
 {
-    let prep = prepared(state);
-    let susp = suspended(state);
-    let a = match action {
-        Action::Prep => prep,
-        _ => State::Released,
-    };
-    let b = match action {
-        Action::Exec => State::Active,
-        _ => a,
-    };
-    match action {
-        Action::Susp => susp,
-        _ => b,
+    match (action, state) {
+        (Action::Prep, State::Released) => State::Ready,
+        (Action::Susp, State::Active) => State::Suspended,
+        (Action::Prep | Action::Susp, _) => state,
+        (Action::Exec, _) => State::Active,
+        (Action::Kill, _) => State::Released,
     }
 }
 
@@ -109,11 +96,7 @@ pub fn apply(apps: [App; APPLICATIONS], application: u8, action: Action) -> [App
     let at = usize::from(application);
     let mut next = apps;
     if at < APPLICATIONS {
-        let app = next[at];
-        let state = app.state;
-        next[at] = App {
-            state: act(action, state),
-        };
+        next[at].state = act(action, next[at].state);
     }
     next
 }

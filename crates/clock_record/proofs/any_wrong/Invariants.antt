@@ -1,7 +1,6 @@
 -- `any_wrong` gathers: what was found, or is among what is left.
 use mathlib.Core.Path.{◌≡◌}
 use mathlib.Core.Bool.{◌||◌}
-use Prim.Native.Nat.{◌-◌}
 use lib.ListN.{take, drop}
 use Rattle.clock_record.specs.Lists.{any_of}
 use Rattle.clock_record.specs.Held.{wrong}
@@ -10,6 +9,3 @@ use Rattle.clock_record.proofs.any_wrong.Given as goal
 
 abbrev pub invariant-loop-i : goal.invariant-loop-i
 invariant-loop-i l = l.found || any_of (wrong l.current) (drop l.i (take l.n (helds_in l.words))) ≡ any_of (wrong l.current) (take l.n (helds_in l.words))
-
-abbrev pub decreases-loop-i : goal.decreases-loop-i
-decreases-loop-i l = l.n - l.i

@@ -1,14 +1,10 @@
--- `four_in` gathers: what was found, or is among what is left.
+-- `four_in` gathers over all.
 use mathlib.Core.Path.{◌≡◌}
 use mathlib.Core.Bool.{◌||◌}
-use Prim.Native.Nat.{◌-◌}
-use lib.ListN.{take, drop}
+use lib.ListN.{drop}
 use Rattle.clock_record.specs.Lists.{any_of}
 use Rattle.clock_record.specs.Codes.{one_of}
 use Rattle.clock_record.proofs.four_in.Given as goal
 
-abbrev pub invariant-loop-i : goal.invariant-loop-i
-invariant-loop-i l = l.found || any_of (one_of l.a l.b l.c l.d) (drop l.i (take l.n l.codes)) ≡ any_of (one_of l.a l.b l.c l.d) (drop l.from (take l.n l.codes))
-
-abbrev pub decreases-loop-i : goal.decreases-loop-i
-decreases-loop-i l = l.n - l.i
+abbrev pub invariant-loop-y : goal.invariant-loop-y
+invariant-loop-y l = l.found || any_of (one_of l.a l.b l.c l.d) (drop l.y-index l.codes) ≡ any_of (one_of l.a l.b l.c l.d) l.codes

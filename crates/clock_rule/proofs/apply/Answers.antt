@@ -1,5 +1,5 @@
 -- `apply` sets one application's state, or none where there is no such application.
-use Rattle.clock_rule.proofs.Table.{length-mapped}
+use Rattle.clock_rule.proofs.Lists.{length-mapped}
 use mathlib.Core.Path.{◌≡◌, sym}
 use native.Mathlib.Omega.{arith}
 use Prim.Native.Nat.{◌≤◌}
