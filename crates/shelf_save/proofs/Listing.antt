@@ -80,6 +80,20 @@ pub record Ready (lengths store : List ℕ) (p : ℕ) (old : List ℕ) (from : �
   pub stands : Stands lengths store p
   pub fits : from + size_below sections lengths ≤ length old
 
+pub as-stands : {lengths store : List ℕ} {p : ℕ} → (p < places) × (length store ≡ store_size) → Berthed lengths → Stands lengths store p
+as-stands w b = record { whole = w.1; place = w.0; berthed = b }
+
+pub as-ready :
+    {lengths store : List ℕ}
+    {p : ℕ}
+    {old : List ℕ}
+    {from : ℕ}
+    → (p < places) × (length store ≡ store_size)
+    → Berthed lengths
+    → from + size_below sections lengths ≤ length old
+    → Ready lengths store p old from
+as-ready w b f = record { stands = as-stands w b; fits = f }
+
 module _ {lengths store : List ℕ} {p : ℕ} {old : List ℕ} {from : ℕ} (r : Ready lengths store p old from) where
   -- the output after the sections among the first k numbers
   abbrev listed_to : ℕ → List ℕ

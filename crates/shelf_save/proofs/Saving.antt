@@ -14,7 +14,7 @@ use lib.ListN.{length, get_or, drop, length-append}
 use borrow.Author.Tests.{lt-ltb, le-ltb}
 use Rattle.base.specs.Choice.{first}
 use Rattle.base.proofs.Cases.{by}
-use Rattle.berth.specs.Berth.{berth_size, sections, laid}
+use Rattle.berth.specs.Berth.{berth_size, places, sections, store_size, laid}
 use Rattle.berth.proofs.Laid.{laid-length, laid_beside}
 use Rattle.shelf.specs.Record.{place_at}
 use Rattle.key.specs.declared.Key.{Key}
@@ -29,7 +29,7 @@ use Rattle.file_number.proofs.Bounds.{spelt-1-long, spelt-2-long}
 use Rattle.file.specs.Layout.{form, largest_file, listed, file_of}
 use Rattle.shelf_save.specs.Sizes.{size_of, count_of, size_below, count_below, Berthed}
 use Rattle.shelf_save.specs.Save.{Save, held_below, place_file, save, refuse, unsaved, written, place_saved, saved_file, save_of}
-use Rattle.shelf_save.proofs.Listing.{Stands, Ready, small, held-count, listed-size}
+use Rattle.shelf_save.proofs.Listing.{Stands, as-stands, Ready, small, held-count, listed-size}
 
 -- a place, with its count and its bytes as they were added up
 pub record Sized (lengths store : List ℕ) (p count bytes : ℕ) : Type 0 where
@@ -37,6 +37,16 @@ pub record Sized (lengths store : List ℕ) (p count bytes : ℕ) : Type 0 where
   pub counted : count ≡ count_below sections lengths
   pub most : count ≤ sections
   pub sized : bytes ≡ size_below sections lengths
+
+pub as-sized :
+    {lengths store : List ℕ}
+    {p count bytes : ℕ}
+    → (p < places) × (length store ≡ store_size)
+    → Berthed lengths
+    → (count ≡ count_below sections lengths) × (bytes ≡ size_below sections lengths)
+    → count ≤ sections
+    → Sized lengths store p count bytes
+as-sized w b e m = record { stands = as-stands w b; counted = e.0; most = m; sized = e.1 }
 
 module _ {lengths store : List ℕ} {p count bytes : ℕ} (z : Sized lengths store p count bytes) where
   abbrev body : List ℕ

@@ -77,6 +77,17 @@ pub record Room (store : List ℕ) (p n size : ℕ) (old : List ℕ) (at : ℕ) 
   pub some : size ≡ 0 → ⊥
   pub fits : at + size_of size ≤ length old
 
+pub as-room :
+    {store : List ℕ}
+    {p n size : ℕ}
+    {old : List ℕ}
+    {at : ℕ}
+    → (p < places) × (n < sections) × (length store ≡ store_size)
+    → (size ≤ berth_size) × (at + size_of size ≤ length old)
+    → (size ≡ 0 → ⊥)
+    → Room store p n size old at
+as-room w f d = record { whole = w.2; place = w.0; number = w.1; small = f.0; some = d; fits = f.1 }
+
 -- no section
 pub held_none : (store : List ℕ) (p n size : ℕ) (old : List ℕ) (at : ℕ) → size ≡ 0
     → (at ≡ at + size_of size) × (old ≡ laid old at (listed (held_of size store p n)))

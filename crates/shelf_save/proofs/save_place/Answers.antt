@@ -1,53 +1,25 @@
 -- `shelf_save::save_place` meets its promise.
-use Rattle.shelf_save.proofs.Saving.{Sized, saved-15, room-form, room-count, ready-sections, saved-done}
+use Rattle.shelf_save.proofs.Saving.{as-sized, saved-15, room-form, room-count, ready-sections, saved-done}
 use Rattle.shelf_save.proofs.save_place.Goals as goal
 
 pub returns-then-out-size : goal.returns-then-out-size
 returns-then-out-size c =
-    let e = c.sizes_of-sizes.ensures in
-    let s : Sized c.args.lengths c.args.store.now c.args.p c.sizes_of-sizes.result.count c.sizes_of-sizes.result.bytes =
-    record {
-      stands = record { whole = c.requires.p_lt_places.1; place = c.requires.p_lt_places.0; berthed = c.requires.berthed };
-      counted = e.count_value.0;
-      most = e.count_le_sections.0;
-      sized = e.count_value.1;
-    } in
+    let s = as-sized c.requires.p_lt_places c.requires.berthed c.sizes_of-sizes.ensures.count_value c.sizes_of-sizes.ensures.count_le_sections.0 in
     saved-15 s _ c.if-out-size.true
 
 pub write_at-counted-requires : goal.write_at-counted-requires
 write_at-counted-requires c =
-    let e = c.sizes_of-sizes.ensures in
-    let s : Sized c.args.lengths c.args.store.now c.args.p c.sizes_of-sizes.result.count c.sizes_of-sizes.result.bytes =
-    record {
-      stands = record { whole = c.requires.p_lt_places.1; place = c.requires.p_lt_places.0; berthed = c.requires.berthed };
-      counted = e.count_value.0;
-      most = e.count_le_sections.0;
-      sized = e.count_value.1;
-    } in
+    let s = as-sized c.requires.p_lt_places c.requires.berthed c.sizes_of-sizes.ensures.count_value c.sizes_of-sizes.ensures.count_le_sections.0 in
     room-form s c.args.out.now c.if-out-size.false
 
 pub write_at-from-requires : goal.write_at-from-requires
 write_at-from-requires c =
-    let e = c.sizes_of-sizes.ensures in
-    let s : Sized c.args.lengths c.args.store.now c.args.p c.sizes_of-sizes.result.count c.sizes_of-sizes.result.bytes =
-    record {
-      stands = record { whole = c.requires.p_lt_places.1; place = c.requires.p_lt_places.0; berthed = c.requires.berthed };
-      counted = e.count_value.0;
-      most = e.count_le_sections.0;
-      sized = e.count_value.1;
-    } in
+    let s = as-sized c.requires.p_lt_places c.requires.berthed c.sizes_of-sizes.ensures.count_value c.sizes_of-sizes.ensures.count_le_sections.0 in
     let form = c.write_at-counted in room-count s _ c.if-out-size.false form.ensures.value form.ensures.out_after
 
 pub write_sections-requires-clause-lengths_in_bounds : goal.write_sections-requires-clause-lengths_in_bounds
 write_sections-requires-clause-lengths_in_bounds c =
-    let e = c.sizes_of-sizes.ensures in
-    let s : Sized c.args.lengths c.args.store.now c.args.p c.sizes_of-sizes.result.count c.sizes_of-sizes.result.bytes =
-    record {
-      stands = record { whole = c.requires.p_lt_places.1; place = c.requires.p_lt_places.0; berthed = c.requires.berthed };
-      counted = e.count_value.0;
-      most = e.count_le_sections.0;
-      sized = e.count_value.1;
-    } in
+    let s = as-sized c.requires.p_lt_places c.requires.berthed c.sizes_of-sizes.ensures.count_value c.sizes_of-sizes.ensures.count_le_sections.0 in
     let form = c.write_at-counted in
     let count = c.write_at-from in
     let r = ready-sections s _ c.if-out-size.false form.ensures.value form.ensures.out_after count.ensures.value count.ensures.out_after in
@@ -55,14 +27,7 @@ write_sections-requires-clause-lengths_in_bounds c =
 
 pub returns : goal.returns
 returns c =
-    let e = c.sizes_of-sizes.ensures in
-    let s : Sized c.args.lengths c.args.store.now c.args.p c.sizes_of-sizes.result.count c.sizes_of-sizes.result.bytes =
-    record {
-      stands = record { whole = c.requires.p_lt_places.1; place = c.requires.p_lt_places.0; berthed = c.requires.berthed };
-      counted = e.count_value.0;
-      most = e.count_le_sections.0;
-      sized = e.count_value.1;
-    } in
+    let s = as-sized c.requires.p_lt_places c.requires.berthed c.sizes_of-sizes.ensures.count_value c.sizes_of-sizes.ensures.count_le_sections.0 in
     let form = c.write_at-counted in
     let count = c.write_at-from in
     saved-done s _ c.if-out-size.false form.ensures.value form.ensures.out_after count.ensures.value count.ensures.out_after
