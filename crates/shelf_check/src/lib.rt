@@ -126,7 +126,7 @@ fn wide_number(words: &[u16; WORDS], p: usize) -> u64
     requires { p < places }
     ensures { result ≡ wide_number words.now p }
 {
-    let number = shelf::key_number(words, p) as u64;
+    let number = u64::from(shelf::key_number(words, p));
     if words[HEADS + HEAD * p] != LIST {
         return number;
     }

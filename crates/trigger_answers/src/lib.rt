@@ -2,7 +2,7 @@
 #![tactic(auto)]
 
 ghost use Rattle.std.specs.Prelude.{◌≡◌, [], ◌∷◌};
-ghost use Rattle.answers.specs.Answers.{out as out_of};
+ghost use Rattle.answers.specs.Answers.{done, out as out_of};
 ghost use Rattle.trigger_faults.specs.Kinds.{type_of};
 ghost use Rattle.trigger.specs.Answer.{target_numbers, numbers_of};
 ghost use Rattle.trigger_answers.specs.Narrow.{Narrow, NarrowTarget, NarrowTrigger};
@@ -80,20 +80,23 @@ fn numbers_of(t: Trigger) -> [u16; NUMBERS]
     ]
 }
 
+// Reads the payload as a trigger and puts its numbers at the front of the buffer, or leaves it as it was.
+fn read_into(payload: &[u8], fields: &mut [u16]) -> Result<(), Refusal>
+    ensures { out_of (done result) fields.new ≡ trigger_lent payload.now fields.old }
+{
+    let trigger = trigger::read_trigger(payload)?;
+    if fields.len() < NUMBERS {
+        return Err(Refusal::OutputTooSmall);
+    }
+    fields[..NUMBERS].copy_from_slice(&numbers_of(trigger));
+    Ok(())
+}
+
 // Reads the payload as a trigger and puts its numbers at the front of the buffer, or answers the refusal.
 pub fn trigger_read(payload: &[u8], fields: &mut [u16]) -> u8
     ensures { out_of result fields.new ≡ trigger_lent payload.now fields.old }
 {
-    match trigger::read_trigger(payload) {
-        Err(refusal) => u8::from(refusal),
-        Ok(t) => {
-            if fields.len() < NUMBERS {
-                return Refusal::OutputTooSmall as u8;
-            }
-            fields[..NUMBERS].copy_from_slice(&numbers_of(t));
-            0
-        }
-    }
+    answers::done(read_into(payload, fields))
 }
 
 // Whether the numbers can be those that a reading of a payload of so many bytes left.
