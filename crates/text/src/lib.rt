@@ -1,5 +1,6 @@
 // Text that is written over an output that may be too short for it: a byte that has no room is only counted, so that writing a text
-// over nothing tells its size, and writing it again leaves it.
+// over nothing tells its size, and writing it again leaves it. The output and the place in it are passed apart: of a struct that holds both, each
+// function would have to promise that it holds the same loan still, beside what was written.
 #![tactic(auto)]
 
 ghost use Rattle.std.specs.Prelude.{◌≡◌, [], ◌∷◌, ◌++◌, ◌<◌};
@@ -14,17 +15,11 @@ const POWERS: u8 = 12;
 
 const HIGHEST: u64 = 1000000000000;
 
-// The highest place that there is.
-const HIGHEST_PLACE: usize = 18446744073709551615;
-
 // The place behind a byte. The highest one stays: no output reaches it, and no text of any file.
 fn next_place(at: usize) -> usize
     ensures { result ≡ next_place at }
 {
-    if at < HIGHEST_PLACE {
-        return at + 1;
-    }
-    at
+    at.saturating_add(1)
 }
 
 // A byte, where there is room for it; the place behind it is answered in either case.
