@@ -1,23 +1,21 @@
 -- Numbers in a few bytes, written out.
---   two_is, three-is, four_is, five-is     high byte first
---   service-is, start_is                   the fields of the key
---   four-fits, five-fits                   n bytes are below 256 ^ n
---   in-short, in_field, part-number        the number in a field, and in a part of the bytes
---   below, in-below, made-on, room         n bytes are below 256 ^ n; one byte more
+--   below                               n bytes are below 256 ^ n
+--   two_is, four_is                     high byte first
+--   service-is, start_is                the fields of the key
+--   in-short, in_field, part-number     the number in a field, and in a part of the bytes
+--   made-on, room                       one byte more, and room for it
 use mathlib.Core.Path.{◌≡◌, refl, sym, ap, ◌∙◌}
 use mathlib.Core.List.{List}
 use Prim.Native.Nat.{ℕ, zero, suc, ◌+◌, ◌-◌, ◌*◌, ◌^◌, ◌<◌, ◌≤◌, min}
 use native.Mathlib.Omega.{arith}
-use native.Mathlib.Nat.{pow-suc, one-le-pow, pow-le-pow_right}
+use native.Mathlib.Nat.{pow-suc, pow-le-pow_right}
 use native.Mathlib.Numerals.{add-one}
-use lib.Dec.{ltb}
-use Rattle.base.proofs.Cases.{by}
 use lib.ListN.{length, take, drop, length-take, length-drop}
 use lib.Seq.{get_or-take, get_or-drop}
 use borrow.Author.Tests.{lt-ltb, le-ltb}
 use Rattle.base.specs.Bytes.{byte}
 use Rattle.base.specs.Octets.{Octets}
-use Rattle.programme.specs.Field.{number, number_in, low}
+use Rattle.programme.specs.Field.{number, number_in}
 use Rattle.programme.specs.Table.{service_id, time_span_start}
 
 -- numbers in bytes fit so many
@@ -31,23 +29,9 @@ module _ (s : List ℕ) (at : ℕ) where
   unfolding number
   two_is = let e : at + 0 ≡ at = omega arith in rw e (omega arith)
 
-  pub three-is : number s at 3 ≡ number s at 2 * 256 + byte s (at + 2)
-  unfolding number
-  three-is = omega arith
-
   pub four_is : number s at 4 ≡ number s at 2 * 65536 + byte s (at + 2) * 256 + byte s (at + 3)
   unfolding number
   four_is = omega arith
-
-  pub five-is : number s at 5 ≡ number s at 4 * 256 + byte s (at + 4)
-  unfolding number
-  five-is = omega arith
-
-  pub four-fits : Octets s → low s at 4 32 ≡ number s at 4
-  four-fits b = omega (arith, below s at b 4)
-
-  pub five-fits : Octets s → low s at 5 40 ≡ number s at 5
-  five-fits b = omega (arith, below s at b 5)
 
 module _ (s : List ℕ) where
   pub service-is : number s 8 2 ≡ service_id s
@@ -64,10 +48,6 @@ module _ (n : ℕ) (f : List ℕ) where
   pub in_field : n ≤ length f → number f 0 n ≡ number_in n f
   unfolding number_in
   in_field l = rw (le-ltb (length f) n l)
-
-pub in-below : (n : ℕ) (f : List ℕ) → Octets f → number_in n f < 256 ^ n
-unfolding number_in
-in-below n f b = by (ltb (length f) n) (λ t. rw t (one-le-pow n 256 (omega arith))) (λ g. rw g (below f 0 b n))
 
 -- one byte more
 pub made-on : (f : List ℕ) (n : ℕ) {a b : ℕ} → a ≡ number f 0 n → b ≡ byte f n → a * 256 + b ≡ number f 0 (n + 1)

@@ -1,6 +1,5 @@
 -- Items that are handed out, as the code comes by them.
---   left-refused, left-over, left-items      how many are left from a number on
---   none_left, over-left, items_left         and what that says of the reading
+--   none_left, over-left, items_left         what it says of the reading how many are left from a number on
 --   told_none, told-one                      what one item's room tells
 --   walk_refused, walk-over, walk-short, walk_none, walk-handed     each way out of a call
 use mathlib.Core.Path.{◌≡◌, refl, sym, ap, subst, ◌∙◌}
@@ -10,10 +9,10 @@ use Prim.Native.Nat.{ℕ, zero, suc, ◌+◌, ◌-◌, ◌*◌, ◌/◌, ◌<◌
 use native.Mathlib.Omega.{arith}
 use lib.Dec.{ltb, leb}
 use lib.ListN.{length, get_or, drop}
-use borrow.Author.Tests.{lt-ltb, le-ltb, ltb-true, ltb-false, le-leb, lt-leb, leb-true, leb-false}
+use borrow.Author.Tests.{lt-ltb, le-ltb, ltb-true, ltb-false, leb-true, leb-false}
 use Rattle.base.specs.Octets.{Octets}
 use Rattle.base.proofs.Cases.{by}
-use Rattle.std.specs.Prelude.{Result, Ok, Err, Some, None}
+use Rattle.std.specs.Prelude.{Ok, Err, Some, None}
 use Rattle.refusal.specs.declared.Refusal.{Refusal}
 use Rattle.refusal.specs.declared.Refusal.TheVariants.{ProgrammePassesEnd, OutputTooSmall}
 use Rattle.answers.specs.Answers.{Out, out}
@@ -27,17 +26,6 @@ use Rattle.programme.proofs.Items.{item_to, item-early, step-item}
 use Rattle.programme_items.proofs.Places.{lies-item, lies-none}
 use Rattle.programme_items.proofs.Chains.{chain-none, chain_next, chain-zero, chain-short}
 use Rattle.programme_items.proofs.Narrows.{narrow, back}
-
--- how many are left, by how many there are
-module _ (k : ℕ) {x : Result ℕ Refusal} where
-  pub left-refused : {n : Refusal} → Err n ≡ x → Err n ≡ left_by k x
-  left-refused e = ap (left_by k) e
-
-  pub left_over : {n : ℕ} → Ok n ≡ x → n ≤ k → Ok None ≡ left_by k x
-  left_over {n} e l = let h : Ok None ≡ left_by k (Ok n) = rw (le-leb n k l) in h ∙ ap (left_by k) e
-
-  pub left-items : {n m : ℕ} → Ok n ≡ x → k < n → m ≡ n - k → Ok (Some m) ≡ left_by k x
-  left-items {n} e l q = let h : Ok (Some (n - k)) ≡ left_by k (Ok n) = rw (lt-leb n k l) in ap (λ m. Ok (Some m)) q ∙ h ∙ ap (left_by k) e
 
 -- the list's fields, where items are left
 pub record Remains (s : List ℕ) (k n : ℕ) : Type 0 where

@@ -15,7 +15,7 @@ use Rattle.programme.specs.Reading.{item_at}
 use Rattle.programme_items.specs.Items.{numbers_of, item_back}
 use Rattle.programme_items.specs.Parts.{Narrow}
 use Rattle.programme.specs.declared.Item.{Item}
-use Rattle.programme.proofs.Numbers.{two_is, four_is}
+use Rattle.programme.proofs.Numbers.{below}
 use Rattle.programme.proofs.Items.{item_to}
 use Rattle.programme.proofs.Within.{item-stands}
 
@@ -25,10 +25,10 @@ only_below false n m h = omega arith
 
 module _ (s : List ℕ) (at end : ℕ) (o : Octets s) (rest : List ℕ) where
   four_below : (p : ℕ) → number s p 4 < 2 ^ 32
-  four_below p = rw (four_is s p, two_is s p) (omega (arith, o p, o (p + 1), o (p + 2), o (p + 3)))
+  four_below p = below s p o 4
 
   flags-below : flags s at < 2 ^ 16
-  flags-below = let e = two_is s (at + 4) in omega (arith, e, o (at + 4), o (at + 4 + 1))
+  flags-below = omega (arith, below s (at + 4) o 2)
 
   seconds-below : (p : ℕ) → low s p 3 20 < 2 ^ 32
   seconds-below p = omega arith

@@ -1,35 +1,16 @@
 -- Stores from a place of the lent numbers on are a list of numbers put there.
---   four-sets, included-made     the four fields that flags may include
 --   item-made                    an item's ten numbers
 use mathlib.Core.Path.{◌≡◌}
-use mathlib.Core.List.{List, [], ◌∷◌}
-use Prim.Native.Nat.{ℕ, suc, ◌+◌, ◌/◌, ◌%◌}
+use mathlib.Core.List.{List}
+use Prim.Native.Nat.{ℕ, suc, ◌+◌}
 use native.Mathlib.Omega.{arith}
-use lib.Dec.{eqb}
 use lib.ListN.{set}
 use lib.Seq.{sets}
 use Rattle.base.specs.Bytes.{byte}
-use Rattle.programme.specs.Field.{number, only, low}
+use Rattle.programme.specs.Field.{number}
 use Rattle.programme_items.specs.Parts.{included_numbers, numbers_to}
 use Rattle.programme_items.specs.declared.Parts.{Parts}
 use Rattle.programme_items.proofs.Places.{There}
-
-pub four-sets : (l : List ℕ) (to a b c d : ℕ) → set (set (set (set l to a) (to + 1) b) (to + 2) c) (to + 3) d ≡ sets l to (a ∷ b ∷ c ∷ d ∷ [])
-four-sets l to a b c d =
-    let one : to + 1 ≡ suc to = omega arith in
-    let two : to + 2 ≡ suc (suc to) = omega arith in
-    let three : to + 3 ≡ suc (suc (suc to)) = omega arith in rw (one, two, three)
-
-pub included-made : (s : List ℕ) (at f : ℕ) {a b c d n m k : ℕ}
-    → a ≡ only (eqb (f / 32 % 2) 1) (low s at 3 20)
-    → n ≡ at + only (eqb (f / 32 % 2) 1) 3
-    → b ≡ only (eqb (f / 16 % 2) 1) (low s n 3 20)
-    → m ≡ n + only (eqb (f / 16 % 2) 1) 3
-    → c ≡ only (eqb (f / 8 % 2) 1) (low s m 4 32)
-    → k ≡ m + only (eqb (f / 8 % 2) 1) 4
-    → d ≡ only (eqb (f / 4 % 2) 1) (low s k 5 40)
-    → a ∷ b ∷ c ∷ d ∷ [] ≡ included_numbers s at f
-included-made s at f a n b m c k d = rw (a, b, c, d, k, m, n)
 
 pub item-made : {s : List ℕ} {at : ℕ} {p : Parts} (t : There s at p) (l : List ℕ) (to : ℕ) {a : ℕ} {l₁ : List ℕ}
     → a ≡ number s at 4
