@@ -13,8 +13,8 @@ use Prim.Native.Nat.{ℕ, ◌+◌, ◌-◌, ◌*◌, ◌<◌, ◌≤◌}
 use native.Mathlib.Omega.{arith}
 use lib.Dec.{ltb, eqb}
 use lib.ListN.{length, take, drop, length-append, length-drop, drop_of_length-le, take-append-drop}
-use lib.Seq.{take-length, drop-length, take_at, drop_at, length-take-le}
-use borrow.Rule.Slice.PartMut.{mid_of, put_mid}
+use lib.Seq.{drop-length, take_at, drop_at, length-take-le}
+use borrow.Rule.Slice.PartMut.{put_mid}
 use borrow.Author.Tests.{ltb-true, ltb-false, le-ltb, lt-ltb, ne_eqb, eqb-false}
 use Rattle.base.proofs.Cases.{by}
 use Rattle.key.specs.Key.{nrt_it}
@@ -65,19 +65,12 @@ length-body body k h =
     let e = ends-within (length body) (full * k) (starts-within (length body) k h) in
     rw (← cut body k h) (length-take-le _ _ (rw length-drop (omega arith)))
 
-pub joined : (h b out y z : List ℕ) → length h ≡ 8 → length out ≡ 8 + length b →
-    y ≡ take (length h) h ++ drop (length h) (take 8 out) →
-    z ≡ take (length b) b ++ drop (length b) (mid_of 8 (length (y ++ drop 8 out) - 8) (y ++ drop 8 out)) →
+pub joined : (h b out y z : List ℕ) → length h ≡ 8 → length out ≡ 8 + length b → y ≡ h → z ≡ b →
     put_mid 8 (length (y ++ drop 8 out) - 8) (y ++ drop 8 out) z ≡ h ++ b
 joined h b out y z e l p q =
-    let front : y ≡ h =
-    p ∙ rw (take-length h, drop_of_length-le (take 8 out) {i = length h} (rw (e, length-take-le 8 out (omega arith)) (omega arith)), append-nil) in
     let size : length (h ++ drop 8 out) - 8 ≡ length b = rw (length-append, length-drop) (omega arith) in
     let rest : length (drop 8 out) ≡ length b = rw length-drop (omega arith) in
-    let back : z ≡ b =
-    q
-    ∙ rw (front, take-length b, drop_at h (drop 8 out) 8 e, size, ← rest, take-length (drop 8 out), drop-length (drop 8 out), append-nil) in
-    rw (front, back, take_at h (drop 8 out) 8 e, drop_at h (drop 8 out) 8 e, size, ← rest, drop-length (drop 8 out), append-nil)
+    rw (p, q, take_at h (drop 8 out) 8 e, drop_at h (drop 8 out) 8 e, size, ← rest, drop-length (drop 8 out), append-nil)
 
 pub length-section : (label : Label) (k last : ℕ) (body : List ℕ) → length (section_of label k last body) ≡ 8 + length body
 unfolding section_of

@@ -22,8 +22,8 @@ pub const FULL: usize = section::LARGEST - section::HEADER;
 
 pub const MOST: usize = section::SECTIONS * FULL;
 
-// Private indicator 1 with both reserved bits 1, and the two reserved bits before the version.
-const INDICATORS: usize = 112;
+// Private indicator 1 with both reserved bits 1, above the section length; and the two reserved bits before the version.
+const INDICATORS: u16 = 0x7000;
 
 const RESERVED: u8 = 192;
 
@@ -70,20 +70,10 @@ fn header(label: Label, k: u8, last: u8, length: usize) -> [u8; 8]
     ensures { result ≡ header_of label k last length }
 {
     let counted = section::SHORTEST + length;
-    let high = (INDICATORS + counted / 256) as u8;
-    let low = (counted % 256) as u8;
-    let upper = (label.extension / 256) as u8;
-    let lower = (label.extension % 256) as u8;
+    let [high, low] = (INDICATORS + counted as u16).to_be_bytes();
+    let [upper, lower] = label.extension.to_be_bytes();
     let current = RESERVED + 2 * label.version + 1;
     [label.table, high, low, upper, lower, current, k, last]
-}
-
-// Bytes at the front of a buffer that has room for them; those past them stay as they were.
-fn copy(from: &[u8], to: &mut [u8])
-    requires { length from.now ≤ length to.old }
-    ensures { to.new ≡ from.now ++ drop (length from.now) to.old }
-{
-    to[..from.len()].copy_from_slice(from);
 }
 
 // Section k with these bytes as its body, into a buffer of just its size.
@@ -92,8 +82,8 @@ fn fill(label: Label, k: u8, last: u8, body: &[u8], out: &mut [u8])
     ensures { out.new ≡ section_of label k last body.now }
 {
     let head = header(label, k, last, body.len());
-    copy(&head, &mut out[..section::HEADER]);
-    copy(body, &mut out[section::HEADER..]);
+    out[..section::HEADER].copy_from_slice(&head);
+    out[section::HEADER..].copy_from_slice(body);
 }
 
 // Section k of the table that carries the body, written at the front of the output; bytes past it stay as they were.
