@@ -11,7 +11,7 @@ use refusal::Refusal;
 use section::Header;
 
 // The header of the file's first section, with which all share key, version and last number; and by section number, where each
-// section begins in the file and how many bytes it has; length 0: the file lacks it.
+// section begins in the file and how many bytes it has; length 0: the file lacks it. The lengths stand alone, since a host is told them so.
 #[derive(Clone, Copy, Debug, PartialEq, Eq)]
 pub struct Table {
     pub header: Header,

@@ -23,7 +23,8 @@ const ROOM: usize = 718;
 pub const LARGEST: usize = 421;
 
 // A text that grows at its end. Each piece below says what it adds and in how many bytes at most, every number taken for five
-// digits and a time for ten; so counted, no listing comes to more than 718.
+// digits and a time for ten; so counted, no listing comes to more than 718. The size stands beside a fixed buffer, since the library
+// has no heap.
 #[derive(Drop)]
 struct Text {
     bytes: [u8; ROOM],
@@ -181,7 +182,8 @@ impl Text {
         }
     }
 
-    // A line for each number that lacks, rising.
+    // A line for each number that lacks, rising. One loop for this and the one above would take the line as a closure with a promise of
+    // its own, which is longer than both.
     fn missing_lines(&mut self, last: u8, lengths: &[u16; section::SECTIONS])
         requires last_bound { last ≤ 15 }
         requires size_bound { self.old.size + 224 ≤ room }

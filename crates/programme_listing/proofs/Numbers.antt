@@ -1,11 +1,10 @@
 -- How the text goes through the section numbers.
 --   no-section, a-section, no-missing, a-missing     what is written for one number
---   no_line, one_more, all_lines                     for the numbers from 0 on
---   inside                                           one section's place, of all
+--   no_line, one_more                                for the numbers from 0 on
 use mathlib.Core.Path.{◌≡◌, refl}
 use mathlib.Core.Bool.{Bool, false}
 use mathlib.Core.List.{List, ◌++◌}
-use Prim.Native.Nat.{ℕ, ◌+◌, ◌<◌, ◌≤◌}
+use Prim.Native.Nat.{ℕ, ◌+◌, ◌<◌}
 use native.Mathlib.Numerals.{add-one}
 use native.Mathlib.Omega.{arith}
 use lib.ListN.{get_or, take, drop}
@@ -17,7 +16,6 @@ use Rattle.text.specs.Over.{Wrote}
 use Rattle.text.proofs.Writing.{nothing, then}
 use Rattle.text.proofs.Short.{same-decimal}
 use Rattle.programme_section.specs.Section.{section_text, section_read}
-use Rattle.programme_listing.specs.Inside.{Inside, AllInside}
 use Rattle.programme_listing.specs.Listing.{section_of, whole_at}
 
 -- the code looks at the place of a number that it has made wider
@@ -50,9 +48,3 @@ module _ (f : ℕ → List ℕ) (out : List ℕ) (at : ℕ) where
       → Wrote (lines (n + 1) f) out at after end
   unfolding lines
   one_more n v w = rw add-one (then v w)
-
-  pub all_lines : (n to : ℕ) {after : List ℕ} {end : ℕ} → n ≡ to → Wrote (lines n f) out at after end → Wrote (lines to f) out at after end
-  all_lines n to e w = rw (← e) w
-
-pub inside : {last : ℕ} {file starts lengths : List ℕ} (n : ℕ) → AllInside last file starts lengths → n ≤ last → Inside n file starts lengths
-inside {last} n a l = (let few : last ≤ 15 = a.few in record { few = omega arith; inside = a.each n l })

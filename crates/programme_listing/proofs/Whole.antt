@@ -72,7 +72,7 @@ module _ (file : List ℕ) {out after : List ℕ} {end : ℕ} where
   table-text table e w = rw (← e) w
 
 -- a section that is held lies in the file; one that lacks has no bytes, and its place is 0
-pub lies : (file : List ℕ) (table : Table) → Ok table ≡ scan_of file → AllInside table.header.last file table.starts table.lengths
+pub lies : (file : List ℕ) (table : Table) → Ok table ≡ scan_of file → AllInside file table
 lies file table e =
     let g = held file table (sym e) in
     record {

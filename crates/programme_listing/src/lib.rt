@@ -21,7 +21,7 @@ pub const ROOM: usize = 327768;
 
 // Section n, where the file holds it.
 fn section_of(out: &mut [u8], at: usize, n: u8, file: &[u8], table: &Table) -> Done
-    requires { Inside n file.now table.now.starts table.now.lengths }
+    requires { Inside file.now table.now n }
     ensures wrote { Wrote (section_of file.now table.now.starts table.now.lengths n) out.old at out.new result.at }
     ensures whole_value { result.whole ≡ whole_at file.now table.now.starts table.now.lengths n }
 {
@@ -37,7 +37,7 @@ fn section_of(out: &mut [u8], at: usize, n: u8, file: &[u8], table: &Table) -> D
 
 // The sections that the file holds, by rising number.
 fn sections(out: &mut [u8], at: usize, file: &[u8], table: &Table) -> Done
-    requires { AllInside table.now.header.last file.now table.now.starts table.now.lengths }
+    requires { AllInside file.now table.now }
     ensures wrote { Wrote (lines (table.now.header.last + 1) (section_of file.now table.now.starts table.now.lengths)) out.old at out.new result.at }
     ensures whole_value { result.whole ≡ every (table.now.header.last + 1) (whole_at file.now table.now.starts table.now.lengths) }
 {
@@ -86,7 +86,7 @@ fn end_line(out: &mut [u8], at: usize, whole: bool) -> usize
 
 // The text of a programme list behind its first line.
 fn list_text(out: &mut [u8], at: usize, file: &[u8], table: &Table) -> usize
-    requires { AllInside table.now.header.last file.now table.now.starts table.now.lengths }
+    requires { AllInside file.now table.now }
     ensures { Wrote (list_text file.now table.now.starts table.now.lengths table.now.header.last) out.old at out.new result }
 {
     let done = sections(out, at, file, table);
@@ -95,7 +95,7 @@ fn list_text(out: &mut [u8], at: usize, file: &[u8], table: &Table) -> usize
 }
 
 fn table_text(out: &mut [u8], at: usize, file: &[u8], table: &Table) -> usize
-    requires { AllInside table.now.header.last file.now table.now.starts table.now.lengths }
+    requires { AllInside file.now table.now }
     ensures { Wrote (table_text file.now table.now.starts table.now.lengths table.now.header) out.old at out.new result }
 {
     let head = programme_lines::head_line(out, at, table.header);

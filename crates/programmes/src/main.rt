@@ -17,6 +17,7 @@ fn list_whole(file: &[u8], text: &mut [u8]) -> Result<usize, Refusal>
     programme_listing::list_programmes(file, text)
 }
 
+// What `lister` shares with this stands in `input`; the rest differs in the room, the listing and the words.
 fn main(rt: HostRuntime) -> io::Result<()> {
     let mut reader = rt.stdin();
     let mut buffer = [0u8; input::BUFFER];
