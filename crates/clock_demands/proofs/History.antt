@@ -25,6 +25,7 @@ use Rattle.clock.specs.declared.Heard.{Heard}
 use Rattle.clock.specs.Answered.{Answered}
 use Rattle.clock.specs.Offer.{offer_in}
 use Rattle.clock.specs.Move.{move_in}
+use Rattle.clock.specs.Record.{offer_to, move_to}
 use Rattle.clock.specs.Codes.{heard_code, moved_code}
 use Rattle.clock_laws.specs.History.{Call, Account, nothing_yet, heard, passed, Moment, step, steps}
 use Rattle.clock_laws.proofs.Says.{offer-says, offer-long, move-says, move-long, words_long}
@@ -69,18 +70,21 @@ module _ (w : List ℕ) (z : length w ≡ 67) (t : Moment) (b : book_in w ≡ t.
     call-heard h = offer-on w p e x s z h
 
     told-book : ltb 3 x ≡ false → book_in (offer_call w p e x s).words ≡ (offer_in t.book a).book
+    unfolding offer_to
     told-book h =
         ap (λ (c : Called). book_in c.words) (call-heard h)
         ∙ ap (λ (r : Answered Heard). r.book) (offer-says (record_of w) a narrow)
         ∙ ap (λ (c : Book). (offer_in c a).book) b
 
     told-answer : ltb 3 x ≡ false → (offer_call w p e x s).answer ≡ heard_code (offer_in t.book a).answer
+    unfolding offer_to
     told-answer h =
         ap (λ (c : Called). c.answer) (call-heard h)
         ∙ ap (λ (r : Answered Heard). heard_code r.answer) (offer-says (record_of w) a narrow)
         ∙ ap (λ (c : Book). heard_code (offer_in c a).answer) b
 
     offer-step : Beside w t.account t (HostCall.offer p e x s) (steps t (layer_call (HostCall.offer p e x s)))
+    unfolding offer_to
     offer-step =
         by (ltb 3 x)
         (λ h.
@@ -108,12 +112,14 @@ module _ (w : List ℕ) (z : length w ≡ 67) (t : Moment) (b : book_in w ≡ t.
     call-moved = move-on w to z
 
     moved-answer : (move_call w to).answer ≡ moved_code (move_in t.book to).answer
+    unfolding move_to
     moved-answer =
         ap (λ (c : Called). c.answer) call-moved
         ∙ ap (λ (r : Answered ℕ). moved_code r.answer) (move-says (record_of w) to)
         ∙ ap (λ (c : Book). moved_code (move_in c to).answer) b
 
     move_step : Beside w t.account t (HostCall.move to) (steps t (layer_call (HostCall.move to)))
+    unfolding move_to
     move_step =
         record {
           long = ap (λ (c : Called). length c.words) call-moved ∙ move-long (record_of w) to z;
