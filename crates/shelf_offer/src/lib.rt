@@ -92,6 +92,8 @@ fn sound_step(words: &[u16], store: &[u8], payload: &[u8], header: Header) -> Re
     Err(Refusal::NoFreePlace)
 }
 
+// The numbers and the store are two parameters throughout, as the C interface lends them: a struct of the two slices comes by way of memory.
+//
 // Says in the numbers that a section is held, and stores it. The numbers come first: the next call reads them by wide loads, which wait
 // for all that was written before them.
 fn add(words: &mut [u16], store: &mut [u8], payload: &[u8], p: usize, n: usize)
@@ -215,8 +217,7 @@ fn ask_first(words: &mut [u16], store: &mut [u8], payload: &[u8], step: Step) ->
 {
     let size = payload.len();
     let section = &payload[0..size];
-    let spoiled = shelf_check::is_spoiled(words);
-    if spoiled {
+    if shelf_check::is_spoiled(words) {
         return code_of(Err(Refusal::ShelfSpoiled));
     }
     carry_out(words, store, section, step)
