@@ -62,7 +62,7 @@ fn any_wrong(current: u32, n: usize, words: &[u32; SIZE]) -> bool
     found
 }
 
-// Whether what is held is that activation.
+// Whether what is held is that activation. Its action has no part in that, so this is no derived equality.
 fn is_one(a: Activation, h: Held) -> bool
     ensures { result ≡ is_one a h }
 {

@@ -6,7 +6,7 @@ ghost use Rattle.clock_states.specs.States.{state_no, apps_in, states_word};
 
 use clock_rule::{APPLICATIONS, App, State};
 
-// The state with a number; those above 2 are one.
+// The state with a number; those above 2 are one. Two bits always name a state, so a TryFrom would have an error that nobody meets.
 fn state_of(number: u32) -> State
     ensures { result ≡ state_no number }
 {
