@@ -15,7 +15,7 @@ use Rattle.base.specs.Tables.{Rule, ◌says◌, Agree}
 use Rattle.base.proofs.Tables.{words, given, silent, among}
 use Rattle.berth.specs.Berth.{store_size}
 use Rattle.shelf.specs.Record.{fresh}
-use Rattle.std.specs.Prelude.{Result, Ok, Err}
+use Rattle.std.specs.Prelude.{Ok, Err}
 use Rattle.refusal.specs.Refusal.{number_of}
 use Rattle.refusal.specs.declared.Refusal.{Refusal}
 use Rattle.shelf_begin.specs.Begin.{After, faults, begin_of}

@@ -1,7 +1,7 @@
 -- The answer in a number.
 --   told       what the layer's call leaves, told in a number, is what the boundary's leaves
 --   begun-back     the answer comes back out of its number
-use mathlib.Core.Path.{◌≡◌, refl, ap, ◌∙◌}
+use mathlib.Core.Path.{◌≡◌, refl, ap}
 use mathlib.Core.List.{List}
 use Prim.Native.Nat.{ℕ, ◌<◌}
 use native.Mathlib.Omega.{arith}
