@@ -28,6 +28,9 @@ const EXPIRATION: u16 = 8;
 
 const CONTENT_SIZE: u16 = 4;
 
+// The bytes of all four fields.
+const ALL_FOUR: usize = 15;
+
 // The numbers that fit a field's bits: 20, 32 and 40. What stands above them is reserved.
 const SECONDS: u64 = 1048576;
 
@@ -88,11 +91,23 @@ fn bytes_included(flags: u16) -> usize
     playback_length + playback_delay + expiration + content_size
 }
 
-// Where fields end that flags include, from a place on; none where one of them passes the end.
+// Where fields end that flags include, from a place on; none where one of them passes the end. With a quick way where none of the four is there
+// and where all are: a walk over items with all of them is slower where the fields are added up.
 fn past_included(size: usize, from: usize, flags: u16) -> Option<usize>
     requires { (from ≤ size) × (size ≤ 65535) }
     ensures { result ≡ up_to size (from + included flags) }
 {
+    let there = flags / CONTENT_SIZE % 16;
+    if there == 0 {
+        return Some(from);
+    }
+    if there == 15 {
+        let end = from + ALL_FOUR;
+        if size < end {
+            return None;
+        }
+        return Some(end);
+    }
     let end = from + bytes_included(flags);
     if size < end {
         return None;
