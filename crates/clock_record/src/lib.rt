@@ -13,7 +13,7 @@ ghost use Rattle.clock_record.specs.Words.{helds_in, book_in};
 ghost use Rattle.clock_record.specs.Codes.{one_of, two_same, Numbered};
 
 use clock_activation::{Activation, HELD, Held, code, held_of, is_past, within};
-use clock_rule::is_above;
+use clock_rule::{Action, is_above};
 
 // How many words a record is.
 pub const SIZE: usize = 67;
@@ -42,11 +42,24 @@ fn is_wrong(now: u32, h: Held) -> bool
     above | (!applied & come) | (applied & (!come | past))
 }
 
-// What a place holds.
+// What stands for an activation where there is no place.
+const NOTHING: Activation = Activation {
+    application: 0,
+    event: 0,
+    action: Action::Prep,
+    time: 0,
+};
+
+// What a place holds. Behind the last place there is nothing.
 pub fn held_at(i: usize, words: &[u32; SIZE]) -> Held
-    requires { i < most_held }
     ensures { result ≡ get_or (helds_in words.now) i nobody }
 {
+    if HELD <= i {
+        return Held {
+            activation: NOTHING,
+            applied: false,
+        };
+    }
     held_of(words[TIMES + 2 * i], words[MARKS + 2 * i])
 }
 

@@ -22,7 +22,7 @@ pub fn table_code(file: &[u8], fields: &mut [u16]) -> u8
                 last: u16::from(header.last),
                 lengths,
             };
-            tables::put_table(table, fields)
+            answers::done(tables::put_table(table, fields))
         }
     }
 }

@@ -1,8 +1,7 @@
 // Reads an input, as the standard one, into a buffer, for the programs.
 #![tactic(auto)]
 
-ghost use Rattle.std.specs.Prelude.{◌≡◌, ◌+◌, ◌≤◌, length, IfOk};
-ghost use Rattle.file.specs.Layout.{largest_file};
+ghost use Rattle.std.specs.Prelude.{◌≤◌, length, IfOk};
 
 use std::io::{self, Read};
 
@@ -24,12 +23,3 @@ pub fn read_input<R: Read>(reader: &mut R, buffer: &mut [u8]) -> io::Result<usiz
 // One byte more than the largest file, so 16,419: an input that fills the buffer is no file, and is refused as one that has
 // bytes left over.
 pub const BUFFER: usize = file::LARGEST + 1;
-
-// Reads a file into a buffer that has room for one byte more than the largest: what was cut off at its end is too long for a
-// file.
-pub fn read_whole<R: Read>(reader: &mut R, buffer: &mut [u8]) -> io::Result<usize>
-    requires { length buffer.old ≡ largest_file + 1 }
-    ensures { IfOk result (λ n. n ≤ length buffer.new) }
-{
-    read_input(reader, buffer)
-}

@@ -54,11 +54,16 @@ pub struct Item {
     pub next: usize,
 }
 
-// The number in a field's first bytes, so many, high byte first; 0 where it has fewer.
+// So many bytes stand in a number of 64 bits.
+const MOST: usize = 8;
+
+// The number in a field's first bytes, so many, high byte first; 0 where it has fewer. No field has more than eight.
 pub fn number<const N: usize>(field: &[u8]) -> u64
-    requires { N ≤ 8 }
-    ensures { result ≡ number_in N field.now }
+    ensures { N ≤ 8 → result ≡ number_in N field.now }
 {
+    if MOST < N {
+        return 0;
+    }
     if field.len() < N {
         return 0;
     }

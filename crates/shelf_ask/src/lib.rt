@@ -96,7 +96,7 @@ pub fn lowest_missing(words: &[u16], store: &[u8], key: Key) -> Result<Option<u8
     Ok(gap)
 }
 
-// The answers as numbers: the case from bit 8 up, a missing number from bit 16 up.
+// The answers as numbers, as C gets them: the case from bit 8 up, a missing number from bit 16 up.
 const COMPLETE: u16 = 256;
 
 const INCOMPLETE: u16 = 512;
@@ -107,7 +107,8 @@ const NUMBER: u32 = 512;
 
 const BIT_16: u32 = 65536;
 
-// Whether a table is complete, as a number whose low 8 bits are the refusal.
+// Whether a table is complete, as a number whose low 8 bits are the refusal. It stands apart, and so do its likes, since a refusal that
+// becomes a number inside a longer function is 41 cases of that function.
 fn whole_code_of(answer: Result<bool, Refusal>) -> u16
     ensures { result ≡ whole_code answer }
 {
@@ -192,7 +193,7 @@ pub fn table_code(words: &[u16], store: &[u8], place: u8, fields: &mut [u16]) ->
         Err(refusal) => u8::from(refusal),
         Ok(p) => {
             let table = table_in(words, p);
-            tables::put_table(table, fields)
+            answers::done(tables::put_table(table, fields))
         }
     }
 }

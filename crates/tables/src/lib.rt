@@ -3,7 +3,7 @@
 #![tactic(auto)]
 
 ghost use Rattle.std.specs.Prelude.{◌≡◌, ◌++◌, ◌≤◌, length, drop};
-ghost use Rattle.answers.specs.Answers.{out as out_of};
+ghost use Rattle.answers.specs.Answers.{done, out as out_of};
 ghost use Rattle.tables.specs.Numbers.{table_numbers, table_put};
 
 use key::Key;
@@ -42,13 +42,13 @@ fn put(t: Table, fields: &mut [u16])
     fields[HEAD..FIELDS].copy_from_slice(&t.lengths);
 }
 
-// Puts a table's numbers at the front of the buffer, and answers 0; 15 where they do not fit.
-pub fn put_table(t: Table, fields: &mut [u16]) -> u8
-    ensures { out_of result fields.new ≡ table_put t fields.old }
+// Puts a table's numbers at the front of the buffer; 15 where they do not fit.
+pub fn put_table(t: Table, fields: &mut [u16]) -> Result<(), Refusal>
+    ensures { out_of (done result) fields.new ≡ table_put t fields.old }
 {
     if fields.len() < FIELDS {
-        return Refusal::OutputTooSmall as u8;
+        return Err(Refusal::OutputTooSmall);
     }
     put(t, fields);
-    0
+    Ok(())
 }

@@ -9,7 +9,7 @@ ghost use Rattle.trigger.specs.Belongs.{belongs_of};
 ghost use Rattle.trigger.specs.Trigger.{description_of, id_of, module_of, target_of, trigger_of, read_of};
 
 use refusal::Refusal;
-use trigger_faults::{Kind, LENGTH, NAME_AT, Placed, TARGET_HEAD, word_at};
+use trigger_faults::{Kind, LENGTH, NAME_AT, Placed, TARGET_HEAD};
 
 // Where an application id begins, behind its description.
 const ID_AT: usize = 5;
@@ -55,6 +55,15 @@ pub struct Trigger {
     pub id: Extent,
     pub target: Target,
     pub user: Extent,
+}
+
+// The 16-bit number at a place. Its like in `trigger_faults` and in `section` is as private: it asks for a place in the payload, and a public
+// function asks nothing.
+fn word_at(payload: &[u8], at: usize) -> u16
+    requires { at + 2 ≤ length payload.now }
+    ensures { result ≡ word payload.now at }
+{
+    u16::from_be_bytes([payload[at], payload[at + 1]])
 }
 
 // The description of a payload whose application id has a length.

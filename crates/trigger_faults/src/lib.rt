@@ -64,7 +64,7 @@ pub struct Placed {
 }
 
 // The 16-bit number at a place, high byte first.
-pub fn word_at(payload: &[u8], at: usize) -> u16
+fn word_at(payload: &[u8], at: usize) -> u16
     requires { at + 2 ≤ length payload.now }
     ensures { result ≡ word payload.now at }
 {

@@ -9,4 +9,4 @@ returns-in-Err c =
     ap (λ n. out n c.args.fields.now) c.from.ensures ∙ lent-refused _ _ _ (sym c.read_file.ensures ∙ c.in-Err.is)
 
 pub returns-in-Ok : goal.returns-in-Ok
-returns-in-Ok c = lent-table _ _ _ (sym c.read_file.ensures ∙ c.in-Ok.is) (c.put_table.ensures ∙ rw (c.from-in-Ok.ensures, c.from-in-Ok-2.ensures))
+returns-in-Ok c = lent-table _ _ _ (sym c.read_file.ensures ∙ c.in-Ok.is) (ap (λ n. out n c.put_table.new.fields) c.done.ensures ∙ c.put_table.ensures ∙ rw (c.from-in-Ok.ensures, c.from-in-Ok-2.ensures))

@@ -26,7 +26,7 @@ overflow_cast-service c =
     let octets : Octets c.args.payload.now = λ k. omega (arith, c.type_inv.payload k) in
     let fits = below c.args.payload.now 8 octets 2 in
     let l = items-long (items_of c.args.payload.now c.in_ok-items.items (search rules)) in
-    let is = c.number-service.ensures ∙ part-number c.args.payload.now 8 2 2 refl (omega (arith, l)) in
+    let is = c.number-service.ensures (omega arith) ∙ part-number c.args.payload.now 8 2 2 refl (omega (arith, l)) in
     omega (arith, fits, is)
 
 pub overflow_cast-start : goal.overflow_cast-start
@@ -34,11 +34,11 @@ overflow_cast-start c =
     let octets : Octets c.args.payload.now = λ k. omega (arith, c.type_inv.payload k) in
     let fits = below c.args.payload.now 10 octets 4 in
     let l = items-long (items_of c.args.payload.now c.in_ok-items.items (search rules)) in
-    let is = c.number-start.ensures ∙ part-number c.args.payload.now 10 4 4 refl (omega (arith, l)) in
+    let is = c.number-start.ensures (omega arith) ∙ part-number c.args.payload.now 10 4 4 refl (omega (arith, l)) in
     omega (arith, fits, is)
 
 pub returns : goal.returns
 returns c = let r = items_of c.args.payload.now c.in_ok-items.items (search rules) in
     let s = c.args.payload.now in
     let l = items-long r in
-    read_made r (c.number-service.ensures ∙ part-number s 8 2 2 refl (omega (arith, l))) (c.number-start.ensures ∙ part-number s 10 4 4 refl (omega (arith, l))) (c.number.ensures ∙ part-number s 14 2 2 refl (omega (arith, l)))
+    read_made r (c.number-service.ensures (omega arith) ∙ part-number s 8 2 2 refl (omega (arith, l))) (c.number-start.ensures (omega arith) ∙ part-number s 10 4 4 refl (omega (arith, l))) (c.number.ensures (omega arith) ∙ part-number s 14 2 2 refl (omega (arith, l)))

@@ -21,13 +21,13 @@ overflow_cast-flags c =
     let fits = below c.args.bytes.now (c.args.at + 4) octets 2 in
     let at = c.args.at in
     let m : at + 6 - (at + 4) ≡ 2 = omega arith in
-    let is = c.number.ensures ∙ part-number c.args.bytes.now (at + 4) (at + 6 - (at + 4)) 2 m (omega (arith, c.if-size-at.false)) in
+    let is = c.number.ensures (omega arith) ∙ part-number c.args.bytes.now (at + 4) (at + 6 - (at + 4)) 2 m (omega (arith, c.if-size-at.false)) in
     omega (arith, fits, is)
 
 pub returns-in_err-named : goal.returns-in_err-named
 returns-in_err-named c =
     let flagged : c.number.result ≡ number c.args.bytes.now (c.args.at + 4) 2 = let at = c.args.at in
-    let m : at + 6 - (at + 4) ≡ 2 = omega arith in c.number.ensures ∙ part-number _ _ _ 2 m (omega (arith, c.if-size-at.false)) in
+    let m : at + 6 - (at + 4) ≡ 2 = omega arith in c.number.ensures (omega arith) ∙ part-number _ _ _ 2 m (omega (arith, c.if-size-at.false)) in
     let passes : c.args.at + 6 + included (c.number.result / 64) ≡ content_name_length_at c.args.bytes.now c.args.at = name-at (record { flags = flagged; place = refl }) in
     let past : None ≡ up_to (length c.args.bytes.now) (c.args.at + 6 + included (c.number.result / 64)) = search rules in
     let l = up-past _ _ past in
@@ -37,7 +37,7 @@ returns-in_err-named c =
 pub returns-then-size-named : goal.returns-then-size-named
 returns-then-size-named c =
     let flagged : c.number.result ≡ number c.args.bytes.now (c.args.at + 4) 2 = let at = c.args.at in
-    let m : at + 6 - (at + 4) ≡ 2 = omega arith in c.number.ensures ∙ part-number _ _ _ 2 m (omega (arith, c.if-size-at.false)) in
+    let m : at + 6 - (at + 4) ≡ 2 = omega arith in c.number.ensures (omega arith) ∙ part-number _ _ _ 2 m (omega (arith, c.if-size-at.false)) in
     let there : Some c.in_ok-named.named ≡ up_to (length c.args.bytes.now) (c.args.at + 6 + included (c.number.result / 64)) = search rules in
     let u = up_ends _ _ _ there in
     let seen : Named c.args.bytes.now c.args.at c.number.result c.in_ok-named.named = record { flags = flagged; place = u.0 } in
@@ -46,7 +46,7 @@ returns-then-size-named c =
 pub returns-then-size-counted : goal.returns-then-size-counted
 returns-then-size-counted c =
     let flagged : c.number.result ≡ number c.args.bytes.now (c.args.at + 4) 2 = let at = c.args.at in
-    let m : at + 6 - (at + 4) ≡ 2 = omega arith in c.number.ensures ∙ part-number _ _ _ 2 m (omega (arith, c.if-size-at.false)) in
+    let m : at + 6 - (at + 4) ≡ 2 = omega arith in c.number.ensures (omega arith) ∙ part-number _ _ _ 2 m (omega (arith, c.if-size-at.false)) in
     let there : Some c.in_ok-named.named ≡ up_to (length c.args.bytes.now) (c.args.at + 6 + included (c.number.result / 64)) = search rules in
     let u = up_ends _ _ _ there in
     let seen : Named c.args.bytes.now c.args.at c.number.result c.in_ok-named.named = record { flags = flagged; place = u.0 } in
@@ -55,7 +55,7 @@ returns-then-size-counted c =
 pub returns-in_err-next : goal.returns-in_err-next
 returns-in_err-next c =
     let flagged : c.number.result ≡ number c.args.bytes.now (c.args.at + 4) 2 = let at = c.args.at in
-    let m : at + 6 - (at + 4) ≡ 2 = omega arith in c.number.ensures ∙ part-number _ _ _ 2 m (omega (arith, c.if-size-at.false)) in
+    let m : at + 6 - (at + 4) ≡ 2 = omega arith in c.number.ensures (omega arith) ∙ part-number _ _ _ 2 m (omega (arith, c.if-size-at.false)) in
     let there : Some c.in_ok-named.named ≡ up_to (length c.args.bytes.now) (c.args.at + 6 + included (c.number.result / 64)) = search rules in
     let u = up_ends _ _ _ there in
     let seen : Named c.args.bytes.now c.args.at c.number.result c.in_ok-named.named = record { flags = flagged; place = u.0 } in
@@ -66,7 +66,7 @@ returns-in_err-next c =
 pub returns : goal.returns
 returns c =
     let flagged : c.number.result ≡ number c.args.bytes.now (c.args.at + 4) 2 = let at = c.args.at in
-    let m : at + 6 - (at + 4) ≡ 2 = omega arith in c.number.ensures ∙ part-number _ _ _ 2 m (omega (arith, c.if-size-at.false)) in
+    let m : at + 6 - (at + 4) ≡ 2 = omega arith in c.number.ensures (omega arith) ∙ part-number _ _ _ 2 m (omega (arith, c.if-size-at.false)) in
     let there : Some c.in_ok-named.named ≡ up_to (length c.args.bytes.now) (c.args.at + 6 + included (c.number.result / 64)) = search rules in
     let u = up_ends _ _ _ there in
     let seen : Named c.args.bytes.now c.args.at c.number.result c.in_ok-named.named = record { flags = flagged; place = u.0 } in

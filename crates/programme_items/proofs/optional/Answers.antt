@@ -12,4 +12,4 @@ returns-clause-value_value g c =
     let set : eqb (c.args.flags / c.args.flag % 2) 1 ≡ true = sym c.is_set.ensures ∙ c.if-not-is_set.false in
     let at = c.args.at in
     let long : at + g.row.N - at ≡ g.row.N = omega arith in
-    rw set (ap (λ n. n % c.args.values) (c.number.ensures ∙ part-number c.args.bytes.now at (at + g.row.N - at) g.row.N long (let h = c.requires.3 in rw set at h)))
+    rw set (ap (λ n. n % c.args.values) (c.number.ensures (omega (arith, c.requires)) ∙ part-number c.args.bytes.now at (at + g.row.N - at) g.row.N long (let h = c.requires.3 in rw set at h)))

@@ -20,4 +20,4 @@ returns c =
     let t = parts-there _ _ _ c.requires.parts_value in
     let m : a.at + 4 - a.at ≡ 4 = omega arith in
     rw c.from-2.ensures
-    (item-made t a.fields.now a.to (c.number.ensures ∙ part-number _ _ _ 4 m (omega (arith, t.fits))) (rw c.from.ensures at c.put_included.ensures))
+    (item-made t a.fields.now a.to (c.number.ensures (omega arith) ∙ part-number _ _ _ 4 m (omega (arith, t.fits))) (rw c.from.ensures at c.put_included.ensures))

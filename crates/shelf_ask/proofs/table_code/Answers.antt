@@ -23,4 +23,4 @@ returns-in-Ok c =
     (ap (taken_of (shelf_at a.words.now) (length a.store.now)) (sym c.from.ensures) ∙ told c.taken_in.ensures c.in-Ok.is)
     (omega (arith, c.type_inv.words (64 + 4 * a.place)))
     c.table_in-table.ensures
-    c.put_table.ensures
+    (ap (λ n. out n c.put_table.new.fields) c.done.ensures ∙ c.put_table.ensures)
