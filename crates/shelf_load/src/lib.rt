@@ -14,7 +14,8 @@ use berth::{PLACES, SECTIONS, STORE};
 use file::Table;
 use refusal::Refusal;
 
-// Puts each section of a file's table into its berth of place p.
+// Puts each section of a file's table into its berth of place p. Numbers and store are slices here and below, since they are written to: of one that is
+// lent on as an array the proof does not get what it holds afterwards (`shelf_write`).
 fn store_each(store: &mut [u8], p: usize, file: &[u8], table: Table)
     requires store_len { (length store.old ≡ store_size) × (p < places) }
     requires within { Within file.now table.starts table.lengths table.header.last }

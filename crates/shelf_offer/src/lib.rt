@@ -41,7 +41,8 @@ enum Step {
     Adds(usize),
 }
 
-// The step of a sound section whose key is held in place p.
+// The step of a sound section whose key is held in place p. Numbers and store are slices here and below, since what
+// calls these writes to them: of one that is lent on as an array the proof does not get what it holds afterwards (`shelf_write`).
 fn held_step(
     words: &[u16],
     store: &[u8],

@@ -27,7 +27,7 @@ const TWO_GROUPS: u16 = 128;
 
 const THREE_GROUPS: u16 = 16384;
 
-// How many bytes a number takes.
+// How many bytes a number takes. The bench's writer tells one group from two alone, since its sections have at most 1,024 bytes.
 fn number_size(n: u16) -> usize
     ensures { (result ≡ length (spelt n)) × (result ≤ 3) }
 {
@@ -67,7 +67,8 @@ fn write_at(n: u16, out: &mut [u8], at: usize) -> usize
     at + written.unwrap()
 }
 
-// Writes section n of place p with its length at a place of the output; the place after it.
+// Writes section n of place p with its length at a place of the output; the place after it. The store is a slice here and below: the question has
+// answered for its length, and an array would have it asked for again.
 fn write_held(store: &[u8], p: usize, n: usize, size: u16, out: &mut [u8], at: usize) -> usize
     requires p_lt_places { (p < places) × (n < sections) × (length store.now ≡ store_size) }
     requires size_le_berth_size { (size ≤ berth_size) × (at + size_of size ≤ length out.old) }
