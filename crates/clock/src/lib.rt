@@ -33,7 +33,7 @@ pub enum Heard {
     Waiting,
 }
 
-// The answer to a call, and the next record.
+// The answer to a call, and the next record, which comes back on a refusal too, as document 01 names it: so this is no `Result` of both.
 #[derive(Drop)]
 pub struct Handed<T> {
     pub clock: Clock,
@@ -141,7 +141,8 @@ impl Clock {
     }
 
     // Moves the clock: each waiting activation that it reaches is applied, in order of time, then application, then event,
-    // and the answer is how many. Refused are a spoiled record and then a move back, and the record is then as it was.
+    // and the answer is how many. Refused are a spoiled record and then a move back, and the record is then as it was. By value, as
+    // `offer`.
     pub fn move_to(self, to: u32) -> Handed<usize>
         ensures { result ≡ move_to self to }
     {

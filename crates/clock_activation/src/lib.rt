@@ -3,6 +3,7 @@
 #![tactic(auto)]
 
 ghost use Rattle.std.specs.Prelude.{◌≡◌, min};
+ghost use Rattle.clock_rule.specs.Numbers.{action_no};
 ghost use Rattle.clock_activation.specs.Limits.{most_held};
 ghost use Rattle.clock_activation.specs.Activation.{past};
 ghost use Rattle.clock_activation.specs.Code.{Coded};
@@ -65,7 +66,19 @@ pub fn is_past(now: u32, time: u32) -> bool
     MEMORY < now.saturating_sub(time)
 }
 
-// What is held by the two words of a place. Every number of two bits is an action's.
+// The action with a number; those above 2 are one. A word's two bits are always an action, so that no refusal of `TryFrom` could be met.
+pub fn action_of(number: u32) -> Action
+    ensures { result ≡ action_no number }
+{
+    match number {
+        0 => Action::Prep,
+        1 => Action::Exec,
+        2 => Action::Susp,
+        _ => Action::Kill,
+    }
+}
+
+// What is held by the two words of a place.
 #[tactic(auto, unfolding(crate::specs::Places::held_in))]
 pub fn held_of(time: u32, word: u32) -> Held
     ensures { result ≡ held_in time word }
@@ -74,7 +87,7 @@ pub fn held_of(time: u32, word: u32) -> Held
         activation: Activation {
             application: (word / BIT_16 % 256) as u8,
             event: (word % BIT_16) as u16,
-            action: Action::try_from((word / BIT_24 % 4) as u8).unwrap_or(Action::Kill),
+            action: action_of(word / BIT_24 % 4),
             time,
         },
         applied: word / BIT_26 % 2 == 1,

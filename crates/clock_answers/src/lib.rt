@@ -13,7 +13,7 @@ use clock_record::SIZE;
 use clock_rule::{Action, State};
 use refusal::Refusal;
 
-// What became of an activation, from bit 8 of the answer.
+// What became of an activation, from bit 8 of the answer, as C gets it.
 const APPLIED: u16 = 256;
 
 const WAITING: u16 = 512;

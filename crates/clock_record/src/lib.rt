@@ -50,7 +50,7 @@ const NOTHING: Activation = Activation {
     time: 0,
 };
 
-// What a place holds. Behind the last place there is nothing.
+// What a place holds. Behind the last place there is nothing, since a public function asks nothing of its caller; the definitions have `nobody` there.
 pub fn held_at(i: usize, words: &[u32; SIZE]) -> Held
     ensures { result ≡ get_or (helds_in words.now) i nobody }
 {
@@ -103,7 +103,7 @@ pub fn is_held(a: Activation, words: &[u32; SIZE]) -> bool
     is_among(a, n, words)
 }
 
-// Writes the number of what each of the first n places holds.
+// Writes the number of what each of the first n places holds. There is no heap, so the array has room for all.
 fn write_codes(n: usize, words: &[u32; SIZE], codes: &mut [u64; HELD])
     requires { n ≤ most_held }
     ensures { Numbered (take n (helds_in words.now)) (take n codes.new) }

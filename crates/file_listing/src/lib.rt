@@ -24,7 +24,7 @@ pub const LARGEST: usize = 421;
 
 // A text that grows at its end. Each piece below says what it adds and in how many bytes at most, every number taken for five
 // digits and a time for ten; so counted, no listing comes to more than 718. The size stands beside a fixed buffer, since the library
-// has no heap.
+// has no heap. `text` counts what has no room; here the room is proved, which the laws of the lister speak of.
 #[derive(Drop)]
 struct Text {
     bytes: [u8; ROOM],

@@ -18,7 +18,7 @@ const ITEMS: u64 = 256;
 
 const OVER: u64 = 512;
 
-// Reads the fields before the items and puts them at the front of the buffer, or answers the refusal.
+// Reads the fields before the items and puts them at the front of the buffer, or answers the refusal: here the answer becomes the number that C gets.
 pub fn programme_read(payload: &[u8], fields: &mut [u32]) -> u8
     ensures { out_of result fields.new ≡ read_lent payload.now fields.old }
 {

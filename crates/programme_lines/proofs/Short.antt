@@ -7,8 +7,6 @@ use native.Mathlib.Omega.{arith}
 use lib.ListN.{length, length-append}
 use Rattle.base.specs.Bits.{bit}
 use Rattle.base.proofs.Cases.{by}
-use Rattle.refusal.specs.Refusal.{number}
-use Rattle.refusal.specs.declared.Refusal.{Refusal}
 use Rattle.text.specs.Words.{decimal}
 use Rattle.text.proofs.Short.{decimal-most, decimal-one, escaped-short}
 use Rattle.programme.specs.Field.{only}
@@ -17,9 +15,9 @@ use Rattle.programme.specs.declared.Loop.{Loop}
 use Rattle.programme.specs.declared.Item.{Item}
 use Rattle.programme_lines.specs.Lines.{refused_at, programme_line, item_line, flags_line, playback_line, delay_line, expires_line, size_line, name_line, descriptors_line, list_line, item_text}
 
-pub refused-short : (section : ℕ) (refusal : Refusal) (place : ℕ) → length (refused_at section refusal place) ≤ 64
+pub refused-short : (section number place : ℕ) → length (refused_at section number place) ≤ 64
 unfolding refused_at
-refused-short section refusal place = simp length-append (omega (arith, decimal-most section, decimal-most (number refusal), decimal-most place))
+refused-short section number place = simp length-append (omega (arith, decimal-most section, decimal-most number, decimal-most place))
 
 pub programme-short : (section : ℕ) (p : Programme) → length (programme_line section p) ≤ 106
 unfolding programme_line

@@ -1,8 +1,6 @@
 -- The text for staff: its lines. Each ends with a newline, and numbers are decimal without leading zeros.
 use Rattle.std.specs.Prelude.{ℕ, ◌/◌, ◌%◌, ◌^◌, List, [], ◌++◌, if◌then◌else◌}
 use Rattle.base.specs.Bits.{bit}
-use Rattle.refusal.specs.Refusal.{number}
-use Rattle.refusal.specs.declared.Refusal.{Refusal}
 use Rattle.file_listing.specs.Words.{ascii, newline}
 use Rattle.text.specs.Words.{field, escaped}
 use Rattle.programme.specs.declared.Programme.{Programme}
@@ -14,8 +12,8 @@ abbrev pub other_line : List ℕ
 other_line = ascii "no programme list" ++ newline
 
 -- section 1 refused 43 place 8
-unfoldable pub refused_at : ℕ → Refusal → ℕ → List ℕ
-refused_at section refusal place = field "section " section ++ (field " refused " (number refusal) ++ (field " place " place ++ newline))
+unfoldable pub refused_at : ℕ → ℕ → ℕ → List ℕ
+refused_at section number place = field "section " section ++ (field " refused " number ++ (field " place " place ++ newline))
 
 -- section 0 service 3152 start 1000000800 minutes 1440 items 2
 unfoldable pub programme_line : ℕ → Programme → List ℕ

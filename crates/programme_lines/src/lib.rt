@@ -1,4 +1,5 @@
-// The lines of the text for staff: of a section of a programme list and of its items. Each is written as the crate text writes.
+// The lines of the text for staff: of a section of a programme list and of its items. Each is written as the crate text writes, the output and the
+// place in it apart.
 #![tactic(auto)]
 
 ghost use Rattle.std.specs.Prelude.{[], ◌++◌, ◌≡◌, ◌<◌, ◌/◌, ◌%◌, if◌then◌else◌};
@@ -10,7 +11,6 @@ ghost use Rattle.programme_lines.specs.Lines.{refused_at, programme_line, item_l
 
 use key::Key;
 use programme::{Item, Loop, Programme};
-use refusal::Refusal;
 use section::Header;
 
 // What an NRT-IT's line says after its extension: the rest of its key.
@@ -54,15 +54,15 @@ pub fn head_line(out: &mut [u8], at: usize, h: Header) -> usize
 }
 
 // The line of a section that is refused, or that ends with a refusal.
-pub fn refused_at(out: &mut [u8], at: usize, section: u8, refusal: Refusal, place: usize) -> usize
-    ensures { Wrote (refused_at section refusal place) out.old at out.new result }
+pub fn refused_at(out: &mut [u8], at: usize, section: u8, number: u8, place: usize) -> usize
+    ensures { Wrote (refused_at section number place) out.old at out.new result }
 {
     let told = text::field(out, at, b"section ", u64::from(section));
     text::pair_line(
         out,
         told,
         b" refused ",
-        u64::from(u8::from(refusal)),
+        u64::from(number),
         b" place ",
         place as u64,
     )

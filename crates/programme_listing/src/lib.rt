@@ -19,7 +19,7 @@ use refusal::Refusal;
 // An output of so many bytes is never too small: 78 of the first line, 20 for each byte of sixteen sections of 1,024, and 10 of the last.
 pub const ROOM: usize = 327768;
 
-// Section n, where the file holds it.
+// Section n, where the file holds it. The output and the place in it are passed apart here and below: see `text`.
 fn section_of(out: &mut [u8], at: usize, n: u8, file: &[u8], table: &Table) -> Done
     requires { Inside file.now table.now n }
     ensures wrote { Wrote (section_of file.now table.now.starts table.now.lengths n) out.old at out.new result.at }

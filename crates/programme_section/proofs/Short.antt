@@ -14,6 +14,7 @@ use Rattle.programme.specs.Reading.{Reading, Step, Own, read_of, step_of, own_of
 use Rattle.programme.specs.declared.Item.{Item}
 use Rattle.programme.proofs.Readings.{listed}
 use Rattle.programme_lines.specs.Lines.{item_text}
+use Rattle.refusal.specs.Refusal.{number}
 use Rattle.programme_lines.proofs.Short.{refused-short, programme-short, list-short, item-short}
 use Rattle.programme_section.specs.Section.{own_place, own_text, step_text, items_text, read_text, section_text}
 use Rattle.programme_section.proofs.Facts.{item-facts}
@@ -21,7 +22,7 @@ use Rattle.programme_section.proofs.Facts.{item-facts}
 module _ (n : ℕ) (s : List ℕ) where
   own-short : (at : ℕ) (o : Own) → length (own_text n s at o) ≤ 64
   own-short at (Ok l) = list-short l
-  own-short at (Err m) = refused-short n m (own_place n s at m)
+  own-short at (Err m) = refused-short n (number m) (own_place n s at m)
 
   -- an item's text, and where its bytes end
   one-short : (k at : ℕ) (i : Item) → step_of s at k ≡ Ok (Some i)
@@ -53,7 +54,7 @@ module _ (n : ℕ) (s : List ℕ) where
           let rest = ih i.next one.1 in
           let first : length (item_text (part s i.nameat i.named) k i) + 20 * at ≤ 20 * i.next = one.0 in
           simp length-append (omega arith)
-      go ih (Err m) e = omega (arith, refused-short n m at)
+      go ih (Err m) e = omega (arith, refused-short n (number m) at)
       go ih (Ok None) e = omega arith
 
   pub section-short : 8 ≤ length s → length (section_text n s) ≤ 20 * length s
@@ -61,7 +62,7 @@ module _ (n : ℕ) (s : List ℕ) where
   section-short l = go (read_of s) refl
     where
       go : (r : Reading) → read_of s ≡ r → length (read_text n s r) ≤ 20 * length s
-      go (Err m) e = omega (arith, refused-short n m 8)
+      go (Err m) e = omega (arith, refused-short n (number m) 8)
       go (Ok p) e =
           let long : 17 ≤ length s = (listed s p e).long in
           simp length-append (omega (arith, programme-short n p, items-short p.items 0 17 long))

@@ -75,10 +75,10 @@ module _ {n : ℕ} {s : List ℕ} {count : ℕ} {out : List ℕ} {at k place : �
           read = rw (fewer, ← r) g.read;
         }
 
-    pub ends-refused : {now' : List ℕ} {here' : ℕ} (m : Refusal) → step_of s place k ≡ Err m → Wrote (refused_at n m place) now here now' here'
+    pub ends-refused : {now' : List ℕ} {here' : ℕ} (m : Refusal) → step_of s place k ≡ Err m → Wrote (refused_at n (number m) place) now here now' here'
         → Wrote (items_text n s count 0 17) out at now' here' × (false ≡ items_read s count 0 17)
     ends-refused m e w =
-        let t : items_text n s (count - k) k place ≡ refused_at n m place = text-step n s k place (count - k) (omega arith) ∙ rw e in
+        let t : items_text n s (count - k) k place ≡ refused_at n (number m) place = text-step n s k place (count - k) (omega arith) ∙ rw e in
         let r : items_read s (count - k) k place ≡ false = read_step n s k place (count - k) (omega arith) ∙ rw e in
         (finish g.text (rw t w), sym r ∙ g.read)
 
@@ -102,17 +102,17 @@ module _ (n : ℕ) (s : List ℕ) (at : ℕ) {out after : List ℕ} {here end : 
   own-whole o l p q w = rw (← p, q) (w, refl)
 
   module _ (o : Own) (m : Refusal) (p : o ≡ own_of s at) (q : o ≡ Err m) where
-    pub own-left : (place : ℕ) → m ≡ ProgrammeBytesLeft → place ≡ end_of (own_run s at) → Wrote (refused_at n m place) out here after end
+    pub own-left : (place : ℕ) → m ≡ ProgrammeBytesLeft → place ≡ end_of (own_run s at) → Wrote (refused_at n (number m) place) out here after end
         → Wrote (own_text n s at (own_of s at)) out here after end × (false ≡ own_read s (own_of s at))
     own-left place e f w = rw (← p, q, eq-eqb (number m) 44 (ap number e), ← f) (w, refl)
 
-    pub own-refused : (m ≡ ProgrammeBytesLeft → ⊥) → Wrote (refused_at n m at) out here after end
+    pub own-refused : (m ≡ ProgrammeBytesLeft → ⊥) → Wrote (refused_at n (number m) at) out here after end
         → Wrote (own_text n s at (own_of s at)) out here after end × (false ≡ own_read s (own_of s at))
     own-refused d w = rw (← p, q, ne_eqb (number m) 44 (λ e. d (once m ProgrammeBytesLeft e))) (w, refl)
 
 -- a section, by how it reads
 module _ (n : ℕ) (s : List ℕ) {out after : List ℕ} {at end : ℕ} where
-  pub section-refused : (r : Reading) (m : Refusal) → r ≡ read_of s → r ≡ Err m → Wrote (refused_at n m 8) out at after end
+  pub section-refused : (r : Reading) (m : Refusal) → r ≡ read_of s → r ≡ Err m → Wrote (refused_at n (number m) 8) out at after end
       → Wrote (section_text n s) out at after end × (false ≡ section_read s)
   unfolding section_text section_read
   section-refused r m p q w = rw (← p, q) (w, refl)

@@ -18,12 +18,12 @@ module _ (n : ℕ) (s : List ℕ) where
 
   abbrev pub own_text : ℕ → Own → List ℕ
   own_text at (Ok l) = list_line l
-  own_text at (Err refusal) = refused_at n refusal (own_place at refusal)
+  own_text at (Err refusal) = refused_at n (number refusal) (own_place at refusal)
 
   -- item k at a place, and what follows it; a refused item ends the section
   abbrev pub step_text : ℕ → ℕ → Step → (ℕ → List ℕ) → List ℕ
   step_text k at (Ok (Some i)) follow = item_text (part s i.nameat i.named) k i ++ follow i.next
-  step_text k at (Err refusal) follow = refused_at n refusal at
+  step_text k at (Err refusal) follow = refused_at n (number refusal) at
   -- which cannot be while items are left
   step_text k at (Ok None) follow = []
 
@@ -34,7 +34,7 @@ module _ (n : ℕ) (s : List ℕ) where
 
   -- the fixed fields before the items, which begin behind the header
   abbrev pub read_text : Reading → List ℕ
-  read_text (Err refusal) = refused_at n refusal header_size
+  read_text (Err refusal) = refused_at n (number refusal) header_size
   read_text (Ok p) = programme_line n p ++ items_text p.items 0 first_item_at
 
   unfoldable pub section_text : List ℕ

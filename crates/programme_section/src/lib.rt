@@ -16,7 +16,8 @@ pub struct Done {
     pub whole: bool,
 }
 
-// Where the table's own descriptors end: the place of the first byte left over, where bytes are.
+// Where the table's own descriptors end: the place of the first byte left over, where bytes are. Where one passes the end it is 0, as in `end_of` of the
+// definitions. The output and the place in it are passed apart here and below: see `text`.
 fn own_end(payload: &[u8], at: usize) -> usize
     requires { at < length payload.now }
     ensures { result ≡ end_of (own_run payload.now at) }
@@ -41,13 +42,13 @@ fn own(out: &mut [u8], at: usize, n: u8, payload: &[u8], place: usize) -> Done
         Err(refusal) => {
             if refusal == Refusal::ProgrammeBytesLeft {
                 let left = own_end(payload, place);
-                let end = programme_lines::refused_at(out, at, n, refusal, left);
+                let end = programme_lines::refused_at(out, at, n, u8::from(refusal), left);
                 return Done {
                     at: end,
                     whole: false,
                 };
             }
-            let end = programme_lines::refused_at(out, at, n, refusal, place);
+            let end = programme_lines::refused_at(out, at, n, u8::from(refusal), place);
             Done {
                 at: end,
                 whole: false,
@@ -72,7 +73,7 @@ fn items(out: &mut [u8], at: usize, n: u8, payload: &[u8], count: u8) -> Done
                 place = item.next;
             }
             Err(refusal) => {
-                let told = programme_lines::refused_at(out, end, n, refusal, place);
+                let told = programme_lines::refused_at(out, end, n, u8::from(refusal), place);
                 return Done {
                     at: told,
                     whole: false,
@@ -96,7 +97,7 @@ pub fn section(out: &mut [u8], at: usize, n: u8, payload: &[u8]) -> Done
 {
     match programme::read(payload) {
         Err(refusal) => {
-            let end = programme_lines::refused_at(out, at, n, refusal, section::HEADER);
+            let end = programme_lines::refused_at(out, at, n, u8::from(refusal), section::HEADER);
             Done {
                 at: end,
                 whole: false,

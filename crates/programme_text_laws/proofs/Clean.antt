@@ -75,9 +75,9 @@ refused : (n : ℕ) → Plain (refused_line n)
 unfolding refused_line all-good good
 refused n = plain-join (listed "refused " n refl) ended
 
-refused-at : (n : ℕ) (m : Refusal) (at : ℕ) → Plain (refused_at n m at)
+refused-at : (n m at : ℕ) → Plain (refused_at n m at)
 unfolding refused_at all-good good
-refused-at n m at = plain-join (one "section " n refl) (plain-join (one " refused " (number m) refl) (plain-join (one " place " at refl) ended))
+refused-at n m at = plain-join (one "section " n refl) (plain-join (one " refused " m refl) (plain-join (one " place " at refl) ended))
 
 programme : (n : ℕ) (p : Programme) → Plain (programme_line n p)
 unfolding programme_line all-good good
@@ -138,11 +138,11 @@ item bytes o k i =
 module _ (n : ℕ) (s : List ℕ) (o : Octets s) where
   own : (at : ℕ) (x : Own) → Plain (own_text n s at x)
   own at (Ok l) = list-line l
-  own at (Err m) = refused-at n m (own_place n s at m)
+  own at (Err m) = refused-at n (number m) (own_place n s at m)
 
   step : (k at : ℕ) (x : Step) (follow : ℕ → List ℕ) → ((to : ℕ) → Plain (follow to)) → Plain (step_text n s k at x follow)
   step k at (Ok (Some i)) follow p = plain-join (item (part s i.nameat i.named) (octets-part s i.nameat i.named o) k i) (p i.next)
-  step k at (Err m) follow p = refused-at n m at
+  step k at (Err m) follow p = refused-at n (number m) at
   step k at (Ok None) follow p = none
 
   items : (left k at : ℕ) → Plain (items_text n s left k at)
@@ -151,7 +151,7 @@ module _ (n : ℕ) (s : List ℕ) (o : Octets s) where
   items (suc left) k at = step k at (step_of s at k) (items_text n s left (k + 1)) (items left (k + 1))
 
   read : (r : Reading) → Plain (read_text n s r)
-  read (Err m) = refused-at n m 8
+  read (Err m) = refused-at n (number m) 8
   read (Ok p) = plain-join (programme n p) (items p.items 0 17)
 
   section : Plain (section_text n s)

@@ -64,9 +64,9 @@ missing : (n : ℕ) → Line (missing_line n)
 unfolding missing_line
 missing n = front (words.field "missing " n) new
 
-refused-at : (n : ℕ) (m : Refusal) (at : ℕ) → Line (refused_at n m at)
+refused-at : (n m at : ℕ) → Line (refused_at n m at)
 unfolding refused_at
-refused-at n m at = front (field "section " n) (front (field " refused " (number m)) (front (field " place " at) new))
+refused-at n m at = front (field "section " n) (front (field " refused " m) (front (field " place " at) new))
 
 programme : (n : ℕ) (p : Programme) → Line (programme_line n p)
 unfolding programme_line
@@ -92,12 +92,12 @@ item name k i =
 module _ (n : ℕ) (s : List ℕ) where
   own : (at : ℕ) (x : Own) → Ends (own_text n s at x)
   own at (Ok l) = line (list-line l)
-  own at (Err m) = line (refused-at n m (own_place n s at m))
+  own at (Err m) = line (refused-at n (number m) (own_place n s at m))
 
   step : (k at : ℕ) (x : Step) (follow : ℕ → List ℕ) → ((to : ℕ) → Ends (follow to)) → Ends (step_text n s k at x follow)
   step k at (Ok (Some i)) follow p =
       join (item_text (part s i.nameat i.named) k i) (follow i.next) (line (item (part s i.nameat i.named) k i)) (p i.next)
-  step k at (Err m) follow p = line (refused-at n m at)
+  step k at (Err m) follow p = line (refused-at n (number m) at)
   step k at (Ok None) follow p = none
 
   items : (left k at : ℕ) → Ends (items_text n s left k at)
@@ -106,7 +106,7 @@ module _ (n : ℕ) (s : List ℕ) where
   items (suc left) k at = step k at (step_of s at k) (items_text n s left (k + 1)) (items left (k + 1))
 
   read : (r : Reading) → Ends (read_text n s r)
-  read (Err m) = line (refused-at n m 8)
+  read (Err m) = line (refused-at n (number m) 8)
   read (Ok p) = join (programme_line n p) (items_text n s p.items 0 17) (line (programme n p)) (items p.items 0 17)
 
   section : Ends (section_text n s)

@@ -33,7 +33,8 @@ pub const WORDS: usize = RESTS + REST * PLACES;
 // Added to the table id of a taken place.
 pub const TAKEN: u16 = 256;
 
-// The one of four numbers that is of place p: the first of them stands at a place of the record, and the next each so much later.
+// The one of four numbers that is of place p: the first of them stands at a place of the record, and the next each so much later. Here and below
+// what is read where there is no record or no place is 0, as in the definitions that the theorems speak of.
 fn number_of(words: &[u16], first: usize, each: usize, p: usize) -> u16
     requires { first + each * 3 < count }
     ensures { result ≡ number_among words.now first each p }

@@ -29,7 +29,7 @@ fn unlent(words: &[u16], size: usize) -> Result<(), Refusal>
     Ok(())
 }
 
-// The place of the table with that key, or the first refusal of every question about it, put with a store of that size.
+// The place of the table with that key, or the first refusal of every question about it, put with a store of that size. A place of 4 is none, as `shelf` has it.
 pub fn held_in(words: &[u16], size: usize, key: Key) -> Result<usize, Refusal>
     ensures { result ≡ holding_of (shelf_at words.now) size key }
 {

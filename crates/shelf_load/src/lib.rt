@@ -44,7 +44,7 @@ fn hold_each(words: &mut [u16], p: usize, lengths: [u16; SECTIONS])
     }
 }
 
-// Puts the table that a file was found to hold into the lowest free place, where its key is not held.
+// Puts the table that a file was found to hold into the lowest free place, where its key is not held. A place of 4 is none, as `shelf` has it.
 fn load_table(words: &mut [u16], store: &mut [u8], file: &[u8], table: Table) -> Result<(), Refusal>
     requires words_len { (length words.old ≡ count) × (length store.old ≡ store_size) }
     requires within { Within file.now table.starts table.lengths table.header.last }

@@ -75,7 +75,7 @@ fn held_step(
     Err(Refusal::Differs)
 }
 
-// The step of a sound section: it reads all that it is lent, and writes nothing.
+// The step of a sound section: it reads all that it is lent, and writes nothing. A place of 4 is none, as `shelf` has it.
 fn sound_step(words: &[u16], store: &[u8], payload: &[u8], header: Header) -> Result<Step, Refusal>
     requires words_len { (length words.now ≡ count) × (length store.now ≡ store_size) }
     requires number_lt_sections { (header.number < sections) × (header.version < 32) × (header.last < 16) × (length payload.now ≤ berth_size) }
@@ -154,7 +154,8 @@ fn refuse(words: &[u16], payload: &[u8], passed: bool) -> u16
     settle(words, passed, code_of(Err(refusal)))
 }
 
-// Begins a table in place p, where the held sections give way whose bits are 1. The header is read again, so that all comes in registers.
+// What follows is one call in stages, each with what the one before it found: they stand apart for the frames that they need (docs/SPEED.md), and
+// `passed` says that the record need not be asked. Begins a table in place p, where the held sections give way whose bits are 1. The header is read again, so that all comes in registers.
 #[inline(never)]
 fn begin(words: &mut [u16], store: &mut [u8], payload: &[u8], p: usize, going: u16)
     requires { read_of payload.now ≡ Ok (header_of payload.now) }

@@ -47,7 +47,7 @@ pub fn put_held(words: &mut [u16], p: usize, n: usize, size: u16)
     put_length(words, p, n, size);
 }
 
-// The head and the mask of place p.
+// The head and the mask of place p, each number by itself, as `row_in` of the definitions has them.
 fn put_row(words: &mut [u16], p: usize, a: u16, b: u16, c: u16, d: u16, mask: u16)
     requires { (length words.old ≡ count) × (p < places) }
     ensures { words.new ≡ row_in words.old p a b c d mask }

@@ -26,7 +26,7 @@ fn size_at(length: usize, k: usize) -> u16
     }
 }
 
-// What a section of so many bytes takes in the file, with its length.
+// What a section of so many bytes takes in the file, with its length, which has one group or two: `shelf_save` tells three, and has no bound on a length.
 fn entry_size(size: u16) -> usize
     requires { size ≤ 1024 }
     ensures { result ≡ entry_size size }

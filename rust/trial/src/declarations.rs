@@ -151,22 +151,31 @@ pub fn inline_in_header(text: &str) -> Vec<Inline> {
     found
 }
 
-/// The constants of a file of Rattle that are plain numbers, by name.
-pub fn numbers_in_rattle(text: &str) -> Vec<(String, u64)> {
+/// The variants of an enum of a file of Rattle that have a number, by the name that a constant has: `KeyHeld` is KEY_HELD.
+pub fn variants_in_rattle(text: &str, name: &str) -> Vec<(String, u64)> {
     let text = without_comments(text);
-    let constants = text.lines().filter_map(|line| {
-        let line = line.trim();
-        line.strip_prefix("pub ")
-            .unwrap_or(line)
-            .strip_prefix("const ")
-    });
-    let parts = constants.filter_map(|line| {
-        let (name, rest) = line.split_once(':')?;
-        let (_, value) = rest.split_once('=')?;
-        let value = value.trim().trim_end_matches(';').replace('_', "");
-        Some((name.trim().to_string(), value.parse().ok()?))
+    let inside = text.lines().map(str::trim);
+    let inside = inside.skip_while(|line| *line != format!("pub enum {name} {{"));
+    let parts = inside.take_while(|line| *line != "}").filter_map(|line| {
+        let (variant, number) = line.trim_end_matches(',').split_once(" = ")?;
+        Some((as_constant(variant), number.parse().ok()?))
     });
     parts.collect()
+}
+
+/// A variant's name as a constant's: a word begins at each capital, and a number after a small letter is one.
+fn as_constant(variant: &str) -> String {
+    let mut name = String::new();
+    let mut before = ' ';
+    for letter in variant.chars() {
+        let begins = letter.is_uppercase() || (letter.is_ascii_digit() && before.is_lowercase());
+        if begins && !name.is_empty() {
+            name.push('_');
+        }
+        name.extend(letter.to_uppercase());
+        before = letter;
+    }
+    name
 }
 
 fn without_comments(text: &str) -> String {
@@ -316,7 +325,7 @@ mod tests {
     const RUST: &str =
         "// fn no();\nextern \"C\" {\n    pub fn f(a: *const u8, a_length: usize, b: *mut u32, \
         b_length: usize, c: *mut u16, d: u8) -> u16;\n    pub fn g();\n}\n";
-    const RATTLE: &str = "// fn\npub const WIDTH: usize = 16;\n#[unsafe(no_mangle)]\npub extern \"C\" fn f(a: &[u8], b: &mut [u32], \
+    const RATTLE: &str = "// fn\n#[unsafe(no_mangle)]\npub extern \"C\" fn f(a: &[u8], b: &mut [u32], \
         c: &mut [u16; 4], d: u8) -> u16\n    ensures { result ≡ 0 }\n{\n    0\n}\n#[unsafe(no_mangle)]\npub extern \"C\" fn g() {\n}\n";
 
     #[test]
@@ -327,7 +336,14 @@ mod tests {
         assert_eq!(header, in_rust(RUST));
         assert_eq!(header, in_rattle(RATTLE));
         assert_eq!(numbers_in_header(HEADER), [("WIDTH".to_string(), 16)]);
-        assert_eq!(numbers_in_header(HEADER), numbers_in_rattle(RATTLE));
+    }
+
+    #[test]
+    fn variants_are_constants() {
+        let source = "pub enum Other {\n    A = 3,\n}\n\npub enum E {\n    // One.\n    LastAbove15 = 7,\n    WriterKAboveLast = 42,\n}\n";
+        let found = [("LAST_ABOVE_15".to_string(), 7), ("WRITER_K_ABOVE_LAST".to_string(), 42)];
+        assert_eq!(variants_in_rattle(source, "E"), found);
+        assert!(variants_in_rattle(source, "F").is_empty());
     }
 
     #[test]

@@ -5,7 +5,7 @@ use std::fs;
 use std::path::{Path, PathBuf};
 use trial::declarations::{
     enumerations_in_header, in_header, in_rattle, in_rust, inline_in_header, numbers_in_header,
-    numbers_in_rattle, Function,
+    variants_in_rattle, Function,
 };
 use trial::top;
 
@@ -155,27 +155,6 @@ fn exports_promise_what_they_pass_on() {
     println!("{count} exports");
 }
 
-/// The boundary's crate and all that it reaches. A crate beside them may have a name of theirs for a number of its own.
-fn reached() -> Vec<String> {
-    let list = text(top("crates.txt"));
-    let calls: BTreeMap<&str, &str> = list
-        .lines()
-        .filter_map(|line| line.split_once(':'))
-        .collect();
-    let mut found = vec!["khumsafil".to_string()];
-    let mut next = 0;
-    while next < found.len() {
-        let line = calls.get(found[next].as_str()).copied().unwrap_or("");
-        for name in line.split_whitespace() {
-            if top("crates").join(name).is_dir() && !found.iter().any(|known| known == name) {
-                found.push(name.to_string());
-            }
-        }
-        next += 1;
-    }
-    found
-}
-
 /// The constants of an enumeration of khumsafil.h.
 fn constants(name: &str) -> Vec<(String, u64)> {
     let found = enumerations_in_header(&text(top("include/khumsafil.h")));
@@ -183,23 +162,10 @@ fn constants(name: &str) -> Vec<(String, u64)> {
     found.next().unwrap_or_else(|| panic!("{name}")).1
 }
 
-/// Each number of refusal has one name and one number, in the header, the wrapper and the Rattle source. There it
-/// stands by that name, or in a crate whose name's first word it begins with.
+/// Each number of refusal has one name and one number, in the header, the wrapper and the Rattle source.
 #[test]
 fn refusals_agree() {
-    let mut rattle: BTreeMap<String, Vec<u64>> = BTreeMap::new();
-    for name in reached() {
-        let folder = top("crates").join(&name);
-        let word = name.split('_').next().expect("a first word");
-        let layer = word.trim_end_matches('s').to_uppercase();
-        for file in files(&folder, ".rt") {
-            for (name, number) in numbers_in_rattle(&text(&file)) {
-                let longer = format!("{layer}_{name}");
-                rattle.entry(name).or_default().push(number);
-                rattle.entry(longer).or_default().push(number);
-            }
-        }
-    }
+    let rattle = variants_in_rattle(&text(top("crates/refusal/src/lib.rt")), "Refusal");
     let ours = khumsafil::Refusal::ALL.iter();
     let ours: Vec<_> = ours
         .map(|(name, refusal)| (name.to_string(), u64::from(refusal.number())))
@@ -211,13 +177,7 @@ fn refusals_agree() {
         *name = name.replacen("KHUMSAFIL_REFUSED_", "", 1);
     }
     assert_eq!(header, ours, "the header and the wrapper");
-    for (name, number) in &ours {
-        let there = rattle.get(name).map_or(&[][..], |numbers| numbers);
-        assert!(
-            !there.is_empty() && there.iter().all(|n| n == number),
-            "{name} in the Rattle source: {there:?}"
-        );
-    }
+    assert_eq!(rattle, ours, "the Rattle source and the wrapper");
     println!(
         "{} numbers of refusal, alike in C, Rust and Rattle",
         ours.len()

@@ -5,4 +5,4 @@ use Rattle.programme_lines.proofs.refused_at.Goals as goal
 
 pub returns : goal.returns
 unfolding refused_at
-returns c = then (rw c.from.ensures at c.field-told.ensures) (rw (c.from-3.ensures, c.from-2.ensures) at c.pair_line.ensures)
+returns c = then (rw c.from.ensures at c.field-told.ensures) (rw c.from-2.ensures at c.pair_line.ensures)

@@ -25,10 +25,10 @@ loop-k-preserved c =
     goes_on c.loop-k.invariant (search rules) i (i.nameat + i.named - i.nameat) (sym here) size c.item_text-end.ensures (search rules)
 
 pub returns-in-Err-clause-wrote : goal.returns-in-Err-clause-wrote
-returns-in-Err-clause-wrote c = (ends-refused c.loop-k.invariant (search rules) _ (sym c.in-Err.ensures) c.refused_at-told.ensures).0
+returns-in-Err-clause-wrote c = (ends-refused c.loop-k.invariant (search rules) _ (sym c.in-Err.ensures) (rw c.from.ensures at c.refused_at-told.ensures)).0
 
 pub returns-in-Err-clause-whole_value : goal.returns-in-Err-clause-whole_value
-returns-in-Err-clause-whole_value c = (ends-refused c.loop-k.invariant (search rules) _ (sym c.in-Err.ensures) c.refused_at-told.ensures).1
+returns-in-Err-clause-whole_value c = (ends-refused c.loop-k.invariant (search rules) _ (sym c.in-Err.ensures) (rw c.from.ensures at c.refused_at-told.ensures)).1
 
 pub returns-in-Ok-None-clause-wrote : goal.returns-in-Ok-None-clause-wrote
 returns-in-Ok-None-clause-wrote c =
