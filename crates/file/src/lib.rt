@@ -74,7 +74,7 @@ fn section_at(file: &[u8], at: usize) -> Result<Part, Refusal>
 fn same_table(a: Header, b: Header) -> bool
     ensures { result ≡ same_table a b }
 {
-    a.key == b.key && a.version == b.version && a.last == b.last
+    key::same(a.key, b.key) && a.version == b.version && a.last == b.last
 }
 
 // The first fault of the sections from a place on, or the table that they are, where nothing stands after them. The loop is left by

@@ -36,7 +36,8 @@ pub fn from(table: u8, extension: u16, service: u16, start: u32) -> Key
     }
 }
 
-// Whether two keys are one.
+// Whether two keys are one. This is the derived `==` under a name that has a promise: files and the shelf compare keys by it, so that what they run is held to
+// `same_key` here.
 pub fn same(a: Key, b: Key) -> bool
     ensures { result ≡ same_key a b }
 {

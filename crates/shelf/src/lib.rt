@@ -154,7 +154,7 @@ pub fn place_of(words: &[u16], key: Key) -> usize
     ensures { (result ≡ place_among words.now key) × (result ≤ places) }
 {
     let said = key::from(key.table, key.extension, key.service, key.start);
-    if said != key {
+    if !key::same(said, key) {
         return PLACES;
     }
     place_of_said(words, key)

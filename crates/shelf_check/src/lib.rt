@@ -235,7 +235,7 @@ fn one_key(words: &[u16; WORDS], p: usize, q: usize) -> bool
     if shelf::key_number(words, p) != shelf::key_number(words, q) {
         return false;
     }
-    shelf::key_in(words, p) == shelf::key_in(words, q)
+    key::same(shelf::key_in(words, p), shelf::key_in(words, q))
 }
 
 // Whether tables with one key are in two places, pair by pair.

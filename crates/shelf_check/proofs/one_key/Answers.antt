@@ -17,5 +17,5 @@ pub returns : goal.returns
 returns c = keys-alike _ _ _ (c.key_number.ensures ∙ among-key _ _ (search rules) (search rules)) (c.key_number-2.ensures ∙ among-key _ _ (search rules) (search rules)) c.if-words-p-ne1.false
     (omega (arith, c.fits-words (64 + 4 * c.args.p)))
     (omega (arith, c.fits-words (64 + 4 * c.args.q)))
-    c.if-key_number.false c.eq.ensures
+    c.if-key_number.false c.same.ensures
     (c.key_in.ensures ∙ found-key _ _ (search rules) (search rules)) (c.key_in-2.ensures ∙ found-key _ _ (search rules) (search rules))
