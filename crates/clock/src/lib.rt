@@ -155,7 +155,7 @@ impl Clock {
     pub fn time_now(&self) -> Result<u32, Refusal>
         ensures { result ≡ time_in (book_of self.now) }
     {
-        self.sound()?;
+        self.sound()?; // a spoiled record tells no time
         Ok(self.words[NOW])
     }
 
