@@ -29,11 +29,11 @@ ended file seen (Ok at) = if ltb at (length file) then Err BadFile else accepted
 ended file seen (Err r) = Err r
 
 module _ (file : List ℕ) (seen : Seen) (at : ℕ) where
-  pub past : at < length file → ended file seen (Ok at) ≡ Err BadFile
-  past l = rw (lt-ltb at (length file) l)
+  pub past : ltb at (length file) ≡ true → ended file seen (Ok at) ≡ Err BadFile
+  past l = rw l
 
-  pub within : length file ≤ at → ended file seen (Ok at) ≡ accepted seen
-  within l = rw (le-ltb at (length file) l)
+  pub within : ltb at (length file) ≡ false → ended file seen (Ok at) ≡ accepted seen
+  within l = rw l
 
 module _ (file : List ℕ) (seen : Seen) (left : ℕ) where
   pub none : left ≡ 0 → sections_of left file seen ≡ ended file seen (Ok seen.next)

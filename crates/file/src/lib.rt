@@ -2,7 +2,7 @@
 // sections lies. Nothing is copied, and the first fault from the left is the answer.
 #![tactic(auto)]
 
-ghost use Rattle.std.specs.Prelude.{◌≡◌};
+ghost use Rattle.std.specs.Prelude.{◌≡◌, ltb, length};
 ghost use Rattle.file_number.specs.Number.{number_at};
 ghost use Rattle.file.specs.Layout.{same_table};
 ghost use Rattle.file.specs.Scan.{nothing as nothingAt, section_at, sections_of, count_of, scan_of};
@@ -77,6 +77,15 @@ fn same_table(a: Header, b: Header) -> bool
     key::same(a.key, b.key) && a.version == b.version && a.last == b.last
 }
 
+// Whether bytes are left over at a place. It stands apart: what a call has to keep is kept out of the registers, and the scan has none to spare
+// (docs/SPEED.md).
+#[inline(never)]
+fn is_left_over(file: &[u8], at: usize) -> bool
+    ensures { result ≡ ltb at (length file.now) }
+{
+    at < file.len()
+}
+
 // The first fault of the sections from a place on, or the table that they are, where nothing stands after them. The loop is left by
 // `break` with the refusal or the end's place, the form that document 01 names for it.
 fn scan_sections(file: &[u8], count: usize, from: usize) -> Result<Table, Refusal>
@@ -114,7 +123,7 @@ fn scan_sections(file: &[u8], count: usize, from: usize) -> Result<Table, Refusa
         left -= 1;
     };
     let at = end?;
-    if at < file.len() {
+    if is_left_over(file, at) {
         return Err(Refusal::BadFile);
     }
     match first {

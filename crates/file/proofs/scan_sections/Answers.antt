@@ -89,8 +89,8 @@ returns-in_err-at c =
     let q : Err c.in_err-at.field-0.0 ≡ c.if-left-eq0.end = search rules in
     handed_on c.from_residual.result c.from_residual.ensures.1 ∙ (ap (ended file seen) q ∙ all)
 
-pub returns-then-at-file : goal.returns-then-at-file
-returns-then-at-file c =
+pub returns-then-is_left_over : goal.returns-then-is_left_over
+returns-then-is_left_over c =
     let file = c.args.file.now in
     let seen = seen_as c.loop-left.first c.loop-left.lowest c.loop-left.next c.loop-left.starts c.loop-left.lengths in
     let whole = sections_of c.args.count file (nothing c.args.from) in
@@ -101,7 +101,7 @@ returns-then-at-file c =
       | else-left-eq0+in-Ok+else-not-same_table+then-header-lowest w ↦ at_fallen file seen c.loop-left.left c.if-left-eq0.end whole c.loop-left.invariant.2 w.if-left-eq0.false w.end-is w.in-Ok.part (sym w.section_at.ensures ∙ w.in-Ok.is) (told_same _ _ _ _ true w.unwrap_or-shared.ensures w.same_table.ensures w.if-not-same_table.false) w.if-header-lowest.true
     ] in
     let q : Ok c.in_ok-at.at ≡ c.if-left-eq0.end = search rules in
-    sym (past file seen _ c.if-at-file.true) ∙ (ap (ended file seen) q ∙ all)
+    sym (past file seen _ (sym c.is_left_over.ensures ∙ c.if-is_left_over.true)) ∙ (ap (ended file seen) q ∙ all)
 
 pub returns-in-Some : goal.returns-in-Some
 returns-in-Some c =
@@ -115,7 +115,7 @@ returns-in-Some c =
       | else-left-eq0+in-Ok+else-not-same_table+then-header-lowest w ↦ at_fallen file seen c.loop-left.left c.if-left-eq0.end whole c.loop-left.invariant.2 w.if-left-eq0.false w.end-is w.in-Ok.part (sym w.section_at.ensures ∙ w.in-Ok.is) (told_same _ _ _ _ true w.unwrap_or-shared.ensures w.same_table.ensures w.if-not-same_table.false) w.if-header-lowest.true
     ] in
     let q : Ok c.in_ok-at.at ≡ c.if-left-eq0.end = search rules in
-    ap (table_of c.loop-left.starts c.loop-left.lengths) (sym c.in-Some.is) ∙ (sym (within file seen _ c.if-at-file.false) ∙ (ap (ended file seen) q ∙ all))
+    ap (table_of c.loop-left.starts c.loop-left.lengths) (sym c.in-Some.is) ∙ (sym (within file seen _ (sym c.is_left_over.ensures ∙ c.if-is_left_over.false)) ∙ (ap (ended file seen) q ∙ all))
 
 pub returns-in-None : goal.returns-in-None
 returns-in-None c =
@@ -129,4 +129,4 @@ returns-in-None c =
       | else-left-eq0+in-Ok+else-not-same_table+then-header-lowest w ↦ at_fallen file seen c.loop-left.left c.if-left-eq0.end whole c.loop-left.invariant.2 w.if-left-eq0.false w.end-is w.in-Ok.part (sym w.section_at.ensures ∙ w.in-Ok.is) (told_same _ _ _ _ true w.unwrap_or-shared.ensures w.same_table.ensures w.if-not-same_table.false) w.if-header-lowest.true
     ] in
     let q : Ok c.in_ok-at.at ≡ c.if-left-eq0.end = search rules in
-    ap (table_of c.loop-left.starts c.loop-left.lengths) (sym c.in-None.is) ∙ (sym (within file seen _ c.if-at-file.false) ∙ (ap (ended file seen) q ∙ all))
+    ap (table_of c.loop-left.starts c.loop-left.lengths) (sym c.in-None.is) ∙ (sym (within file seen _ (sym c.is_left_over.ensures ∙ c.if-is_left_over.false)) ∙ (ap (ended file seen) q ∙ all))
